@@ -1,0 +1,14 @@
+-- `tables::sin_coarse` meets its contract: the constant's entries are the definition's.
+-- Assumes nothing.
+use mathlib.Core.Path.{sym}
+use Rattle.tables.specs.Values.{sinCoarseList}
+use Rattle.tables.specs.Tables.{sinCoarse-is}
+use Rattle.tables.proofs.sin_coarse.Statement.{statement}
+use Rattle.tables.proofs.sin_coarse.Tie as tie
+
+returns : tie.Need-returns
+unfolding sinCoarseList
+returns c = sym sinCoarse-is
+
+pub sin-coarse-spec : {M : Type 1} → statement M
+sin-coarse-spec = tie.close (tie.spec returns)
