@@ -1,0 +1,192 @@
+// The two Tausworthe streams of L'Ecuyer (1996): seeding, single draws, and the two numbers of a pair.
+// A generator record goes in by value and comes back as it then is, beside the call's number: 0 accepted, 1 refused.
+ghost use mathlib.Core.Path.{_≡_};
+ghost use Rattle.streams.specs.Streams.{
+  advance,
+  output,
+  fit,
+  accepted,
+  seedOf,
+  drawA,
+  drawB,
+  uniformsOf,
+};
+
+pub struct Stream {
+    pub s0: u32,
+    pub s1: u32,
+    pub s2: u32,
+}
+
+pub struct Generator {
+    pub a: Stream,
+    pub b: Stream,
+}
+
+pub struct Seeded {
+    pub number: u32,
+    pub next: Generator,
+}
+
+pub struct Drawn {
+    pub number: u32,
+    pub draw: u32,
+    pub next: Generator,
+}
+
+pub struct Uniforms {
+    pub number: u32,
+    pub k: u64,
+    pub v: u32,
+    pub next: Generator,
+}
+
+impl Stream {
+    // Every register one step on.
+    fn advanced(self) -> Stream
+        ensures { λ r. ⌜ r ≡ advance self ⌝ }
+    {
+        let s0 = self.s0;
+        let s1 = self.s1;
+        let s2 = self.s2;
+        Stream {
+            s0: ((s0 & 0xffff_fffe) << 12) ^ (((s0 << 13) ^ s0) >> 19),
+            s1: ((s1 & 0xffff_fff8) << 4) ^ (((s1 << 2) ^ s1) >> 25),
+            s2: ((s2 & 0xffff_fff0) << 17) ^ (((s2 << 3) ^ s2) >> 11),
+        }
+    }
+
+    // The exclusive-or of the registers.
+    fn word(self) -> u32
+        ensures { λ r. ⌜ r ≡ output self ⌝ }
+    {
+        self.s0 ^ self.s1 ^ self.s2
+    }
+
+    // Whether every register has its minimum.
+    fn is_fit(self) -> bool
+        ensures { λ r. ⌜ r ≡ fit self ⌝ }
+    {
+        let s0 = self.s0;
+        let s1 = self.s1;
+        let s2 = self.s2;
+        if s0 < 2 {
+            return false;
+        }
+        if s1 < 8 {
+            return false;
+        }
+        16 <= s2
+    }
+}
+
+impl Generator {
+    fn is_accepted(self) -> bool
+        ensures { λ r. ⌜ r ≡ accepted self ⌝ }
+    {
+        let a = self.a;
+        let b = self.b;
+        if a.is_fit() {
+            return b.is_fit();
+        }
+        false
+    }
+
+    // A record from six numbers.
+    pub fn seed(a0: u32, a1: u32, a2: u32, b0: u32, b1: u32, b2: u32) -> Seeded
+        ensures { λ r. ⌜ r ≡ seedOf a0 a1 a2 b0 b1 b2 ⌝ }
+    {
+        let a = Stream {
+            s0: a0,
+            s1: a1,
+            s2: a2,
+        };
+        let b = Stream {
+            s0: b0,
+            s1: b1,
+            s2: b2,
+        };
+        let g = Generator { a, b };
+        if g.is_accepted() {
+            return Seeded { number: 0, next: g };
+        }
+        let none = Stream {
+            s0: 0,
+            s1: 0,
+            s2: 0,
+        };
+        let zeros = Generator { a: none, b: none };
+        Seeded {
+            number: 1,
+            next: zeros,
+        }
+    }
+
+    // A draw from stream a, which alone moves.
+    pub fn draw_a(self) -> Drawn
+        ensures { λ r. ⌜ r ≡ drawA self ⌝ }
+    {
+        if self.is_accepted() {
+            let a = self.a.advanced();
+            let b = self.b;
+            let next = Generator { a, b };
+            return Drawn {
+                number: 0,
+                draw: a.word(),
+                next,
+            };
+        }
+        Drawn {
+            number: 1,
+            draw: 0,
+            next: self,
+        }
+    }
+
+    // A draw from stream b, which alone moves.
+    pub fn draw_b(self) -> Drawn
+        ensures { λ r. ⌜ r ≡ drawB self ⌝ }
+    {
+        if self.is_accepted() {
+            let a = self.a;
+            let b = self.b.advanced();
+            let next = Generator { a, b };
+            return Drawn {
+                number: 0,
+                draw: b.word(),
+                next,
+            };
+        }
+        Drawn {
+            number: 1,
+            draw: 0,
+            next: self,
+        }
+    }
+
+    // The two numbers of a pair: a draw from a, then one from b, as 48 and 16 bits.
+    pub fn uniforms(self) -> Uniforms
+        ensures { λ r. ⌜ r ≡ uniformsOf self ⌝ }
+    {
+        if self.is_accepted() {
+            let a = self.a.advanced();
+            let b = self.b.advanced();
+            let next = Generator { a, b };
+            let high = a.word() as u64;
+            let low = b.word();
+            let k = high * 65536 + (low / 65536) as u64;
+            return Uniforms {
+                number: 0,
+                k,
+                v: low % 65536,
+                next,
+            };
+        }
+        Uniforms {
+            number: 1,
+            k: 0,
+            v: 0,
+            next: self,
+        }
+    }
+}
