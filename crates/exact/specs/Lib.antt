@@ -1,0 +1,5 @@
+pub mod Fraction
+pub mod Series
+pub mod Radius
+pub mod Rotation
+pub mod Pair

@@ -1,0 +1,89 @@
+-- Rotations at n fraction bits, every root rounded outward. Document 01, 'What "exact" means'.
+-- Assumes nothing.
+use Prim.Native.Nat.{ℕ, zero, suc, _+_, _-_, _*_, _/_, _%_, _^_, min}
+use mathlib.Core.Bool.{Bool, true, false}
+use lib.Dec.{leb}
+
+-- the whole part of the square root of m, digit by digit to the base 4; `fuel` bounds the number of digits
+abbrev pub nextDigit : ℕ → Bool → ℕ
+nextDigit y true = 2 * y + 1
+nextDigit y false = 2 * y
+
+unfoldable pub rootDigits : ℕ → ℕ → ℕ
+rootDigits zero m = 0
+rootDigits (suc fuel) zero = 0
+rootDigits (suc fuel) (suc m) =
+    let y : ℕ = rootDigits fuel (suc m / 4) in
+    nextDigit y (leb ((2 * y + 1) * (2 * y + 1)) (suc m))
+
+-- the root of m / 2, rounded down: the greatest y with 2 y² ≤ m
+unfoldable pub rootDown : ℕ → ℕ
+rootDown m = rootDigits m (m / 2)
+
+-- the root of m / 2, rounded up: the least y with m ≤ 2 y²
+unfoldable pub rootUp : ℕ → ℕ
+rootUp zero = 0
+rootUp (suc m) = suc (rootDown m)
+
+-- x over y, rounded up
+abbrev pub quotientUp : ℕ → ℕ → ℕ
+quotientUp x y = (x + (y - 1)) / y
+
+-- the ends of an enclosure of a rotation's cosine and sine, in units of 2 ^ -n
+pub record Rotation : Type 0 where
+  pub cosLow : ℕ
+  pub cosHigh : ℕ
+  pub sinLow : ℕ
+  pub sinHigh : ℕ
+
+-- no turn: cosine 1, sine 0
+abbrev pub none : ℕ → Rotation
+none n = record { cosLow = 2 ^ n; cosHigh = 2 ^ n; sinLow = 0; sinHigh = 0 }
+
+-- "The cosine of a quarter turn is 0"
+abbrev pub quarter : ℕ → Rotation
+quarter n = record { cosLow = 0; cosHigh = 0; sinLow = 2 ^ n; sinHigh = 2 ^ n }
+
+-- "half an angle has cosine root((1 + cosine)/2) and sine root((1 - cosine)/2), both non-negative"
+unfoldable pub half : ℕ → Rotation → Rotation
+half n r = record {
+  cosLow = rootDown ((2 ^ n + r .cosLow) * 2 ^ n);
+  cosHigh = rootUp ((2 ^ n + r .cosHigh) * 2 ^ n);
+  sinLow = rootDown ((2 ^ n - r .cosHigh) * 2 ^ n);
+  sinHigh = rootUp ((2 ^ n - r .cosLow) * 2 ^ n);
+}
+
+-- "the addition formulas"; an end beyond 0 or 1 is cut there
+unfoldable pub compose : ℕ → Rotation → Rotation → Rotation
+compose n r t = record {
+  cosLow = (r .cosLow * t .cosLow - r .sinHigh * t .sinHigh) / 2 ^ n;
+  cosHigh = min (2 ^ n) (quotientUp (r .cosHigh * t .cosHigh - r .sinLow * t .sinLow) (2 ^ n));
+  sinLow = (r .sinLow * t .cosLow + r .cosLow * t .sinLow) / 2 ^ n;
+  sinHigh = min (2 ^ n) (quotientUp (r .sinHigh * t .cosHigh + r .cosHigh * t .sinHigh) (2 ^ n));
+}
+
+-- a quarter turn halved j times
+unfoldable pub halving : ℕ → ℕ → Rotation
+halving n zero = quarter n
+halving n (suc j) = half n (halving n j)
+
+-- a bit of the angle: no turn where it is 0
+unfoldable pub bitRotation : ℕ → ℕ → ℕ → Rotation
+bitRotation n j zero = none n
+bitRotation n j (suc b) = halving n j
+
+-- the composition of `count` bits x, whose highest turns by a quarter halved j + 1 times
+unfoldable pub bitsRotation : ℕ → ℕ → ℕ → ℕ → Rotation
+bitsRotation n j zero x = none n
+bitsRotation n j (suc count) x = compose n (bitsRotation n j count (x / 2)) (bitRotation n (j + suc count) (x % 2))
+
+-- "a = floor(w / 128), b = w mod 128": a turns by a/512, b by b/65536 of a turn
+abbrev pub coarse : ℕ → ℕ → Rotation
+coarse n a = bitsRotation n 0 7 a
+
+abbrev pub fine : ℕ → ℕ → Rotation
+fine n b = bitsRotation n 7 7 b
+
+-- "The exact rotation for w composes the half-angle rotations of its 14 bits by the addition formulas"
+unfoldable pub rotation : ℕ → ℕ → Rotation
+rotation n w = compose n (coarse n (w / 128)) (fine n (w % 128))
