@@ -1,0 +1,144 @@
+-- Laws of the steps: the ranges that document 01 states, over the numerator m and the width b, and the root's law.
+-- Assumes nothing.
+use mathlib.Core.Path.{_≡_, refl, sym, ap, _∙_, subst}
+use mathlib.Core.Bool.{Bool, true, false}
+use Prim.Native.Nat.{ℕ, zero, suc, _+_, _-_, _*_, _/_, _%_, _^_, _≤_, _<_, zero-le}
+use native.Mathlib.Nat.{le-refl, sub-zero, le-of-suc-le-suc, le-antisymm, mul-le-mul, le-trans, lt-of-lt-of-le, lt-of-le-of-lt, lt-of-not-le, not-le-of-lt, mul-le-mul-right, mul-lt-mul-of-pos-right, mod-lt, div-add-mod', div-lt-iff-lt-mul, le-div-iff-mul-le, pow-suc, mod-eq-sub-div-mul, zero-lt-suc}
+use native.Mathlib.Numerals.{add-one, add-one-le}
+use native.Mathlib.Omega.{arith}
+use lib.Count.{leadingZeros, leading-top}
+use lib.Dec.{leb}
+use lib.Pow.{pow-pos, pow-mono, pow-lt, pow-add}
+use borrow.Author.Tests.{leb-true, leb-false}
+use Rattle.sample.specs.Steps.{pick, topBit, mantissa, coarse, rest, fine, remainder, correction, rootDigit, rootDigits, wholeRoot}
+
+-- ---- e, for a number of at most 64 bits: 2^e ≤ m < 2^(e+1)
+
+pub top-bit : (m : ℕ) → 0 < m → m < 2 ^ 64 → (2 ^ topBit m ≤ m) × (m < 2 ^ (topBit m + 1))
+unfolding topBit
+top-bit m p h =
+    let (j, e, low, high) = leading-top 64 m p h in
+    let at : 63 - leadingZeros 64 m ≡ j = omega arith in
+    rw (at, add-one) (low, high)
+
+-- the other way round: no other number is the top bit
+pub top-bit-below : (b m : ℕ) → 0 < m → m < 2 ^ 64 → m < 2 ^ b → topBit m < b
+top-bit-below b m p h k =
+    lt-of-not-le λ (g : b ≤ topBit m). not-le-of-lt k (le-trans (pow-mono g) (top-bit m p h .0))
+
+-- ---- the steps of a number m of at most b bits, b from 25 to 64
+
+-- the powers of 2 in the steps, as multiples of 2^(b-25)
+module _ (b : ℕ) (wide : 25 ≤ b) where
+  power : (j : ℕ) → j ≤ 25 → 2 ^ (b - j) ≡ 2 ^ (25 - j) * 2 ^ (b - 25)
+  power j h =
+      let e : b - j ≡ 25 - j + (b - 25) = omega arith in
+      rw e (pow-add 2 (25 - j) (b - 25))
+
+module _ (b m : ℕ) (wide : 25 ≤ b) (narrow : b ≤ 64) (above : 0 < m) (below : m < 2 ^ b) where
+  fits : m < 2 ^ 64
+  fits = lt-of-lt-of-le below (pow-mono narrow)
+
+  pub top-below : topBit m < b
+  top-below = top-bit-below b m above fits below
+
+  -- 2^(b-1) ≤ M < 2^b
+  pub mantissa-range : (2 ^ (b - 1) ≤ mantissa b m) × (mantissa b m < 2 ^ b)
+  unfolding mantissa
+  mantissa-range =
+      let t = top-bit m above fits in
+      let g = top-below in
+      let s = b - 1 - topBit m in
+      let low : topBit m + s ≡ b - 1 = omega arith in
+      let high : topBit m + 1 + s ≡ b = omega arith in (
+        subst (λ (n : ℕ). 2 ^ n ≤ m * 2 ^ s) low
+            (rw pow-add (mul-le-mul-right (2 ^ s) (t .0))),
+        subst (λ (n : ℕ). m * 2 ^ s < 2 ^ n) high
+            (rw (pow-add 2 (topBit m + 1) s) (mul-lt-mul-of-pos-right (t .1) (pow-pos s))),
+      )
+
+  -- M = h × 2^(b-9) + d, with d < 2^(b-9)
+  pub mantissa-split : (mantissa b m ≡ coarse b m * 2 ^ (b - 9) + rest b m) × (rest b m < 2 ^ (b - 9))
+  unfolding coarse rest
+  mantissa-split = (sym (div-add-mod' (mantissa b m) (2 ^ (b - 9))), mod-lt (mantissa b m) (pow-pos (b - 9)))
+
+  -- 256 ≤ h < 512
+  pub coarse-range : (256 ≤ coarse b m) × (coarse b m < 512)
+  unfolding coarse
+  coarse-range =
+      let r = mantissa-range in
+      let p1 = power b wide 1 (omega arith) in
+      let p0 : 2 ^ b ≡ 2 ^ 25 * 2 ^ (b - 25) = rw sub-zero at (power b wide 0 (omega arith)) in
+      let p9 = power b wide 9 (omega arith) in (
+        le-div-iff-mul-le (pow-pos (b - 9)) .1 (omega (arith, r .0, p1, p9)),
+        div-lt-iff-lt-mul (pow-pos (b - 9)) .1 (omega (arith, r .1, p0, p9)),
+      )
+
+  divisor-pos : 0 < coarse b m * 2 ^ (b - 25)
+  divisor-pos =
+      let h = mul-le-mul-right (2 ^ (b - 25)) (coarse-range .0) in
+      let p = pow-pos (b - 25) in
+      omega (arith, h, p)
+
+  -- i ≤ 255
+  pub fine-range : fine b m < 256
+  unfolding fine
+  fine-range =
+      let h = mul-le-mul-right (2 ^ (b - 25)) (coarse-range .0) in
+      let p9 = power b wide 9 (omega arith) in
+      div-lt-iff-lt-mul divisor-pos .1 (omega (arith, mantissa-split .1, h, p9))
+
+  -- d = i × (h × 2^(b-25)) + r, with r < h × 2^(b-25)
+  pub rest-split : (rest b m ≡ fine b m * (coarse b m * 2 ^ (b - 25)) + remainder b m) × (remainder b m < coarse b m * 2 ^ (b - 25))
+  unfolding fine remainder
+  rest-split =
+      let n = coarse b m * 2 ^ (b - 25) in
+      let e = mod-eq-sub-div-mul (rest b m) n in (
+        subst (λ (x : ℕ). rest b m ≡ rest b m / n * n + x) e (sym (div-add-mod' (rest b m) n)),
+        subst (λ (x : ℕ). x < n) e (mod-lt (rest b m) divisor-pos),
+      )
+
+  -- S < 2^24, where b is at most 65
+  pub correction-range : correction b m < 2 ^ 24
+  unfolding correction
+  correction-range =
+      let h = coarse-range .0 in
+      let below-r = mul-lt-mul-of-pos-right (rest-split .1) (pow-pos (65 - b)) in
+      let w : b - 25 + (65 - b) ≡ 40 = omega arith in
+      let p : 2 ^ (b - 25) * 2 ^ (65 - b) ≡ 2 ^ 40 = sym (pow-add 2 (b - 25) (65 - b)) ∙ ap (λ (n : ℕ). 2 ^ n) w in
+      let q = ap (λ (t : ℕ). coarse b m * t) p in
+      div-lt-iff-lt-mul {k = coarse b m * (65536 + fine b m)} {x = remainder b m * 2 ^ (65 - b)} {y = 2 ^ 24} (omega (arith, h)) .1
+      (omega (arith, below-r, q))
+
+-- ---- the root
+
+-- one digit more: from a root of x / 4 to a root of x
+digit : (x r : ℕ) → r * r ≤ x / 4 → x / 4 < (r + 1) * (r + 1) →
+    (rootDigit x r * rootDigit x r ≤ x) × (x < (rootDigit x r + 1) * (rootDigit x r + 1))
+digit x r low high = go (leb ((2 * r + 1) * (2 * r + 1)) x) refl
+  where
+    go : (t : Bool) → leb ((2 * r + 1) * (2 * r + 1)) x ≡ t →
+        (pick t (2 * r + 1) (2 * r) * pick t (2 * r + 1) (2 * r) ≤ x) × (x < (pick t (2 * r + 1) (2 * r) + 1) * (pick t (2 * r + 1) (2 * r) + 1))
+    go true e = (leb-true ((2 * r + 1) * (2 * r + 1)) x e, omega (arith, high))
+    go false e = (omega (arith, low), omega (arith, leb-false ((2 * r + 1) * (2 * r + 1)) x e))
+
+root-digits : (n x : ℕ) → x ≤ n → (rootDigits n x * rootDigits n x ≤ x) × (x < (rootDigits n x + 1) * (rootDigits n x + 1))
+unfolding rootDigits
+root-digits zero x h = (zero-le, omega arith)
+root-digits (suc n) zero h = (zero-le, omega arith)
+root-digits (suc n) (suc x) h =
+    let s = root-digits n (suc x / 4) (omega arith) in digit (suc x) (rootDigits n (suc x / 4)) (s .0) (s .1)
+
+-- F² ≤ x < (F + 1)²
+pub whole-root : (x : ℕ) → (wholeRoot x * wholeRoot x ≤ x) × (x < (wholeRoot x + 1) * (wholeRoot x + 1))
+unfolding wholeRoot
+whole-root x = root-digits x x (le-refl x)
+
+-- and no other number has that law
+pub whole-root-unique : (x r : ℕ) → r * r ≤ x → x < (r + 1) * (r + 1) → r ≡ wholeRoot x
+whole-root-unique x r low high =
+    let w = whole-root x in le-antisymm (root-below r (wholeRoot x) low (w .1)) (root-below (wholeRoot x) r (w .0) high)
+  where
+    root-below : (p q : ℕ) → p * p ≤ x → x < (q + 1) * (q + 1) → p ≤ q
+    root-below p q lp hq =
+        le-of-suc-le-suc (lt-of-not-le λ (g : suc q ≤ p). not-le-of-lt hq (le-trans (mul-le-mul (add-one-le g) (add-one-le g)) lp))

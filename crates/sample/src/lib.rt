@@ -1,0 +1,1 @@
+// Two samples from k and v.
