@@ -1,3 +1,5 @@
--- The whole-number steps from k and v to two samples, and their laws.
+-- The whole-number steps from k and v to two samples, their laws, and what the calls return.
 pub mod Steps
 pub mod StepLaws
+pub mod Sample
+pub mod Readings

@@ -10,7 +10,8 @@ use lib.Count.{leadingZeros, leading-top}
 use lib.Dec.{leb}
 use lib.Pow.{pow-pos, pow-mono, pow-lt, pow-add}
 use borrow.Author.Tests.{leb-true, leb-false}
-use Rattle.sample.specs.Steps.{pick, topBit, mantissa, coarse, rest, fine, remainder, correction, rootDigit, rootDigits, wholeRoot}
+use Rattle.exact.specs.Rotation.{nextDigit, rootDigits}
+use Rattle.sample.specs.Steps.{topBit, mantissa, coarse, rest, fine, remainder, correction, wholeRoot}
 
 -- ---- e, for a number of at most 64 bits: 2^e ≤ m < 2^(e+1)
 
@@ -113,21 +114,17 @@ module _ (b m : ℕ) (wide : 25 ≤ b) (narrow : b ≤ 64) (above : 0 < m) (belo
 -- ---- the root
 
 -- one digit more: from a root of x / 4 to a root of x
-digit : (x r : ℕ) → r * r ≤ x / 4 → x / 4 < (r + 1) * (r + 1) →
-    (rootDigit x r * rootDigit x r ≤ x) × (x < (rootDigit x r + 1) * (rootDigit x r + 1))
-digit x r low high = go (leb ((2 * r + 1) * (2 * r + 1)) x) refl
-  where
-    go : (t : Bool) → leb ((2 * r + 1) * (2 * r + 1)) x ≡ t →
-        (pick t (2 * r + 1) (2 * r) * pick t (2 * r + 1) (2 * r) ≤ x) × (x < (pick t (2 * r + 1) (2 * r) + 1) * (pick t (2 * r + 1) (2 * r) + 1))
-    go true e = (leb-true ((2 * r + 1) * (2 * r + 1)) x e, omega (arith, high))
-    go false e = (omega (arith, low), omega (arith, leb-false ((2 * r + 1) * (2 * r + 1)) x e))
+digit : (x r : ℕ) → r * r ≤ x / 4 → x / 4 < (r + 1) * (r + 1) → (t : Bool) → leb ((2 * r + 1) * (2 * r + 1)) x ≡ t →
+    (nextDigit r t * nextDigit r t ≤ x) × (x < (nextDigit r t + 1) * (nextDigit r t + 1))
+digit x r low high true e = (leb-true ((2 * r + 1) * (2 * r + 1)) x e, omega (arith, high))
+digit x r low high false e = (omega (arith, low), omega (arith, leb-false ((2 * r + 1) * (2 * r + 1)) x e))
 
 root-digits : (n x : ℕ) → x ≤ n → (rootDigits n x * rootDigits n x ≤ x) × (x < (rootDigits n x + 1) * (rootDigits n x + 1))
 unfolding rootDigits
 root-digits zero x h = (zero-le, omega arith)
 root-digits (suc n) zero h = (zero-le, omega arith)
 root-digits (suc n) (suc x) h =
-    let s = root-digits n (suc x / 4) (omega arith) in digit (suc x) (rootDigits n (suc x / 4)) (s .0) (s .1)
+    let s = root-digits n (suc x / 4) (omega arith) in digit (suc x) (rootDigits n (suc x / 4)) (s .0) (s .1) _ refl
 
 -- F² ≤ x < (F + 1)²
 pub whole-root : (x : ℕ) → (wholeRoot x * wholeRoot x ≤ x) × (x < (wholeRoot x + 1) * (wholeRoot x + 1))

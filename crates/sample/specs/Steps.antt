@@ -3,10 +3,11 @@
 -- A, B, C, D, c, s are any tables, each a function of the document's own index, and K is any number.
 -- Assumes nothing.
 use mathlib.Core.Bool.{Bool, true, false}
-use Prim.Native.Nat.{ℕ, zero, suc, _+_, _-_, _*_, _/_, _%_, _^_}
-use lib.Dec.{leb}
+use Prim.Native.Nat.{ℕ, _+_, _-_, _*_, _/_, _%_, _^_, max}
 use lib.Count.{leadingZeros}
 use lib.IntN.{ℤ, pos, negsuc, negℤ, natAbs}
+use Rattle.exact.specs.Rotation.{rootDigits}
+use Rattle.exact.specs.Pair.{turn}
 
 abbrev pub pick : {A : Type 0} → Bool → A → A → A
 pick true a b = a
@@ -16,8 +17,7 @@ pick false a b = b
 
 -- k = 0 is read as 1 (document 01, 'The two streams')
 abbrev pub numerator : ℕ → ℕ
-numerator zero = 1
-numerator (suc k) = suc k
+numerator k = max 1 k
 
 -- 1. e, the position of the highest set bit of m, from its leading zeros
 unfoldable pub topBit : ℕ → ℕ
@@ -51,15 +51,7 @@ correction b m = remainder b m * 2 ^ (65 - b) / (coarse b m * (65536 + fine b m)
 unfoldable pub logarithm : (A B : ℕ → ℕ) (K b m : ℕ) → ℕ
 logarithm A B K b m = (b - topBit m) * K - A (coarse b m) - B (fine b m) - correction b m
 
--- The whole part of the square root of x, a binary digit for each base-4 digit of x, of which there are at most n. Its law is `whole-root`.
-abbrev pub rootDigit : ℕ → ℕ → ℕ
-rootDigit x r = pick (leb ((2 * r + 1) * (2 * r + 1)) x) (2 * r + 1) (2 * r)
-
-unfoldable pub rootDigits : ℕ → ℕ → ℕ
-rootDigits zero x = zero
-rootDigits (suc n) zero = zero
-rootDigits (suc n) (suc x) = rootDigit (suc x) (rootDigits n (suc x / 4))
-
+-- The whole part of the square root of x. Its law is `whole-root`.
 unfoldable pub wholeRoot : ℕ → ℕ
 wholeRoot x = rootDigits x x
 
@@ -93,16 +85,9 @@ cosine C D c s w = (C (coarseAngle w) * c (fineAngle w) - D (coarseAngle w) * s 
 unfoldable pub sine : (C D c s : ℕ → ℕ) (w : ℕ) → ℕ
 sine C D c s w = (D (coarseAngle w) * c (fineAngle w) + C (coarseAngle w) * s (fineAngle w)) / 2 ^ 30
 
--- The pair's (sine, cosine) for q = 0, 1, 2, 3: (sin, cos), (cos, -sin), (-sin, -cos), (-cos, sin).
-unfoldable pub turned : {A : Type 0} → (A → A) → ℕ → A → A → A × A
-turned neg zero sin cos = (sin, cos)
-turned neg (suc zero) sin cos = (cos, neg sin)
-turned neg (suc (suc zero)) sin cos = (neg sin, neg cos)
-turned neg (suc (suc (suc q))) sin cos = (neg cos, sin)
-
--- The pair for v, as signed numbers.
+-- The pair's (sine, cosine) for v, as signed numbers, turned by its quarters q = 0, 1, 2, 3: (sin, cos), (cos, -sin), (-sin, -cos), (-cos, sin).
 unfoldable pub rotation : (C D c s : ℕ → ℕ) (v : ℕ) → ℤ × ℤ
-rotation C D c s v = turned negℤ (quarter v) (pos (sine C D c s (within v))) (pos (cosine C D c s (within v)))
+rotation C D c s v = turn negℤ (quarter v) (pos (sine C D c s (within v)), pos (cosine C D c s (within v)))
 
 -- A sample's size: floor((F × |G| + 2^(49-f)) / 2^(50-f)).
 unfoldable pub size : (f F G : ℕ) → ℕ

@@ -1,0 +1,42 @@
+-- Readings 1 to 10 of document 01, 'Twelve readings to check': (k, v) to samples. (11 and 12 are of the streams.)
+-- Assumes nothing.
+use mathlib.Core.Path.{_≡_, refl}
+use mathlib.Core.List.{List, [], _∷_, map}
+use Prim.Native.Nat.{ℕ, _-_, _^_}
+use lib.IntN.{ℤ, pos, negℤ}
+use lib.Count.{leadingZeros}
+use Rattle.exact.specs.Rotation.{rootDigits}
+use Rattle.sample.specs.declared.Samples.{Samples}
+use Rattle.sample.specs.Steps.{topBit, mantissa, coarse, rest, fine, remainder, correction, logarithm, wholeRoot, radius, cosine, sine, rotation, size}
+use Rattle.sample.specs.Sample.{radiusOf, rotationOf, firstOf, secondOf, samplesOf}
+use Rattle.tables.specs.Tables.{entryOf, logCoarse-is, logFine-is, cosCoarse-is, sinCoarse-is, cosFine-is, sinFine-is, lnTwo-is}
+use Rattle.tables.specs.Values.{logCoarseList, logFineList, cosCoarseList, sinCoarseList, cosFineList, sinFineList, lnTwoValue}
+
+pub record Reading : Type 0 where
+  pub k : ℕ
+  pub v : ℕ
+  pub first : ℤ
+  pub second : ℤ
+
+abbrev reading : ℕ → ℕ → ℤ → ℤ → Reading
+reading k v a b = record { k = k; v = v; first = a; second = b }
+
+abbrev pub readings : List Reading
+readings =
+    reading 1 0 (pos 0) (pos 16706)
+    ∷ reading 1 16384 (pos 16706) (pos 0)
+    ∷ reading 1 32768 (pos 0) (negℤ (pos 16706))
+    ∷ reading 1 49152 (negℤ (pos 16706)) (pos 0)
+    ∷ reading 0 0 (pos 0) (pos 16706)
+    ∷ reading (2 ^ 47) 0 (pos 0) (pos 2411)
+    ∷ reading (2 ^ 47) 8192 (pos 1705) (pos 1705)
+    ∷ reading (2 ^ 46) 0 (pos 0) (pos 3410)
+    ∷ reading (2 ^ 40) 24576 (pos 4823) (negℤ (pos 4823))
+    ∷ reading (2 ^ 48 - 1) 0 (pos 0) (pos 0)
+    ∷ []
+
+-- each is accepted and gives its two samples
+pub readings-hold : map (λ (r : Reading). samplesOf (r .k) (r .v)) readings
+    ≡ map (λ (r : Reading). record { number = 0; first = r .first; second = r .second }) readings
+unfolding topBit mantissa coarse rest fine remainder correction logarithm wholeRoot radius cosine sine rotation size radiusOf rotationOf firstOf secondOf samplesOf entryOf leadingZeros rootDigits logCoarseList logFineList cosCoarseList sinCoarseList cosFineList sinFineList lnTwoValue
+readings-hold = rw (logCoarse-is, logFine-is, cosCoarse-is, sinCoarse-is, cosFine-is, sinFine-is, lnTwo-is) refl
