@@ -2,4 +2,5 @@ pub mod Fraction
 pub mod Series
 pub mod Radius
 pub mod Rotation
+pub mod RootLaws
 pub mod Pair
