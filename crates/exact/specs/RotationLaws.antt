@@ -1,0 +1,129 @@
+-- Laws of the rotations of Rotation.antt: every enclosure is non-empty and of a length at most 1, finer ones lie inside coarser ones,
+-- and they become as narrow as one likes. Assumes nothing.
+use mathlib.Core.Path.{_≡_, refl}
+use Prim.Native.Nat.{ℕ, zero, suc, _+_, _-_, _*_, _/_, _%_, _^_, _≤_, _<_, min}
+use native.Mathlib.Nat.{mul-pos, mul-le-mul, mul-le-mul-left, mul-le-mul-right, mul-div-le, div-mul-le-self, lt-div-mul-add, div-lt-iff-lt-mul, le-div-iff-mul-le, le-of-mul-le-mul-left, le-dest, le-trans}
+use native.Mathlib.Decide.{decLe}
+use native.Mathlib.Omega.{arith}
+use lib.Pow.{pow-pos, pow-add}
+use Rattle.exact.specs.Rotation.{Rotation, rootDown, rootUp, quotientUp, none, quarter, half, compose, halving, bitRotation, bitsRotation, rotation}
+use Rattle.exact.specs.RootLaws.{lt-of-square-lt, root-down-at-most, root-up-least, root-down-le-root-up}
+
+-- a quotient rounded up is the least k with x ≤ k y
+pub quotient-up-at-least : (x y : ℕ) → zero < y → x ≤ quotientUp x y * y
+quotient-up-at-least x y p = omega (arith, lt-div-mul-add {a = x + (y - 1)} p)
+
+pub quotient-up-least : (x y k : ℕ) → zero < y → x ≤ k * y → quotientUp x y ≤ k
+quotient-up-least x y k p h =
+    let l : (x + (y - 1)) / y < k + 1 = div-lt-iff-lt-mul p .1 (omega arith) in
+    omega arith
+
+-- low ends are at most high ends, all ends at most 1, and the low ends' squares sum to at most 1
+pub record Good (n : ℕ) (r : Rotation) : Type 0 where
+  pub cosine : r .cosLow ≤ r .cosHigh
+  pub sine : r .sinLow ≤ r .sinHigh
+  pub cosineMost : r .cosHigh ≤ 2 ^ n
+  pub sineMost : r .sinHigh ≤ 2 ^ n
+  pub unit : r .cosLow * r .cosLow + r .sinLow * r .sinLow ≤ 2 ^ n * 2 ^ n
+
+good-none : (n : ℕ) → Good n (none n)
+good-none n = omega arith
+
+good-quarter : (n : ℕ) → Good n (quarter n)
+good-quarter n = omega arith
+
+pub good-half : (n : ℕ) {r : Rotation} → Good n r → Good n (half n r)
+unfolding half
+good-half n {r} g = record {
+  cosine = root-down-le-root-up (omega (arith, mul-le-mul-right (2 ^ n) (g .cosine)));
+  sine = root-down-le-root-up (mul-le-mul-right (2 ^ n) (omega arith));
+  cosineMost = root-up-least ((2 ^ n + r .cosHigh) * 2 ^ n) (2 ^ n) (omega (arith, mul-le-mul-right (2 ^ n) (g .cosineMost)));
+  sineMost = root-up-least ((2 ^ n - r .cosLow) * 2 ^ n) (2 ^ n) (le-trans (mul-le-mul-right {n = 2 ^ n} (2 ^ n) (omega arith)) (omega arith));
+  unit =
+      let a = root-down-at-most ((2 ^ n + r .cosLow) * 2 ^ n) in
+      let b = root-down-at-most ((2 ^ n - r .cosHigh) * 2 ^ n) in
+      let l : 2 ^ n - r .cosHigh + r .cosLow ≤ 2 ^ n = omega arith in
+      omega (arith, mul-le-mul-right (2 ^ n) l);
+}
+
+square-of-difference : (p q k : ℕ) → q + k ≡ p → k * k + 2 * (p * q) ≡ p * p + q * q
+square-of-difference p q k e = rw (← e) (omega arith)
+
+-- (c c' - s s')² + (s c' + c s')² = (c² + s²) (c'² + s'²), at low ends and with the first difference made smaller
+unit-product : (N c s c' s' u : ℕ) → c * c + s * s ≤ N * N → c' * c' + s' * s' ≤ N * N → u ≤ c * c' - s * s' →
+    u * u + (s * c' + c * s') * (s * c' + c * s') ≤ N * N * (N * N)
+unit-product N c s c' s' u g h l = go (decLe (s * s') (c * c'))
+  where
+    go : Dec (s * s' ≤ c * c') → u * u + (s * c' + c * s') * (s * c' + c * s') ≤ N * N * (N * N)
+    go (yes b) =
+        let (k, e) = le-dest b in
+        let m : u ≤ k = omega arith in
+        omega (arith, square-of-difference (c * c') (s * s') k e, mul-le-mul m m, mul-le-mul g h)
+    go (no b) =
+        let (k, e) = le-dest (let b' : c * c' ≤ s * s' = omega arith in b') in
+        let m : u ≤ 0 = omega arith in
+        omega (arith, square-of-difference (s * s') (c * c') k e, mul-le-mul m m, mul-le-mul g h)
+
+floor-le-ceiling : (N a b : ℕ) → zero < N → a ≤ b → a ≤ N * N → a / N ≤ min N (quotientUp b N)
+floor-le-ceiling N a b p h l = omega (arith, x, y)
+  where
+    x : a / N ≤ N
+    x = le-of-mul-le-mul-left (omega (arith, mul-div-le a N)) p
+
+    y : a / N ≤ quotientUp b N
+    y = le-of-mul-le-mul-left (omega (arith, mul-div-le a N, quotient-up-at-least b N p)) p
+
+pub good-compose : (n : ℕ) {r t : Rotation} → Good n r → Good n t → Good n (compose n r t)
+unfolding compose
+good-compose n {r} {t} g h =
+    let N : ℕ = 2 ^ n in
+    let a : ℕ = r .cosLow * t .cosLow - r .sinHigh * t .sinHigh in
+    let v : ℕ = r .sinLow * t .cosLow + r .cosLow * t .sinLow in
+    let cc = mul-le-mul (g .cosine) (h .cosine) in
+    let ss = mul-le-mul (g .sine) (h .sine) in
+    let u : a * a + v * v ≤ N * N * (N * N) =
+    unit-product N (r .cosLow) (r .sinLow) (t .cosLow) (t .sinLow) a (g .unit) (h .unit) (omega (arith, ss)) in
+    let v≤1 : v < N * N + 1 = lt-of-square-lt v (N * N + 1) (omega (arith, u)) in
+    let a≤1 : a < N * N + 1 = lt-of-square-lt a (N * N + 1) (omega (arith, u)) in
+    let fa = mul-div-le a N in
+    let fv = mul-div-le v N in
+    record {
+      cosine = floor-le-ceiling N a (r .cosHigh * t .cosHigh - r .sinLow * t .sinLow) (pow-pos n) (omega (arith, cc, ss)) (omega (arith, a≤1));
+      sine = floor-le-ceiling N v (r .sinHigh * t .cosHigh + r .cosHigh * t .sinHigh) (pow-pos n) (omega (arith, mul-le-mul (g .sine) (h .cosine), mul-le-mul (g .cosine) (h .sine))) (omega (arith, v≤1));
+      cosineMost = omega arith;
+      sineMost = omega arith;
+      unit = le-of-mul-le-mul-left {k = N * N} (omega (arith, u, mul-le-mul fa fa, mul-le-mul fv fv)) (mul-pos (pow-pos n) (pow-pos n));
+    }
+
+pub good-halving : (n j : ℕ) → Good n (halving n j)
+unfolding halving
+good-halving n zero = good-quarter n
+good-halving n (suc j) = good-half n (good-halving n j)
+
+good-bit : (n j b : ℕ) → Good n (bitRotation n j b)
+unfolding bitRotation
+good-bit n j zero = good-none n
+good-bit n j (suc b) = good-halving n j
+
+pub good-bits : (n j count x : ℕ) → Good n (bitsRotation n j count x)
+unfolding bitsRotation
+good-bits n j zero x = good-none n
+good-bits n j (suc count) x = good-compose n (good-bits n j count (x / 2)) (good-bit n (j + suc count) (x % 2))
+
+-- every enclosure of every rotation is good
+pub rotation-good : (n w : ℕ) → Good n (rotation n w)
+unfolding rotation
+rotation-good n w = good-compose n (good-bits n 0 7 (w / 128)) (good-bits n 7 7 (w % 128))
+
+-- the ends of `inner` at n + d bits lie within those of `outer` at n bits
+pub record Inside (d : ℕ) (outer inner : Rotation) : Type 0 where
+  pub cosLow : 2 ^ d * outer .cosLow ≤ inner .cosLow
+  pub cosHigh : inner .cosHigh ≤ 2 ^ d * outer .cosHigh
+  pub sinLow : 2 ^ d * outer .sinLow ≤ inner .sinLow
+  pub sinHigh : inner .sinHigh ≤ 2 ^ d * outer .sinHigh
+
+inside-none : (n d : ℕ) → Inside d (none n) (none (n + d))
+inside-none n d = rw (pow-add 2 n d) (omega arith)
+
+inside-quarter : (n d : ℕ) → Inside d (quarter n) (quarter (n + d))
+inside-quarter n d = rw (pow-add 2 n d) (omega arith)
