@@ -2,12 +2,13 @@
 -- and they become as narrow as one likes. Assumes nothing.
 use mathlib.Core.Path.{_≡_, refl}
 use Prim.Native.Nat.{ℕ, zero, suc, _+_, _-_, _*_, _/_, _%_, _^_, _≤_, _<_, min}
-use native.Mathlib.Nat.{mul-pos, mul-le-mul, mul-le-mul-left, mul-le-mul-right, mul-div-le, div-mul-le-self, lt-div-mul-add, div-lt-iff-lt-mul, le-div-iff-mul-le, le-of-mul-le-mul-left, le-dest, le-trans}
+use native.Mathlib.Nat.{add-comm, mul-pos, mul-sub, min-eq-left, min-eq-right, mul-le-mul, mul-le-mul-left, mul-le-mul-right, mul-div-le, div-mul-le-self, lt-div-mul-add, div-lt-iff-lt-mul, le-div-iff-mul-le, le-of-mul-le-mul-left, le-dest, le-trans}
 use native.Mathlib.Decide.{decLe}
 use native.Mathlib.Omega.{arith}
 use lib.Pow.{pow-pos, pow-add}
+use Rattle.exact.specs.Fraction.{dyadic, _≤ᶠ_}
 use Rattle.exact.specs.Rotation.{Rotation, rootDown, rootUp, quotientUp, none, quarter, half, compose, halving, bitRotation, bitsRotation, rotation}
-use Rattle.exact.specs.RootLaws.{lt-of-square-lt, root-down-at-most, root-up-least, root-down-le-root-up}
+use Rattle.exact.specs.RootLaws.{lt-of-square-lt, root-down-at-most, root-up-least, root-down-le-root-up, root-down-scaled, root-up-scaled}
 
 -- a quotient rounded up is the least k with x ≤ k y
 pub quotient-up-at-least : (x y : ℕ) → zero < y → x ≤ quotientUp x y * y
@@ -127,3 +128,77 @@ inside-none n d = rw (pow-add 2 n d) (omega arith)
 
 inside-quarter : (n d : ℕ) → Inside d (quarter n) (quarter (n + d))
 inside-quarter n d = rw (pow-add 2 n d) (omega arith)
+
+-- a root at N D of D times as much is at least, or at most, D times the root at N
+root-down-inside : (N D x y : ℕ) → D * x ≤ y → D * rootDown (x * N) ≤ rootDown (y * (N * D))
+root-down-inside N D x y h = root-down-scaled D (x * N) (omega (arith, mul-le-mul-right (N * D) h))
+
+root-up-inside : (N D x y : ℕ) → y ≤ D * x → rootUp (y * (N * D)) ≤ D * rootUp (x * N)
+root-up-inside N D x y h = root-up-scaled D (x * N) (omega (arith, mul-le-mul-right (N * D) h))
+
+pub inside-half : (n d : ℕ) {r t : Rotation} → Inside d r t → Inside d (half n r) (half (n + d) t)
+unfolding half
+inside-half n d {r} {t} i = rw (pow-add 2 n d) record {
+  cosLow = root-down-inside (2 ^ n) (2 ^ d) (2 ^ n + r .cosLow) (2 ^ n * 2 ^ d + t .cosLow) (omega arith);
+  cosHigh = root-up-inside (2 ^ n) (2 ^ d) (2 ^ n + r .cosHigh) (2 ^ n * 2 ^ d + t .cosHigh) (omega arith);
+  sinLow = root-down-inside (2 ^ n) (2 ^ d) (2 ^ n - r .cosHigh) (2 ^ n * 2 ^ d - t .cosHigh) (rw mul-sub (omega arith));
+  sinHigh = root-up-inside (2 ^ n) (2 ^ d) (2 ^ n - r .cosLow) (2 ^ n * 2 ^ d - t .cosLow) (rw mul-sub (omega arith));
+}
+
+-- the same for a quotient by N D, and for one cut at 1
+floor-inside : (N D a b : ℕ) → zero < N → zero < D → D * D * a ≤ b → D * (a / N) ≤ b / (N * D)
+floor-inside N D a b p q h = le-div-iff-mul-le (mul-pos p q) .1 (omega (arith, mul-le-mul-left (D * D) (mul-div-le a N)))
+
+scaled-min : (D x y z : ℕ) → z ≤ D * x → z ≤ D * y → z ≤ D * min x y
+scaled-min D x y z h k = go (decLe x y)
+  where
+    go : Dec (x ≤ y) → z ≤ D * min x y
+    go (yes l) = rw (min-eq-left l) h
+    go (no l) = rw (min-eq-right (let m : y ≤ x = omega arith in m)) k
+
+ceiling-inside : (N D a b : ℕ) → zero < N → zero < D → b ≤ D * D * a → min (N * D) (quotientUp b (N * D)) ≤ D * min N (quotientUp a N)
+ceiling-inside N D a b p q h =
+    let least : quotientUp b (N * D) ≤ D * quotientUp a N =
+    quotient-up-least b (N * D) (D * quotientUp a N) (mul-pos p q) (omega (arith, mul-le-mul-left (D * D) (quotient-up-at-least a N p))) in
+    scaled-min D N (quotientUp a N) (min (N * D) (quotientUp b (N * D))) (omega arith) (omega (arith, least))
+
+pub inside-compose : (n d : ℕ) {r t r' t' : Rotation} → Inside d r r' → Inside d t t' → Inside d (compose n r t) (compose (n + d) r' t')
+unfolding compose
+inside-compose n d {r} {t} {r'} {t'} i j = rw (pow-add 2 n d) record {
+  cosLow = floor-inside (2 ^ n) (2 ^ d) _ _ (pow-pos n) (pow-pos d) (rw mul-sub (omega (arith, mul-le-mul (i .cosLow) (j .cosLow), mul-le-mul (i .sinHigh) (j .sinHigh))));
+  cosHigh = ceiling-inside (2 ^ n) (2 ^ d) _ _ (pow-pos n) (pow-pos d) (rw mul-sub (omega (arith, mul-le-mul (i .cosHigh) (j .cosHigh), mul-le-mul (i .sinLow) (j .sinLow))));
+  sinLow = floor-inside (2 ^ n) (2 ^ d) _ _ (pow-pos n) (pow-pos d) (omega (arith, mul-le-mul (i .sinLow) (j .cosLow), mul-le-mul (i .cosLow) (j .sinLow)));
+  sinHigh = ceiling-inside (2 ^ n) (2 ^ d) _ _ (pow-pos n) (pow-pos d) (omega (arith, mul-le-mul (i .sinHigh) (j .cosHigh), mul-le-mul (i .cosHigh) (j .sinHigh)));
+}
+
+inside-halving : (n d j : ℕ) → Inside d (halving n j) (halving (n + d) j)
+unfolding halving
+inside-halving n d zero = inside-quarter n d
+inside-halving n d (suc j) = inside-half n d (inside-halving n d j)
+
+inside-bit : (n d j b : ℕ) → Inside d (bitRotation n j b) (bitRotation (n + d) j b)
+unfolding bitRotation
+inside-bit n d j zero = inside-none n d
+inside-bit n d j (suc b) = inside-halving n d j
+
+inside-bits : (n d j count x : ℕ) → Inside d (bitsRotation n j count x) (bitsRotation (n + d) j count x)
+unfolding bitsRotation
+inside-bits n d j zero x = inside-none n d
+inside-bits n d j (suc count) x = inside-compose n d (inside-bits n d j count (x / 2)) (inside-bit n d (j + suc count) (x % 2))
+
+-- enclosures at m ≥ n bits lie inside those at n bits
+pub rotation-nested : (n d w : ℕ) → Inside d (rotation n w) (rotation (n + d) w)
+unfolding rotation
+rotation-nested n d w = inside-compose n d (inside-bits n d 0 7 (w / 128)) (inside-bits n d 7 7 (w % 128))
+
+-- any two enclosures of one rotation overlap: each low end is at most each high end, as fractions
+pub record Overlap (n m : ℕ) (r t : Rotation) : Type 0 where
+  pub cosine : dyadic n (r .cosLow) ≤ᶠ dyadic m (t .cosHigh)
+  pub sine : dyadic n (r .sinLow) ≤ᶠ dyadic m (t .sinHigh)
+
+-- both enclosures hold the one at n + m bits
+pub rotations-overlap : (n m w : ℕ) → Overlap n m (rotation n w) (rotation m w)
+rotations-overlap n m w =
+    let a : Inside m (rotation n w) (rotation (n + m) w) = rotation-nested n m w in
+    let b : Inside n (rotation m w) (rotation (n + m) w) = rw (add-comm n m) (rotation-nested m n w) in
+    omega (arith, a, b, rotation-good (n + m) w)
