@@ -1,5 +1,8 @@
 pub mod Fraction
+pub mod FractionLaws
 pub mod Series
+pub mod SeriesLaws
+pub mod LogarithmLaws
 pub mod Radius
 pub mod Rotation
 pub mod RootLaws
