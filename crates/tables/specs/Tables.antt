@@ -85,3 +85,11 @@ sinFine-is = refl
 pub lnTwo-is : lnTwo ≡ lnTwoValue
 unfolding lnTwo
 lnTwo-is = refl
+
+-- How many entries each table has.
+pub lengths :
+    (length logCoarse ≡ 256) × (length logFine ≡ 256) ×
+    (length cosCoarse ≡ 128) × (length sinCoarse ≡ 128) × (length cosFine ≡ 128) × (length sinFine ≡ 128)
+unfolding logCoarseList logFineList cosCoarseList sinCoarseList cosFineList sinFineList
+lengths =
+    rw (logCoarse-is, logFine-is, cosCoarse-is, sinCoarse-is, cosFine-is, sinFine-is) (refl, refl, refl, refl, refl, refl)
