@@ -1,0 +1,1 @@
+// Jobs and their listings (document 01, "A job and its listing").
