@@ -7,4 +7,5 @@ pub mod Radius
 pub mod Rotation
 pub mod RootLaws
 pub mod RotationLaws
+pub mod RotationWidth
 pub mod Pair

@@ -101,7 +101,7 @@ unfolding halving
 good-halving n zero = good-quarter n
 good-halving n (suc j) = good-half n (good-halving n j)
 
-good-bit : (n j b : ℕ) → Good n (bitRotation n j b)
+pub good-bit : (n j b : ℕ) → Good n (bitRotation n j b)
 unfolding bitRotation
 good-bit n j zero = good-none n
 good-bit n j (suc b) = good-halving n j
