@@ -1,0 +1,3 @@
+mod Bits
+pub mod Register
+pub mod Theorems
