@@ -9,3 +9,4 @@ pub mod RootLaws
 pub mod RotationLaws
 pub mod RotationWidth
 pub mod Pair
+pub mod MemberLaws
