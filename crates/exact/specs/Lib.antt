@@ -2,6 +2,7 @@ pub mod Fraction
 pub mod FractionLaws
 pub mod Series
 pub mod SeriesLaws
+pub mod SeriesSums
 pub mod LogarithmLaws
 pub mod Radius
 pub mod Rotation
