@@ -63,13 +63,13 @@ rotationBy-is n j (suc count) x = ap₂ (compose n) (rotationBy-is n j count (x 
 
 near : ℕ → ℕ → ℕ → ℕ → ℕ → Bool
 near f n low high x =
-    both (ltb (2 * x * 2 ^ n) (2 ^ suc f * low + 2 ^ n)) (ltb (2 ^ suc f * high) (2 * x * 2 ^ n + 2 ^ n))
+    both (ltb (2 * (x * 2 ^ n)) (2 * (2 ^ f * low) + 2 ^ n)) (ltb (2 * (2 ^ f * high)) (2 * (x * 2 ^ n) + 2 ^ n))
 
 near-is : (f n low high x : ℕ) → T (near f n low high x) → NearestIn f n low high x
 unfolding near
 near-is f n low high x t = record {
-  below = ltb→lt _ _ (both-left (ltb (2 * x * 2 ^ n) (2 ^ suc f * low + 2 ^ n)) _ t);
-  above = ltb→lt _ _ (both-right (ltb (2 * x * 2 ^ n) (2 ^ suc f * low + 2 ^ n)) _ t);
+  below = ltb→lt _ _ (both-left (ltb (2 * (x * 2 ^ n)) (2 * (2 ^ f * low) + 2 ^ n)) _ t);
+  above = ltb→lt _ _ (both-right (ltb (2 * (x * 2 ^ n)) (2 * (2 ^ f * low) + 2 ^ n)) _ t);
 }
 
 -- the test of an entry against the ends of its cosine or its sine

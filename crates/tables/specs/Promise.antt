@@ -2,10 +2,13 @@
 -- it and nothing else of an entry.
 -- Assumes nothing.
 use mathlib.Core.Path.{_≡_}
+use mathlib.Core.Bool.{false}
 use Prim.Native.Nat.{ℕ, suc, _+_, _*_, _-_, _^_, _≤_, _<_}
-use Rattle.exact.specs.Fraction.{Fraction, whole, dyadic}
+use lib.IntN.{pos}
+use Rattle.exact.specs.Fraction.{Fraction, whole, halved, dyadic}
 use Rattle.exact.specs.Series.{AtMostLn, AtLeastLn}
 use Rattle.exact.specs.Rotation.{Rotation, coarse, fine, bitsRotation}
+use Rattle.exact.specs.Pair.{CloseTo}
 use Rattle.tables.specs.Tables.{entryOf, logCoarse, logFine, cosCoarse, sinCoarse, cosFine, sinFine, lnTwo}
 
 -- "the nearest whole number to its logarithm times 2^40", for any f in place of 40: (2x - 1) / 2^(f + 1) is at most ln z, and (2x + 1) / 2^(f + 1)
@@ -17,14 +20,20 @@ pub record NearestLn (f : ℕ) (z : Fraction) (x : ℕ) : Type 0 where
 -- "nearest at 2^30", for any f in place of 30: the two ends of an enclosure at n fraction bits, and so all of its points, are less than half a unit
 -- of 2^-f from x.
 pub record NearestIn (f n low high x : ℕ) : Type 0 where
-  pub below : 2 * x * 2 ^ n < 2 ^ suc f * low + 2 ^ n
-  pub above : 2 ^ suc f * high < 2 * x * 2 ^ n + 2 ^ n
+  pub below : 2 * (x * 2 ^ n) < 2 * (2 ^ f * low) + 2 ^ n
+  pub above : 2 * (2 ^ f * high) < 2 * (x * 2 ^ n) + 2 ^ n
 
 abbrev pub NearestCos : ℕ → ℕ → Rotation → ℕ → Type 0
 NearestCos f n r x = NearestIn f n (r .cosLow) (r .cosHigh) x
 
 abbrev pub NearestSin : ℕ → ℕ → Rotation → ℕ → Type 0
 NearestSin f n r x = NearestIn f n (r .sinLow) (r .sinHigh) x
+
+-- "every point": the ends speak for all fractions between them
+abbrev pub Points : Type 0
+Points =
+    (f n low high x : ℕ) → NearestIn f n low high x →
+    CloseTo (halved (whole 1)) f (pos x) (record { negative = false; low = dyadic n low; high = dyadic n high })
 
 -- Each entry is the nearest: of the logarithms at 2^40, and of the rotations at 2^30, in their enclosures at 96 fraction bits.
 pub record Promise : Type 0 where
@@ -57,3 +66,11 @@ pub record ExactEntries : Type 0 where
   pub sin-coarse : entryOf sinCoarse 0 0 ≡ 0
   pub cos-fine : entryOf cosFine 0 0 ≡ 2 ^ 30
   pub sin-fine : entryOf sinFine 0 0 ≡ 0
+
+-- A whole number that meets the same promise, at any scale, is the same number: the logarithms', and the rotations' in whatever enclosures.
+pub record Unique : Type 0 where
+  pub ln : (f : ℕ) (z : Fraction) (x y : ℕ) → NearestLn f z x → NearestLn f z y → x ≡ y
+  pub cos :
+      (f j count i m n x y : ℕ) → NearestCos f m (bitsRotation m j count i) x → NearestCos f n (bitsRotation n j count i) y → x ≡ y
+  pub sin :
+      (f j count i m n x y : ℕ) → NearestSin f m (bitsRotation m j count i) x → NearestSin f n (bitsRotation n j count i) y → x ≡ y

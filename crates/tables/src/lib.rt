@@ -1,6 +1,8 @@
 // The tables of logarithms and rotations (document 01, 'Radius' and 'Angle and sample'). A table is handed out by value, loaded once by its caller
 // and lent to `entry`. What its entries promise is in specs/Promise.antt.
-mod values;
+mod cosines;
+mod logarithms;
+mod sines;
 
 ghost use mathlib.Core.Path.{_≡_};
 ghost use Rattle.tables.specs.Tables.{logCoarse, logFine, cosCoarse, sinCoarse, cosFine, sinFine, lnTwo, entryOf};
@@ -9,49 +11,49 @@ ghost use Rattle.tables.specs.Tables.{logCoarse, logFine, cosCoarse, sin
 pub fn log_coarse() -> [u64; 256]
     ensures { λ r. ⌜ r ≡ logCoarse ⌝ }
 {
-    values::LOG_COARSE
+    logarithms::LOG_COARSE
 }
 
 // B: ln(1 + i/65536), i from 0 to 255, at 2^40.
 pub fn log_fine() -> [u64; 256]
     ensures { λ r. ⌜ r ≡ logFine ⌝ }
 {
-    values::LOG_FINE
+    logarithms::LOG_FINE
 }
 
 // C: the cosine of a/512 of a turn, a from 0 to 127, at 2^30.
 pub fn cos_coarse() -> [u64; 128]
     ensures { λ r. ⌜ r ≡ cosCoarse ⌝ }
 {
-    values::COS_COARSE
+    cosines::COS_COARSE
 }
 
 // D: the sine of a/512 of a turn, a from 0 to 127, at 2^30.
 pub fn sin_coarse() -> [u64; 128]
     ensures { λ r. ⌜ r ≡ sinCoarse ⌝ }
 {
-    values::SIN_COARSE
+    sines::SIN_COARSE
 }
 
 // c: the cosine of b/65536 of a turn, b from 0 to 127, at 2^30.
 pub fn cos_fine() -> [u64; 128]
     ensures { λ r. ⌜ r ≡ cosFine ⌝ }
 {
-    values::COS_FINE
+    cosines::COS_FINE
 }
 
 // s: the sine of b/65536 of a turn, b from 0 to 127, at 2^30.
 pub fn sin_fine() -> [u64; 128]
     ensures { λ r. ⌜ r ≡ sinFine ⌝ }
 {
-    values::SIN_FINE
+    sines::SIN_FINE
 }
 
 // K: ln 2, at 2^40.
 pub fn ln_two() -> u64
     ensures { λ r. ⌜ r ≡ lnTwo ⌝ }
 {
-    values::LN_TWO
+    logarithms::LN_TWO
 }
 
 // The entry at `index` of a table whose first index is `first` (256 for A, 0 for the others), or 0 where the table lacks it.
