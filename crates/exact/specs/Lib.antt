@@ -5,6 +5,7 @@ pub mod SeriesLaws
 pub mod SeriesSums
 pub mod LogarithmLaws
 pub mod Radius
+pub mod RadiusLaws
 pub mod Rotation
 pub mod RootLaws
 pub mod RotationLaws
