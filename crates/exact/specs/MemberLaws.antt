@@ -1,6 +1,6 @@
 -- Laws of the sine and the cosine of the exact rotation for v, turned by quarters with their signs (`members` of Pair.antt).
 -- Assumes nothing.
-use mathlib.Core.Path.{_≡_, refl, ap, ap₂}
+use mathlib.Core.Path.{_≡_, refl, sym, ap, ap₂}
 use mathlib.Core.Bool.{false, not}
 use Prim.Native.Nat.{ℕ, zero, suc, _/_, _%_, _+_, _-_, _*_, _^_, _≤_, _<_, min}
 use native.Mathlib.Nat.{mul-le-mul-right, div-eq-of-eq-mul-left, div-eq-of-lt-le}
@@ -11,6 +11,33 @@ use Rattle.exact.specs.Rotation.{Rotation, quarter, compose, quotientUp,
 use Rattle.exact.specs.RotationLaws.{Good, quotient-up-at-least, quotient-up-least, rotation-good, rotations-overlap}
 use Rattle.exact.specs.RotationWidth.{rotation-narrow}
 use Rattle.exact.specs.Pair.{Enclosure, turn, negate, sineOf, cosineOf, members}
+
+-- Quarter turns follow each other: q + 1 of them are one more after q, and a fourth one gives back the pair.
+pub turn-next : {A : Type 0} (neg : A → A) → ((x : A) → neg (neg x) ≡ x) → (q : ℕ) → q < 3 → (p : A × A) →
+    turn neg (suc q) p ≡ turn neg 1 (turn neg q p)
+turn-next neg i zero l p = refl
+turn-next neg i (suc zero) l p = refl
+turn-next neg i (suc (suc zero)) l p = ap (λ x. (neg (p .1), x)) (sym (i (p .0)))
+turn-next neg i (suc (suc (suc q))) l p = absurd (let f : ⊥ = omega arith in f)
+
+pub turn-fourth : {A : Type 0} (neg : A → A) → ((x : A) → neg (neg x) ≡ x) → (p : A × A) → turn neg 1 (turn neg 3 p) ≡ p
+turn-fourth neg i p = rw (i (p .1))
+
+-- two of them change both signs
+pub turn-half : {A : Type 0} (neg : A → A) (p : A × A) → turn neg 2 p ≡ (neg (p .0), neg (p .1))
+turn-half neg p = refl
+
+-- one of them is what the addition formula gives: the sine of an angle and a quarter is the cosine of the angle
+pub turn-quarter : (n : ℕ) (r : Rotation) → Good n r →
+    sineOf n (compose n r (quarter n)) ≡ turn negate 1 (sineOf n r, cosineOf n r) .0
+unfolding compose
+turn-quarter n r g =
+    let N : ℕ = 2 ^ n in
+    let low : (r .sinLow * 0 + r .cosLow * N) / N ≡ r .cosLow = div-eq-of-eq-mul-left (pow-pos n) (omega arith) in
+    let up : quotientUp (r .sinHigh * 0 + r .cosHigh * N) N ≡ r .cosHigh =
+    div-eq-of-lt-le N (omega arith) (omega (arith, pow-pos n)) in
+    let high : min N (quotientUp (r .sinHigh * 0 + r .cosHigh * N) N) ≡ r .cosHigh = omega (arith, up, g .cosineMost) in
+    ap₂ {A = ℕ} {B = ℕ} (λ x y. record { negative = false; low = dyadic n x; high = dyadic n y }) low high
 
 -- Where a relation of two enclosures is kept when both change sign, it is kept by the quarter turns.
 pub turn-keeps : (R : Enclosure → Enclosure → Type 0) → ((e f : Enclosure) → R e f → R (negate e) (negate f)) →
@@ -60,30 +87,5 @@ pub members-narrow : (ε : Fraction) → whole 0 <ᶠ ε → (start : ℕ) × ((
     (members n v .0 .high <ᶠ members n v .0 .low +ᶠ ε) × (members n v .1 .high <ᶠ members n v .1 .low +ᶠ ε))
 members-narrow ε above =
     let (start, narrow) = rotation-narrow ε above in
-    (start, λ n v big. members-keep (λ e f. e .high <ᶠ e .low +ᶠ ε) (λ e f h. h) n n (λ w. (narrow n w big .sine, narrow n w big .cosine)) v)
-
--- Quarter turns follow each other: q + 1 of them are one more after q, and a fourth one gives back the pair.
-pub turn-next : {A : Type 0} (neg : A → A) → ((x : A) → neg (neg x) ≡ x) → (q : ℕ) → q < 3 → (p : A × A) →
-    turn neg (suc q) p ≡ turn neg 1 (turn neg q p)
-turn-next neg i zero l p = refl
-turn-next neg i (suc zero) l p = refl
-turn-next neg i (suc (suc zero)) l p = rw (i (p .0))
-turn-next neg i (suc (suc (suc q))) l p = absurd (let f : ⊥ = omega arith in f)
-
-pub turn-fourth : {A : Type 0} (neg : A → A) → ((x : A) → neg (neg x) ≡ x) → (p : A × A) → turn neg 1 (turn neg 3 p) ≡ p
-turn-fourth neg i p = rw (i (p .1))
-
--- two of them change both signs
-pub turn-half : {A : Type 0} (neg : A → A) (p : A × A) → turn neg 2 p ≡ (neg (p .0), neg (p .1))
-turn-half neg p = refl
-
--- one of them is what the addition formula gives: the sine of an angle and a quarter is the cosine of the angle
-pub turn-quarter : (n : ℕ) (r : Rotation) → Good n r → sineOf n (compose n r (quarter n)) ≡ turn negate 1 (sineOf n r, cosineOf n r) .0
-unfolding compose
-turn-quarter n r g =
-    let N : ℕ = 2 ^ n in
-    let low : (r .sinLow * 0 + r .cosLow * N) / N ≡ r .cosLow = div-eq-of-eq-mul-left (pow-pos n) (omega arith) in
-    let up : quotientUp (r .sinHigh * 0 + r .cosHigh * N) N ≡ r .cosHigh =
-    div-eq-of-lt-le N (omega arith) (omega (arith, pow-pos n)) in
-    let high : min N (quotientUp (r .sinHigh * 0 + r .cosHigh * N) N) ≡ r .cosHigh = omega (arith, up, g .cosineMost) in
-    ap₂ {A = ℕ} {B = ℕ} (λ x y. record { negative = false; low = dyadic n x; high = dyadic n y }) low high
+    let kept = members-keep (λ e f. e .high <ᶠ e .low +ᶠ ε) (λ e f h. h) in
+    (start, λ n v big. kept n n (λ w. (narrow n w big .sine, narrow n w big .cosine)) v)

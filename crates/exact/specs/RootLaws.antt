@@ -1,4 +1,4 @@
--- Laws of the two roots of Rotation.antt: each is what its comment there says it is, and so they grow with what they are taken of.
+-- Laws of the two roots of Rotation.antt: each is what its comment there says, so that both grow with the number under the root.
 -- Assumes nothing.
 use mathlib.Core.Path.{_≡_, refl}
 use mathlib.Core.Bool.{Bool, true, false}

@@ -1,14 +1,17 @@
--- Laws of the rotations of Rotation.antt: every enclosure is non-empty and of a length at most 1, finer ones lie inside coarser ones,
--- and they become as narrow as one likes. Assumes nothing.
+-- Laws of the rotations of Rotation.antt: every enclosure is non-empty, with low ends of a length at most 1; those at more bits lie
+-- inside those at fewer, and so any two overlap. Assumes nothing.
 use mathlib.Core.Path.{_≡_, refl}
 use Prim.Native.Nat.{ℕ, zero, suc, _+_, _-_, _*_, _/_, _%_, _^_, _≤_, _<_, min}
-use native.Mathlib.Nat.{add-comm, mul-pos, mul-sub, min-eq-left, min-eq-right, mul-le-mul, mul-le-mul-left, mul-le-mul-right, mul-div-le, div-mul-le-self, lt-div-mul-add, div-lt-iff-lt-mul, le-div-iff-mul-le, le-of-mul-le-mul-left, le-dest, le-trans}
+use native.Mathlib.Nat.{add-comm, le-trans, le-dest, min-eq-left, min-eq-right, mul-sub, mul-pos, mul-le-mul, mul-le-mul-left}
+use native.Mathlib.Nat.{mul-le-mul-right, le-of-mul-le-mul-left, mul-div-le, lt-div-mul-add, div-lt-iff-lt-mul, le-div-iff-mul-le}
 use native.Mathlib.Decide.{decLe}
 use native.Mathlib.Omega.{arith}
 use lib.Pow.{pow-pos, pow-add}
-use Rattle.exact.specs.Fraction.{dyadic, _≤ᶠ_}
-use Rattle.exact.specs.Rotation.{Rotation, rootDown, rootUp, quotientUp, none, quarter, half, compose, halving, bitRotation, bitsRotation, rotation}
-use Rattle.exact.specs.RootLaws.{lt-of-square-lt, root-down-at-most, root-up-least, root-down-le-root-up, root-down-scaled, root-up-scaled}
+use Rattle.exact.specs.Fraction.{whole, dyadic, square, _≤ᶠ_, _+ᶠ_}
+use Rattle.exact.specs.Rotation.{Rotation, rootDown, rootUp, quotientUp, none, quarter, half, compose}
+use Rattle.exact.specs.Rotation.{halving, bitRotation, bitsRotation, rotation}
+use Rattle.exact.specs.RootLaws.{lt-of-square-lt, root-down-at-most, root-up-least, root-down-le-root-up}
+use Rattle.exact.specs.RootLaws.{root-down-scaled, root-up-scaled}
 
 -- a quotient rounded up is the least k with x ≤ k y
 pub quotient-up-at-least : (x y : ℕ) → zero < y → x ≤ quotientUp x y * y
@@ -39,7 +42,9 @@ good-half n {r} g = record {
   cosine = root-down-le-root-up (omega (arith, mul-le-mul-right (2 ^ n) (g .cosine)));
   sine = root-down-le-root-up (mul-le-mul-right (2 ^ n) (omega arith));
   cosineMost = root-up-least ((2 ^ n + r .cosHigh) * 2 ^ n) (2 ^ n) (omega (arith, mul-le-mul-right (2 ^ n) (g .cosineMost)));
-  sineMost = root-up-least ((2 ^ n - r .cosLow) * 2 ^ n) (2 ^ n) (le-trans (mul-le-mul-right {n = 2 ^ n} (2 ^ n) (omega arith)) (omega arith));
+  sineMost =
+      let l : 2 ^ n - r .cosLow ≤ 2 ^ n = omega arith in
+      root-up-least ((2 ^ n - r .cosLow) * 2 ^ n) (2 ^ n) (omega (arith, mul-le-mul-right (2 ^ n) l));
   unit =
       let a = root-down-at-most ((2 ^ n + r .cosLow) * 2 ^ n) in
       let b = root-down-at-most ((2 ^ n - r .cosHigh) * 2 ^ n) in
@@ -82,18 +87,20 @@ good-compose n {r} {t} g h =
     let v : ℕ = r .sinLow * t .cosLow + r .cosLow * t .sinLow in
     let cc = mul-le-mul (g .cosine) (h .cosine) in
     let ss = mul-le-mul (g .sine) (h .sine) in
-    let u : a * a + v * v ≤ N * N * (N * N) =
-    unit-product N (r .cosLow) (r .sinLow) (t .cosLow) (t .sinLow) a (g .unit) (h .unit) (omega (arith, ss)) in
-    let v≤1 : v < N * N + 1 = lt-of-square-lt v (N * N + 1) (omega (arith, u)) in
-    let a≤1 : a < N * N + 1 = lt-of-square-lt a (N * N + 1) (omega (arith, u)) in
-    let fa = mul-div-le a N in
-    let fv = mul-div-le v N in
+    let sc = mul-le-mul (g .sine) (h .cosine) in
+    let cs = mul-le-mul (g .cosine) (h .sine) in
+    let u = unit-product N (r .cosLow) (r .sinLow) (t .cosLow) (t .sinLow) a (g .unit) (h .unit) (omega (arith, ss)) in
+    let a≤1 = mul-le-mul (g .cosineMost) (h .cosineMost) in
+    let v≤1 = lt-of-square-lt v (N * N + 1) (omega (arith, u)) in
+    let x = mul-div-le a N in
+    let y = mul-div-le v N in
     record {
-      cosine = floor-le-ceiling N a (r .cosHigh * t .cosHigh - r .sinLow * t .sinLow) (pow-pos n) (omega (arith, cc, ss)) (omega (arith, a≤1));
-      sine = floor-le-ceiling N v (r .sinHigh * t .cosHigh + r .cosHigh * t .sinHigh) (pow-pos n) (omega (arith, mul-le-mul (g .sine) (h .cosine), mul-le-mul (g .cosine) (h .sine))) (omega (arith, v≤1));
+      cosine = floor-le-ceiling N _ _ (pow-pos n) (omega (arith, cc, ss)) (omega (arith, cc, a≤1));
+      sine = floor-le-ceiling N v _ (pow-pos n) (omega (arith, sc, cs)) (omega (arith, v≤1));
       cosineMost = omega arith;
       sineMost = omega arith;
-      unit = le-of-mul-le-mul-left {k = N * N} (omega (arith, u, mul-le-mul fa fa, mul-le-mul fv fv)) (mul-pos (pow-pos n) (pow-pos n));
+      unit =
+          le-of-mul-le-mul-left {k = N * N} (omega (arith, u, mul-le-mul x x, mul-le-mul y y)) (mul-pos (pow-pos n) (pow-pos n));
     }
 
 pub good-halving : (n j : ℕ) → Good n (halving n j)
@@ -115,6 +122,10 @@ good-bits n j (suc count) x = good-compose n (good-bits n j count (x / 2)) (good
 pub rotation-good : (n w : ℕ) → Good n (rotation n w)
 unfolding rotation
 rotation-good n w = good-compose n (good-bits n 0 7 (w / 128)) (good-bits n 7 7 (w % 128))
+
+-- "a rotation": the squares of the low ends sum to at most 1
+pub rotation-length : (n w : ℕ) → square (dyadic n (rotation n w .cosLow)) +ᶠ square (dyadic n (rotation n w .sinLow)) ≤ᶠ whole 1
+rotation-length n w = omega (arith, mul-le-mul-right (2 ^ n * 2 ^ n) (rotation-good n w .unit))
 
 -- the ends of `inner` at n + d bits lie within those of `outer` at n bits
 pub record Inside (d : ℕ) (outer inner : Rotation) : Type 0 where
@@ -156,20 +167,37 @@ scaled-min D x y z h k = go (decLe x y)
     go (yes l) = rw (min-eq-left l) h
     go (no l) = rw (min-eq-right (let m : y ≤ x = omega arith in m)) k
 
-ceiling-inside : (N D a b : ℕ) → zero < N → zero < D → b ≤ D * D * a → min (N * D) (quotientUp b (N * D)) ≤ D * min N (quotientUp a N)
+ceiling-inside : (N D a b : ℕ) → zero < N → zero < D → b ≤ D * D * a →
+    min (N * D) (quotientUp b (N * D)) ≤ D * min N (quotientUp a N)
 ceiling-inside N D a b p q h =
-    let least : quotientUp b (N * D) ≤ D * quotientUp a N =
-    quotient-up-least b (N * D) (D * quotientUp a N) (mul-pos p q) (omega (arith, mul-le-mul-left (D * D) (quotient-up-at-least a N p))) in
-    scaled-min D N (quotientUp a N) (min (N * D) (quotientUp b (N * D))) (omega arith) (omega (arith, least))
+    let scaled = mul-le-mul-left (D * D) (quotient-up-at-least a N p) in
+    let least = quotient-up-least b (N * D) (D * quotientUp a N) (mul-pos p q) (omega (arith, scaled)) in
+    scaled-min D N (quotientUp a N) _ (omega arith) (omega (arith, least))
 
-pub inside-compose : (n d : ℕ) {r t r' t' : Rotation} → Inside d r r' → Inside d t t' → Inside d (compose n r t) (compose (n + d) r' t')
+pub inside-compose : (n d : ℕ) {r t r' t' : Rotation} → Inside d r r' → Inside d t t' →
+    Inside d (compose n r t) (compose (n + d) r' t')
 unfolding compose
-inside-compose n d {r} {t} {r'} {t'} i j = rw (pow-add 2 n d) record {
-  cosLow = floor-inside (2 ^ n) (2 ^ d) _ _ (pow-pos n) (pow-pos d) (rw mul-sub (omega (arith, mul-le-mul (i .cosLow) (j .cosLow), mul-le-mul (i .sinHigh) (j .sinHigh))));
-  cosHigh = ceiling-inside (2 ^ n) (2 ^ d) _ _ (pow-pos n) (pow-pos d) (rw mul-sub (omega (arith, mul-le-mul (i .cosHigh) (j .cosHigh), mul-le-mul (i .sinLow) (j .sinLow))));
-  sinLow = floor-inside (2 ^ n) (2 ^ d) _ _ (pow-pos n) (pow-pos d) (omega (arith, mul-le-mul (i .sinLow) (j .cosLow), mul-le-mul (i .cosLow) (j .sinLow)));
-  sinHigh = ceiling-inside (2 ^ n) (2 ^ d) _ _ (pow-pos n) (pow-pos d) (omega (arith, mul-le-mul (i .sinHigh) (j .cosHigh), mul-le-mul (i .cosHigh) (j .sinHigh)));
-}
+inside-compose n d {r} {t} {r'} {t'} i j =
+    let N : ℕ = 2 ^ n in
+    let D : ℕ = 2 ^ d in
+    rw (pow-add 2 n d) record {
+      cosLow =
+          let cc = mul-le-mul (i .cosLow) (j .cosLow) in
+          let ss = mul-le-mul (i .sinHigh) (j .sinHigh) in
+          floor-inside N D _ _ (pow-pos n) (pow-pos d) (rw mul-sub (omega (arith, cc, ss)));
+      cosHigh =
+          let cc = mul-le-mul (i .cosHigh) (j .cosHigh) in
+          let ss = mul-le-mul (i .sinLow) (j .sinLow) in
+          ceiling-inside N D _ _ (pow-pos n) (pow-pos d) (rw mul-sub (omega (arith, cc, ss)));
+      sinLow =
+          let sc = mul-le-mul (i .sinLow) (j .cosLow) in
+          let cs = mul-le-mul (i .cosLow) (j .sinLow) in
+          floor-inside N D _ _ (pow-pos n) (pow-pos d) (omega (arith, sc, cs));
+      sinHigh =
+          let sc = mul-le-mul (i .sinHigh) (j .cosHigh) in
+          let cs = mul-le-mul (i .cosHigh) (j .sinHigh) in
+          ceiling-inside N D _ _ (pow-pos n) (pow-pos d) (omega (arith, sc, cs));
+    }
 
 inside-halving : (n d j : ℕ) → Inside d (halving n j) (halving (n + d) j)
 unfolding halving

@@ -1,14 +1,16 @@
 -- The width of the enclosures of a rotation falls below every fraction above 0, for all angles at once. Assumes nothing.
-use mathlib.Core.Path.{_≡_, refl, ap}
-use Prim.Native.Nat.{ℕ, zero, suc, _+_, _-_, _*_, _/_, _%_, _^_, _≤_, _<_, max}
-use native.Mathlib.Nat.{mul-pos, pow-succ', le-trans, min-le-right, mul-sub, mul-le-mul, mul-le-mul-left, mul-le-mul-right, div-mul-le-self, lt-div-mul-add, le-of-mul-le-mul-left, le-dest}
+use mathlib.Core.Path.{_≡_, ap}
+use Prim.Native.Nat.{ℕ, zero, suc, _+_, _-_, _*_, _/_, _%_, _^_, _≤_, _<_, min, max}
+use native.Mathlib.Nat.{le-trans, le-dest, min-le-right, mul-sub, mul-pos, mul-le-mul-left, mul-le-mul-right, pow-succ'}
+use native.Mathlib.Nat.{le-of-mul-le-mul-left, div-mul-le-self, lt-div-mul-add}
 use native.Mathlib.Decide.{decLe}
 use native.Mathlib.Omega.{arith}
 use lib.Pow.{pow-pos, pow-mono, pow-add}
 use Rattle.exact.specs.Fraction.{Fraction, whole, dyadic, _+ᶠ_, _<ᶠ_}
-use Rattle.exact.specs.Rotation.{Rotation, rootDown, rootUp, quotientUp, none, quarter, half, compose, halving, bitRotation, bitsRotation, rotation}
+use Rattle.exact.specs.Rotation.{Rotation, rootDown, rootUp, quotientUp, none, half, compose}
+use Rattle.exact.specs.Rotation.{halving, bitRotation, bitsRotation, rotation}
 use Rattle.exact.specs.RootLaws.{lt-of-square-lt, root-down-at-most, root-down-next, root-up-previous}
-use Rattle.exact.specs.RotationLaws.{Good, good-halving, good-bit, good-bits}
+use Rattle.exact.specs.RotationLaws.{Good, good-bit, good-bits}
 
 -- the cosine and the sine are enclosed to 2 ^ -e
 pub record Narrow (e n : ℕ) (r : Rotation) : Type 0 where
@@ -28,7 +30,8 @@ four-units : (e n : ℕ) → e + 2 ≤ n → 4 * 2 ^ e ≤ 2 ^ n
 four-units e n h = omega (arith, pow-mono h, pow-add 2 e 2)
 
 -- two roots that are t apart are of numbers at least 2 t² apart
-root-gap : (N E z t X Y : ℕ) → X < 2 * (z * z) → 2 * ((z + t) * (z + t)) ≤ Y → 2 * E * E * Y ≤ 2 * E * E * X + N * N → 2 * E * t ≤ N
+root-gap : (N E z t X Y : ℕ) → X < 2 * (z * z) → 2 * ((z + t) * (z + t)) ≤ Y → 2 * E * E * Y ≤ 2 * E * E * X + N * N →
+    2 * E * t ≤ N
 root-gap N E z t X Y below above h =
     let apart : X + 2 * (t * t) ≤ Y = omega arith in
     let l = lt-of-square-lt (2 * E * t) (N + 1) (omega (arith, mul-le-mul-left (2 * E * E) apart)) in
@@ -41,10 +44,14 @@ root-width N E x y big h = go (decLe (rootDown (x * N) + 1) (rootDown (y * N)))
     up : E * rootUp (y * N) ≤ E * (rootDown (y * N) + 1)
     up = mul-le-mul-left E (root-up-previous (y * N))
 
+    scaled : 2 * E * E * (y * N) ≤ 2 * E * E * (x * N) + N * N
+    scaled = omega (arith, mul-le-mul-right N h)
+
     go : Dec (rootDown (x * N) + 1 ≤ rootDown (y * N)) → E * rootUp (y * N) ≤ E * rootDown (x * N) + N
     go (yes l) =
         let (t, e) = le-dest l in
-        let gap = root-gap N E (rootDown (x * N) + 1) t (x * N) (y * N) (root-down-next (x * N)) (rw e (root-down-at-most (y * N))) (omega (arith, mul-le-mul-right N h)) in
+        let least = rw (← e) at (root-down-at-most (y * N)) in
+        let gap = root-gap N E (rootDown (x * N) + 1) t (x * N) (y * N) (root-down-next (x * N)) least scaled in
         omega (arith, up, gap, ap (λ (m : ℕ). E * m) e)
     go (no l) =
         let m : rootDown (y * N) ≤ rootDown (x * N) = omega arith in
@@ -55,48 +62,57 @@ unfolding half
 narrow-half e n {r} big w =
     let scale : 2 ^ (e + e + 1) ≡ 2 * 2 ^ e * 2 ^ e = rw (pow-add 2 (e + e) 1, pow-add 2 e e) (omega arith) in
     let width : 2 * 2 ^ e * 2 ^ e * r .cosHigh ≤ 2 * 2 ^ e * 2 ^ e * r .cosLow + 2 ^ n = rw scale at (w .cosine) in
+    let units = four-units e n big in
     record {
-      cosine = root-width (2 ^ n) (2 ^ e) (2 ^ n + r .cosLow) (2 ^ n + r .cosHigh) (four-units e n big) (omega arith);
-      sine = root-width (2 ^ n) (2 ^ e) (2 ^ n - r .cosHigh) (2 ^ n - r .cosLow) (four-units e n big) (rw (mul-sub, mul-sub) (omega arith));
+      cosine = root-width (2 ^ n) (2 ^ e) (2 ^ n + r .cosLow) (2 ^ n + r .cosHigh) units (omega arith);
+      sine = root-width (2 ^ n) (2 ^ e) (2 ^ n - r .cosHigh) (2 ^ n - r .cosLow) units (rw (mul-sub, mul-sub) (omega arith));
     }
 
--- two products whose factors are k and k' apart, none above N
-product-width : (N c c' C C' k k' : ℕ) → c + k ≡ C → c' + k' ≡ C' → C ≤ N → C' ≤ N → C * C' ≤ c * c' + N * (k + k')
-product-width N c c' C C' k k' d d' l l' =
+-- two products, no factor above N
+product-width : (N : ℕ) {c c' C C' : ℕ} → c ≤ C → c' ≤ C' → C ≤ N → C' ≤ N → C * C' ≤ c * c' + N * ((C - c) + (C' - c'))
+product-width N {c} {c'} {C} {C'} h h' l l' =
+    let k : ℕ = C - c in
+    let k' : ℕ = C' - c' in
+    let d : C ≡ c + k = omega arith in
+    let d' : C' ≡ c' + k' = omega arith in
     let m : c ≤ N = omega arith in
-    rw (← d) (omega (arith, mul-le-mul-left k l', mul-le-mul-right k' m, ap (λ (x : ℕ). c * x) d'))
+    omega (arith, ap (λ (x : ℕ). x * C') d, ap (λ (x : ℕ). c * x) d', mul-le-mul-left k l', mul-le-mul-right k' m)
 
 -- the quotients by N of two numbers that are at most N times a width of N / (2 E) apart
-quotient-width : (N E a b width : ℕ) → zero < N → 4 * E ≤ N → 2 * E * width ≤ N → b ≤ a + N * width → E * quotientUp b N ≤ E * (a / N) + N
-quotient-width N E a b width p big small h =
-    let l : quotientUp b N ≤ a / N + width + 2 =
-    le-of-mul-le-mul-left {k = N} (omega (arith, div-mul-le-self (b + (N - 1)) N, lt-div-mul-add {a = a} p)) p in
-    omega (arith, mul-le-mul-left E l)
+quotient-width : (N E a b width : ℕ) → zero < N → 4 * E ≤ N → 2 * E * width ≤ N → b ≤ a + N * width →
+    E * min N (quotientUp b N) ≤ E * (a / N) + N
+quotient-width N E a b width p units small h =
+    let up = div-mul-le-self (b + (N - 1)) N in
+    let down = lt-div-mul-add {a = a} p in
+    let l : quotientUp b N ≤ a / N + width + 2 = le-of-mul-le-mul-left {k = N} (omega (arith, up, down)) p in
+    omega (arith, mul-le-mul-left E l, mul-le-mul-left E (min-le-right N (quotientUp b N)))
 
--- a width k of at most 2 ^ -(e + 3)
-eighth : (e n low high k : ℕ) → low + k ≡ high → 2 ^ (e + 3) * high ≤ 2 ^ (e + 3) * low + 2 ^ n → 8 * (2 ^ e * k) ≤ 2 ^ n
-eighth e n low high k d =
-    rw (pow-add 2 e 3) (λ h. omega (arith, ap (λ (m : ℕ). 2 ^ e * m) d))
+-- a width of at most 2 ^ -(e + 3)
+eighth : (e n : ℕ) {low high : ℕ} → low ≤ high → 2 ^ (e + 3) * high ≤ 2 ^ (e + 3) * low + 2 ^ n →
+    8 * (2 ^ e * (high - low)) ≤ 2 ^ n
+eighth e n l = rw (pow-add 2 e 3, mul-sub) (λ h. omega arith)
 
 -- each of the four widths is at most N / (8 E), so their sum is at most N / (2 E)
-narrow-compose : (e n : ℕ) {r t : Rotation} → e + 2 ≤ n → Good n r → Good n t → Narrow (e + 3) n r → Narrow (e + 3) n t → Narrow e n (compose n r t)
+narrow-compose : (e n : ℕ) {r t : Rotation} → e + 2 ≤ n → Good n r → Good n t → Narrow (e + 3) n r → Narrow (e + 3) n t →
+    Narrow e n (compose n r t)
 unfolding compose
 narrow-compose e n {r} {t} big g h w v =
     let N : ℕ = 2 ^ n in
     let E : ℕ = 2 ^ e in
-    let (k, c) = le-dest (g .cosine) in
-    let (l, s) = le-dest (g .sine) in
-    let (k', c') = le-dest (h .cosine) in
-    let (l', s') = le-dest (h .sine) in
-    let width : 2 * E * (k + k' + l + l') ≤ N =
-    omega (arith, eighth e n _ _ k c (w .cosine), eighth e n _ _ l s (w .sine), eighth e n _ _ k' c' (v .cosine), eighth e n _ _ l' s' (v .sine)) in
-    let cc = product-width N (r .cosLow) (t .cosLow) (r .cosHigh) (t .cosHigh) k k' c c' (g .cosineMost) (h .cosineMost) in
-    let ss = product-width N (r .sinLow) (t .sinLow) (r .sinHigh) (t .sinHigh) l l' s s' (g .sineMost) (h .sineMost) in
-    let sc = product-width N (r .sinLow) (t .cosLow) (r .sinHigh) (t .cosHigh) l k' s c' (g .sineMost) (h .cosineMost) in
-    let cs = product-width N (r .cosLow) (t .sinLow) (r .cosHigh) (t .sinHigh) k l' c s' (g .cosineMost) (h .sineMost) in
+    let width : ℕ = (r .cosHigh - r .cosLow) + (t .cosHigh - t .cosLow) + (r .sinHigh - r .sinLow) + (t .sinHigh - t .sinLow) in
+    let x = eighth e n (g .cosine) (w .cosine) in
+    let y = eighth e n (g .sine) (w .sine) in
+    let x' = eighth e n (h .cosine) (v .cosine) in
+    let y' = eighth e n (h .sine) (v .sine) in
+    let small : 2 * E * width ≤ N = omega (arith, x, y, x', y') in
+    let cc = product-width N (g .cosine) (h .cosine) (g .cosineMost) (h .cosineMost) in
+    let ss = product-width N (g .sine) (h .sine) (g .sineMost) (h .sineMost) in
+    let sc = product-width N (g .sine) (h .cosine) (g .sineMost) (h .cosineMost) in
+    let cs = product-width N (g .cosine) (h .sine) (g .cosineMost) (h .sineMost) in
+    let units = four-units e n big in
     record {
-      cosine = le-trans (mul-le-mul-left E (min-le-right _ _)) (quotient-width N E (r .cosLow * t .cosLow - r .sinHigh * t .sinHigh) (r .cosHigh * t .cosHigh - r .sinLow * t .sinLow) (k + k' + l + l') (pow-pos n) (four-units e n big) width (omega (arith, cc, ss)));
-      sine = le-trans (mul-le-mul-left E (min-le-right _ _)) (quotient-width N E (r .sinLow * t .cosLow + r .cosLow * t .sinLow) (r .sinHigh * t .cosHigh + r .cosHigh * t .sinHigh) (k + k' + l + l') (pow-pos n) (four-units e n big) width (omega (arith, sc, cs)));
+      cosine = quotient-width N E _ _ width (pow-pos n) units small (omega (arith, cc, ss));
+      sine = quotient-width N E _ _ width (pow-pos n) units small (omega (arith, sc, cs));
     }
 
 narrowing-half : {r : ℕ → ℕ → Rotation} → Narrowing r → Narrowing (λ n x. half n (r n x))
