@@ -127,12 +127,12 @@ impl Generator {
         ensures { λ r. ⌜ r ≡ drawA self ⌝ }
     {
         if self.is_accepted() {
-            let a = self.a.advanced();
-            let b = self.b;
-            let next = Generator { a, b };
+            let moved = self.a.advanced();
+            let other = self.b;
+            let next = Generator { a: moved, b: other };
             return Drawn {
                 number: 0,
-                draw: a.word(),
+                draw: moved.word(),
                 next,
             };
         }
@@ -148,12 +148,12 @@ impl Generator {
         ensures { λ r. ⌜ r ≡ drawB self ⌝ }
     {
         if self.is_accepted() {
-            let a = self.a;
-            let b = self.b.advanced();
-            let next = Generator { a, b };
+            let other = self.a;
+            let moved = self.b.advanced();
+            let next = Generator { a: other, b: moved };
             return Drawn {
                 number: 0,
-                draw: b.word(),
+                draw: moved.word(),
                 next,
             };
         }
