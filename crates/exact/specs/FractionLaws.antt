@@ -1,22 +1,27 @@
 -- Laws of fractions: the order, and what sums and products do to it.
 -- Assumes nothing.
-use Prim.Native.Nat.{ℕ, zero, suc, _+_, _*_, _≤_, _<_}
+use Prim.Native.Nat.{ℕ, zero, _*_, _≤_, _<_}
 use mathlib.Core.Logic.{_⊎_, inl, inr}
-use native.Mathlib.Nat.{le-refl, mul-pos, mul-le-mul, mul-le-mul-left, mul-le-mul-right, mul-lt-mul-of-pos-right, le-of-mul-le-mul-right, lt-of-mul-lt-mul-right, lt-of-not-le}
+use native.Mathlib.Nat.{le-refl, lt-of-not-le, mul-pos, mul-le-mul, mul-le-mul-right, mul-lt-mul-of-pos-right}
+use native.Mathlib.Nat.{le-of-mul-le-mul-right, lt-of-mul-lt-mul-right}
 use native.Mathlib.Decide.{decLe}
 use native.Mathlib.Omega.{arith}
 use Rattle.exact.specs.Fraction.{Fraction, _≤ᶠ_, _<ᶠ_, _+ᶠ_, _*ᶠ_, square, halved}
 
+infix 30 _∎ᶠ
+infixr 20 _≤ᶠ⟨_⟩_
 -- a / b ≤ c / d and c / d ≤ e / f give a / b ≤ e / f
 pub cross-trans : (a b c d e f : ℕ) → zero < d → a * d ≤ c * b → c * f ≤ e * d → a * f ≤ e * b
 cross-trans a b c d e f pos h k = le-of-mul-le-mul-right (omega (arith, mul-le-mul-right f h, mul-le-mul-right b k)) pos
 
 -- the same with one order strict
 pub cross-trans-lt-le : (a b c d e f : ℕ) → zero < f → a * d < c * b → c * f ≤ e * d → a * f < e * b
-cross-trans-lt-le a b c d e f pos h k = lt-of-mul-lt-mul-right d (omega (arith, mul-lt-mul-of-pos-right h pos, mul-le-mul-right b k))
+cross-trans-lt-le a b c d e f pos h k =
+    lt-of-mul-lt-mul-right d (omega (arith, mul-lt-mul-of-pos-right h pos, mul-le-mul-right b k))
 
 pub cross-trans-le-lt : (a b c d e f : ℕ) → zero < b → a * d ≤ c * b → c * f < e * d → a * f < e * b
-cross-trans-le-lt a b c d e f pos h k = lt-of-mul-lt-mul-right d (omega (arith, mul-le-mul-right f h, mul-lt-mul-of-pos-right k pos))
+cross-trans-le-lt a b c d e f pos h k =
+    lt-of-mul-lt-mul-right d (omega (arith, mul-le-mul-right f h, mul-lt-mul-of-pos-right k pos))
 
 -- Two fractions are equal if each is at most the other: the order is reflexive, transitive and total.
 pub ≤ᶠ-refl : (x : Fraction) → x ≤ᶠ x
@@ -40,6 +45,19 @@ pub ≤ᶠ-or-<ᶠ : (x y : Fraction) → (x ≤ᶠ y) ⊎ (y <ᶠ x)
     decided : Dec (x ≤ᶠ y) → (x ≤ᶠ y) ⊎ (y <ᶠ x)
     decided (yes h) = inl h
     decided (no h) = inr (lt-of-not-le h)
+
+-- Chains: `chained (x ≤ᶠ⟨ h ⟩ y ≤ᶠ⟨ k ⟩ z ∎ᶠ)` is x ≤ᶠ z.
+pub record Chain (x y : Fraction) : Type 0 where
+  pub ends : x ≤ᶠ y
+
+pub _≤ᶠ⟨_⟩_ : (x : Fraction) {y z : Fraction} → x ≤ᶠ y → Chain y z → Chain x z
+_≤ᶠ⟨_⟩_ x {y} {z} h k = record { ends = ≤ᶠ-trans x y z h (k .ends) }
+
+pub _∎ᶠ : (x : Fraction) → Chain x x
+x ∎ᶠ = record { ends = ≤ᶠ-refl x }
+
+pub chained : {x y : Fraction} → Chain x y → x ≤ᶠ y
+chained c = c .ends
 
 -- Sums and products grow with each part.
 pub +ᶠ-mono : (x x' y y' : Fraction) → x ≤ᶠ x' → y ≤ᶠ y' → x +ᶠ y ≤ᶠ x' +ᶠ y'

@@ -3,58 +3,64 @@
 use mathlib.Core.Path.{_≡_}
 use mathlib.Core.Logic.{_⊎_, inl, inr}
 use Prim.Native.Nat.{ℕ, zero, suc, _+_, _*_, _^_, _≤_, _<_}
-use native.Mathlib.Nat.{le-refl, le-suc, lt-irrefl, lt-of-not-le, lt-of-lt-of-le, zero-lt-suc, mul-pos, mul-le-mul-left, mul-le-mul-right, pow-zero, pow-suc}
+use native.Mathlib.Nat.{le-refl, le-suc, lt-irrefl, lt-of-not-le, lt-of-lt-of-le, zero-lt-suc, pow-zero, pow-suc}
+use native.Mathlib.Nat.{mul-pos, mul-le-mul-left, mul-le-mul-right}
 use native.Mathlib.Decide.{decLe, le-ind}
 use native.Mathlib.Omega.{arith}
 use Rattle.exact.specs.Fraction.{Fraction, whole, _+ᶠ_, _*ᶠ_, _≤ᶠ_, _<ᶠ_}
-use Rattle.exact.specs.FractionLaws.{cross-trans, ≤ᶠ-refl, ≤ᶠ-trans, ≤ᶠ-<ᶠ-trans, <ᶠ-≤ᶠ-trans, ≤ᶠ-or-<ᶠ, *ᶠ-mono, *ᶠ-cancel}
+use Rattle.exact.specs.FractionLaws.{cross-trans, ≤ᶠ-refl, ≤ᶠ-<ᶠ-trans, <ᶠ-≤ᶠ-trans, ≤ᶠ-or-<ᶠ}
+use Rattle.exact.specs.FractionLaws.{*ᶠ-mono, *ᶠ-cancel, _≤ᶠ⟨_⟩_, _∎ᶠ, chained}
 use Rattle.exact.specs.Series.{partialSum, AtMostLn, AtLeastLn}
-use Rattle.exact.specs.SeriesLaws.{scaledTop, scaledBottom, scaledSum, scaledBottom-pos, scaled-grows, partialSum-at-most-scaled, scaled-at-most-partialSum, partialSum-grows, partialSum-mono, partialSum-strict}
+use Rattle.exact.specs.SeriesLaws.{scaledTop, scaledBottom, scaledSum, scaledBottom-pos, scaled-grows}
+use Rattle.exact.specs.SeriesLaws.{partialSum-at-most-scaled, scaled-at-most-partialSum}
+use Rattle.exact.specs.SeriesLaws.{partialSum-grows, partialSum-mono, partialSum-strict}
 use Rattle.exact.specs.SeriesSums.{partialSum-sum-at-most, partialSum-sum-at-least}
 
 -- What is below a lower cut is one too, also for a greater number; so a fraction may be put for an equal one.
 pub ln-at-most-mono : (y y' z z' : Fraction) → y' ≤ᶠ y → z ≤ᶠ z' → AtMostLn y z → AtMostLn y' z'
 unfolding AtMostLn
 ln-at-most-mono y y' z z' h k cut n =
-    ≤ᶠ-trans (partialSum y' n) (partialSum y n) z' (partialSum-mono y' y n h) (≤ᶠ-trans (partialSum y n) z z' (cut n) k)
+    chained (partialSum y' n ≤ᶠ⟨ partialSum-mono y' y n h ⟩ partialSum y n ≤ᶠ⟨ cut n ⟩ z ≤ᶠ⟨ k ⟩ z' ∎ᶠ)
 
 pub ln-at-least-mono : (y y' z z' : Fraction) → y ≤ᶠ y' → z' ≤ᶠ z → AtLeastLn y z → AtLeastLn y' z'
 unfolding AtLeastLn
-ln-at-least-mono y y' z z' h k cut = (
-  cut .0,
-  ≤ᶠ-trans z' z (partialSum y' (cut .0)) k (≤ᶠ-trans z (partialSum y (cut .0)) (partialSum y' (cut .0)) (cut .1) (partialSum-mono y y' (cut .0) h)),
-)
+ln-at-least-mono y y' z z' h k (n, reached) =
+    (n, chained (z' ≤ᶠ⟨ k ⟩ z ≤ᶠ⟨ reached ⟩ partialSum y n ≤ᶠ⟨ partialSum-mono y y' n h ⟩ partialSum y' n ∎ᶠ))
 
 -- A lower cut of a logarithm is at most every upper cut.
 pub logarithm-cuts-meet : (y y' z : Fraction) → AtMostLn y z → AtLeastLn y' z → y ≤ᶠ y'
 unfolding AtMostLn AtLeastLn
-logarithm-cuts-meet y y' z most least = decided (≤ᶠ-or-<ᶠ y y')
+logarithm-cuts-meet y y' z most (n, reached) = decided (≤ᶠ-or-<ᶠ y y')
   where
-    n : ℕ
-    n = least .0
+    reached-later : z ≤ᶠ partialSum y' (suc n)
+    reached-later =
+        chained (z ≤ᶠ⟨ reached ⟩ partialSum y' n ≤ᶠ⟨ partialSum-grows y' (le-suc n) ⟩ partialSum y' (suc n) ∎ᶠ)
 
     decided : (y ≤ᶠ y') ⊎ (y' <ᶠ y) → y ≤ᶠ y'
     decided (inl h) = h
     decided (inr h) =
         absurd
         (lt-irrefl _
-        (≤ᶠ-<ᶠ-trans z (partialSum y' (suc n)) z
-        (≤ᶠ-trans z (partialSum y' n) (partialSum y' (suc n)) (least .1) (partialSum-grows y' (le-suc n)))
+        (≤ᶠ-<ᶠ-trans z (partialSum y' (suc n)) z reached-later
         (<ᶠ-≤ᶠ-trans (partialSum y' (suc n)) (partialSum y (suc n)) z (partialSum-strict y' y n h) (most (suc n)))))
 
 -- Sums: the logarithm of a product.
 pub ln-sum-at-most : (y y' z z' : Fraction) → AtMostLn y z → AtMostLn y' z' → AtMostLn (y +ᶠ y') (z *ᶠ z')
 unfolding AtMostLn
 ln-sum-at-most y y' z z' h h' n =
-    ≤ᶠ-trans (partialSum (y +ᶠ y') n) (partialSum y n *ᶠ partialSum y' n) (z *ᶠ z') (partialSum-sum-at-most y y' n)
-    (*ᶠ-mono (partialSum y n) z (partialSum y' n) z' (h n) (h' n))
+    chained
+    (partialSum (y +ᶠ y') n ≤ᶠ⟨ partialSum-sum-at-most y y' n ⟩
+    partialSum y n *ᶠ partialSum y' n ≤ᶠ⟨ *ᶠ-mono (partialSum y n) z (partialSum y' n) z' (h n) (h' n) ⟩
+    z *ᶠ z' ∎ᶠ)
 
 pub ln-sum-at-least : (y y' z z' : Fraction) → AtLeastLn y z → AtLeastLn y' z' → AtLeastLn (y +ᶠ y') (z *ᶠ z')
 unfolding AtLeastLn
-ln-sum-at-least y y' z z' h h' = (
-  h' .0 + h .0,
-  ≤ᶠ-trans (z *ᶠ z') (partialSum y (h .0) *ᶠ partialSum y' (h' .0)) (partialSum (y +ᶠ y') (h' .0 + h .0))
-      (*ᶠ-mono z (partialSum y (h .0)) z' (partialSum y' (h' .0)) (h .1) (h' .1)) (partialSum-sum-at-least y y' (h .0) (h' .0)),
+ln-sum-at-least y y' z z' (n, h) (m, h') = (
+  m + n,
+  chained
+      (z *ᶠ z' ≤ᶠ⟨ *ᶠ-mono z (partialSum y n) z' (partialSum y' m) h h' ⟩
+      partialSum y n *ᶠ partialSum y' m ≤ᶠ⟨ partialSum-sum-at-least y y' n m ⟩
+      partialSum (y +ᶠ y') (m + n) ∎ᶠ),
 )
 
 -- A number with a lower cut is at least 1.
@@ -69,43 +75,51 @@ factor-pos a (suc b) c pos h = zero-lt-suc b
 -- Quotients: from the logarithm of a product that of one factor.
 pub ln-quotient-at-most : (y y' z z' : Fraction) → AtMostLn (y +ᶠ y') (z *ᶠ z') → AtLeastLn y' z' → AtMostLn y z
 unfolding AtMostLn AtLeastLn
-ln-quotient-at-most y y' z z' h h' n =
-    *ᶠ-cancel (partialSum y n) z z'
-    (factor-pos (z .top) (z' .top) (z .bottom * z' .bottom) (mul-pos (z .positive) (z' .positive)) (one-at-most (y +ᶠ y') (z *ᶠ z') h))
-    (≤ᶠ-trans (partialSum y n *ᶠ z') (partialSum y n *ᶠ partialSum y' m) (z *ᶠ z')
-    (*ᶠ-mono (partialSum y n) (partialSum y n) z' (partialSum y' m) (≤ᶠ-refl (partialSum y n)) (h' .1))
-    (≤ᶠ-trans (partialSum y n *ᶠ partialSum y' m) (partialSum (y +ᶠ y') (m + n)) (z *ᶠ z') (partialSum-sum-at-least y y' n m) (h (m + n))))
+ln-quotient-at-most y y' z z' h (m, h') n =
+    *ᶠ-cancel (partialSum y n) z z' above
+    (chained
+    (partialSum y n *ᶠ z' ≤ᶠ⟨ *ᶠ-mono (partialSum y n) (partialSum y n) z' (partialSum y' m) (≤ᶠ-refl (partialSum y n)) h' ⟩
+    partialSum y n *ᶠ partialSum y' m ≤ᶠ⟨ partialSum-sum-at-least y y' n m ⟩
+    partialSum (y +ᶠ y') (m + n) ≤ᶠ⟨ h (m + n) ⟩
+    z *ᶠ z' ∎ᶠ))
   where
-    m : ℕ
-    m = h' .0
+    above : zero < z' .top
+    above =
+        factor-pos (z .top) (z' .top) (z .bottom * z' .bottom) (mul-pos (z .positive) (z' .positive))
+        (one-at-most (y +ᶠ y') (z *ᶠ z') h)
 
 pub ln-quotient-at-least : (y y' z z' : Fraction) → AtLeastLn (y +ᶠ y') (z *ᶠ z') → AtMostLn y' z' → AtLeastLn y z
 unfolding AtMostLn AtLeastLn
-ln-quotient-at-least y y' z z' h h' = (
+ln-quotient-at-least y y' z z' (n, h) h' = (
   n,
   *ᶠ-cancel z (partialSum y n) z' (lt-of-lt-of-le (z' .positive) (one-at-most y' z' h'))
-      (≤ᶠ-trans (z *ᶠ z') (partialSum (y +ᶠ y') n) (partialSum y n *ᶠ z') (h .1)
-      (≤ᶠ-trans (partialSum (y +ᶠ y') n) (partialSum y n *ᶠ partialSum y' n) (partialSum y n *ᶠ z') (partialSum-sum-at-most y y' n)
-      (*ᶠ-mono (partialSum y n) (partialSum y n) (partialSum y' n) z' (≤ᶠ-refl (partialSum y n)) (h' n)))),
+      (chained
+      (z *ᶠ z' ≤ᶠ⟨ h ⟩
+      partialSum (y +ᶠ y') n ≤ᶠ⟨ partialSum-sum-at-most y y' n ⟩
+      partialSum y n *ᶠ partialSum y' n ≤ᶠ⟨ grown ⟩
+      partialSum y n *ᶠ z' ∎ᶠ)),
 )
   where
-    n : ℕ
-    n = h .0
+    grown : partialSum y n *ᶠ partialSum y' n ≤ᶠ partialSum y n *ᶠ z'
+    grown = *ᶠ-mono (partialSum y n) (partialSum y n) (partialSum y' n) z' (≤ᶠ-refl (partialSum y n)) (h' n)
 
 -- The cuts by the scaled sums: every one of them for a lower cut, any one for an upper cut.
 pub ln-at-most-scaled :
-    (y z : Fraction) → ((n : ℕ) → scaledTop (y .top) (y .bottom) n * z .bottom ≤ z .top * scaledBottom (y .bottom) n) → AtMostLn y z
+    (y z : Fraction) →
+    ((n : ℕ) → scaledTop (y .top) (y .bottom) n * z .bottom ≤ z .top * scaledBottom (y .bottom) n) → AtMostLn y z
 unfolding AtMostLn scaledSum
-ln-at-most-scaled y z h n = ≤ᶠ-trans (partialSum y n) (scaledSum y n) z (partialSum-at-most-scaled y n) (h n)
+ln-at-most-scaled y z h n = chained (partialSum y n ≤ᶠ⟨ partialSum-at-most-scaled y n ⟩ scaledSum y n ≤ᶠ⟨ h n ⟩ z ∎ᶠ)
 
 pub ln-at-least-scaled :
-    (y z : Fraction) (n : ℕ) → z .top * scaledBottom (y .bottom) n ≤ scaledTop (y .top) (y .bottom) n * z .bottom → AtLeastLn y z
+    (y z : Fraction) (n : ℕ) →
+    z .top * scaledBottom (y .bottom) n ≤ scaledTop (y .top) (y .bottom) n * z .bottom → AtLeastLn y z
 unfolding AtLeastLn scaledSum
-ln-at-least-scaled y z n h = (n, ≤ᶠ-trans z (scaledSum y n) (partialSum y n) h (scaled-at-most-partialSum y n))
+ln-at-least-scaled y z n h = (n, chained (z ≤ᶠ⟨ h ⟩ scaledSum y n ≤ᶠ⟨ scaled-at-most-partialSum y n ⟩ partialSum y n ∎ᶠ))
 
--- The tail: once 2 y ≤ n + 1 the terms after the n-th at least halve, so that every partial sum is at most the n-th and its last term once
--- more. One comparison of whole numbers thus shows a lower cut.
-halves : (p q w t n : ℕ) (a e b : ℕ) → 2 * p ≤ suc n * q → (a + e) * w ≤ t * b → (suc n * q * a + e * p + e * p) * w ≤ t * (suc n * q * b)
+-- The tail: once 2 y ≤ n + 1 the terms after the n-th at least halve, so that every partial sum is at most the n-th and its
+-- last term once more. One comparison of whole numbers thus shows a lower cut.
+halves :
+    (p q w t n a e b : ℕ) → 2 * p ≤ suc n * q → (a + e) * w ≤ t * b → (suc n * q * a + e * p + e * p) * w ≤ t * (suc n * q * b)
 halves p q w t n a e b small h = omega (arith, mul-le-mul-left (suc n * q) h, mul-le-mul-left (e * w) small)
 
 later :

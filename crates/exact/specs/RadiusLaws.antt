@@ -1,9 +1,10 @@
 -- Laws of the exact radius: any two enclosures overlap, and some are as narrow as one likes.
 -- Assumes nothing.
-use mathlib.Core.Path.{_≡_, refl}
 use mathlib.Core.Logic.{_⊎_, inl, inr}
-use Prim.Native.Nat.{ℕ, zero, suc, _+_, _*_, _^_, _≤_, _<_, max}
-use native.Mathlib.Nat.{le-refl, le-trans, le-of-lt, lt-of-not-le, lt-of-lt-of-le, zero-lt-suc, mul-pos, mul-le-mul, mul-le-mul-left, mul-le-mul-right, mul-lt-mul-of-pos-left, le-of-mul-le-mul-left, pow-zero, pow-suc, pow-le-pow-left, add-suc, suc-add, le-mul-of-pos-right}
+use Prim.Native.Nat.{ℕ, zero, suc, _+_, _*_, _^_, _≤_, _<_}
+use native.Mathlib.Nat.{le-refl, le-trans, le-of-lt, lt-of-not-le, lt-of-lt-of-le, add-suc, suc-add}
+use native.Mathlib.Nat.{mul-pos, mul-le-mul, mul-le-mul-left, mul-le-mul-right, le-mul-of-pos-right, le-of-mul-le-mul-left}
+use native.Mathlib.Nat.{pow-zero, pow-suc, pow-le-pow-left}
 use native.Mathlib.Decide.{decLe}
 use native.Mathlib.Omega.{arith}
 use lib.Pow.{pow-pos, pow-add}
@@ -11,18 +12,22 @@ use Rattle.exact.specs.Fraction.{Fraction, whole, square, halved, _+ᶠ_
 use Rattle.exact.specs.FractionLaws.{half-square-mono, half-square-cancel}
 use Rattle.exact.specs.Series.{AtMostLn, AtLeastLn}
 use Rattle.exact.specs.SeriesLaws.{scaledTop, scaledBottom, scaledBottom-pos}
-use Rattle.exact.specs.LogarithmLaws.{logarithm-cuts-meet, ln-at-most-mono, ln-at-least-mono, ln-at-least-scaled, ln-one-at-most, tail}
+use Rattle.exact.specs.LogarithmLaws.{logarithm-cuts-meet, ln-at-most-mono, ln-at-least-mono}
+use Rattle.exact.specs.LogarithmLaws.{ln-at-least-scaled, ln-one-at-most, tail}
 use Rattle.exact.specs.Radius.{inverse, AtMostRadius, AtLeastRadius, RadiusEnclosure}
 
 -- A lower cut of the radius is at most every upper cut.
 pub radius-cuts-meet : (b m : ℕ) (g g' : Fraction) → AtMostRadius b m g → AtLeastRadius b m g' → g ≤ᶠ g'
 unfolding AtMostRadius AtLeastRadius
-radius-cuts-meet b m g g' h h' = half-square-cancel g g' (logarithm-cuts-meet (halved (square g)) (halved (square g')) (inverse b m) h h')
+radius-cuts-meet b m g g' h h' =
+    half-square-cancel g g' (logarithm-cuts-meet (halved (square g)) (halved (square g')) (inverse b m) h h')
 
 -- Any two enclosures of a radius overlap; one is never empty.
 pub radius-enclosures-overlap : {b m : ℕ} (e e' : RadiusEnclosure b m) → (e .low ≤ᶠ e' .high) × (e' .low ≤ᶠ e .high)
-radius-enclosures-overlap {b} {m} e e' =
-    (radius-cuts-meet b m (e .low) (e' .high) (e .atMost) (e' .atLeast), radius-cuts-meet b m (e' .low) (e .high) (e' .atMost) (e .atLeast))
+radius-enclosures-overlap {b} {m} e e' = (
+  radius-cuts-meet b m (e .low) (e' .high) (e .atMost) (e' .atLeast),
+  radius-cuts-meet b m (e' .low) (e .high) (e' .atMost) (e .atLeast),
+)
 
 -- What is below a lower cut is one, and what is above an upper cut; so a fraction may be put for an equal one.
 pub radius-at-most-mono : (b m : ℕ) (g g' : Fraction) → g' ≤ᶠ g → AtMostRadius b m g → AtMostRadius b m g'
@@ -47,8 +52,9 @@ gap :
 unfolding scaledTop scaledBottom
 gap p p' q zero le = rw (pow-suc p 0, pow-zero p, pow-suc p' 0, pow-zero p') (omega arith)
 gap p p' q (suc n) le =
-    gap-step (suc (suc n)) q (scaledTop p q (suc n)) (scaledTop p' q (suc n)) (scaledBottom q (suc n)) (p ^ suc (suc n)) (p' ^ suc (suc n)) p p'
-    (pow-le-pow-left le (suc (suc n))) (gap p p' q n le)
+    let k : ℕ = suc (suc n) in
+    gap-step k q (scaledTop p q (suc n)) (scaledTop p' q (suc n)) (scaledBottom q (suc n)) (p ^ k) (p' ^ k) p p'
+    (pow-le-pow-left le k) (gap p p' q n le)
 
 -- The terms of P / q fall below 1 / q.
 doubling : (n : ℕ) → n ≤ 2 ^ n
@@ -67,7 +73,8 @@ falling P q (suc k) pos =
 
 fallen : (P q k : ℕ) → zero < q → q * P ^ suc (2 * P) ≤ 2 ^ k → q * P ^ suc (2 * P + k) ≤ scaledBottom q (suc (2 * P + k))
 fallen P q k pos h =
-    rw (← suc-add (2 * P) k, pow-add P (suc (2 * P)) k, suc-add (2 * P) k) (omega (arith, falling P q k pos, mul-le-mul-left (P ^ k) h))
+    rw (← suc-add (2 * P) k, pow-add P (suc (2 * P)) k, suc-add (2 * P) k)
+    (omega (arith, falling P q k pos, mul-le-mul-left (P ^ k) h))
 
 small-term : (P q : ℕ) → zero < q → (n : ℕ) × (2 * P ≤ suc (suc n) * q) × (q * P ^ suc n ≤ scaledBottom q (suc n))
 small-term P q pos =
@@ -75,22 +82,23 @@ small-term P q pos =
     (2 * P + k, at-most-times (suc (suc (2 * P + k))) q pos (omega arith), fallen P q k pos (doubling k))
 
 -- A test that a number passes is passed by 0, or not by some smaller number and by the next.
-crossing :
-    (test : ℕ → Type 0) → ((i : ℕ) → Dec (test i)) → (n : ℕ) → test n → test 0 ⊎ ((i : ℕ) × (i < n) × (¬ test i) × test (suc i))
+abbrev Crossing : (ℕ → Type 0) → ℕ → Type 0
+Crossing test n = test 0 ⊎ ((i : ℕ) × (i < n) × (¬ test i) × test (suc i))
+
+crossing : (test : ℕ → Type 0) → ((i : ℕ) → Dec (test i)) → (n : ℕ) → test n → Crossing test n
 crossing test dec zero h = inl h
 crossing test dec (suc n) h = decided (dec n) (crossing test dec n)
   where
-    lifted : test 0 ⊎ ((i : ℕ) × (i < n) × (¬ test i) × test (suc i)) → test 0 ⊎ ((i : ℕ) × (i < suc n) × (¬ test i) × test (suc i))
+    lifted : Crossing test n → Crossing test (suc n)
     lifted (inl g) = inl g
-    lifted (inr g) = inr (g .0, omega (arith, g .1), g .2, g .3)
+    lifted (inr (i, lt, g, g')) = inr (i, omega arith, g, g')
 
-    decided :
-        Dec (test n) → (test n → test 0 ⊎ ((i : ℕ) × (i < n) × (¬ test i) × test (suc i))) →
-        test 0 ⊎ ((i : ℕ) × (i < suc n) × (¬ test i) × test (suc i))
-    decided (yes g) rest = lifted (rest g)
-    decided (no g) rest = inr (n, le-refl _, g, h)
+    decided : Dec (test n) → (test n → Crossing test n) → Crossing test (suc n)
+    decided (yes g) earlier = lifted (earlier g)
+    decided (no g) earlier = inr (n, le-refl _, g, h)
 
--- On a grid of radii of step ε / 3: a partial sum of one is at least that of the one before and its last term once more, if that term is small.
+-- On a grid of radii of step ε / 3: a partial sum of one is at least that of the one before and its last term once more, if
+-- that term is small.
 before-reached :
     (p p' P q n w t : ℕ) → zero < q → p < p' → p ≤ P → q * P ^ suc n ≤ scaledBottom q (suc n) →
     scaledTop p' q (suc n) * w < t * scaledBottom q (suc n) → (scaledTop p q (suc n) + p ^ suc n) * w ≤ t * scaledBottom q (suc n)
@@ -176,7 +184,7 @@ narrow-root z ε above pos =
       omega (arith, step),
     )
 
-    found : reached 0 ⊎ ((i : ℕ) × (i < last) × (¬ reached i) × reached (suc i)) → NarrowRoot z ε
+    found : Crossing reached last → NarrowRoot z ε
     found (inl h) = record {
       low = grid ε 0;
       high = grid ε 0;
@@ -184,18 +192,19 @@ narrow-root z ε above pos =
       atLeast = ln-at-least-scaled (halved (square (grid ε 0))) z (suc n) h;
       narrow = omega (arith, step);
     }
-    found (inr h) =
-        let cut : (low : Fraction) × AtMostLn (halved (square low)) z × (grid ε (suc (h .0)) <ᶠ low +ᶠ ε) = lower (h .0) (h .1) (h .2) in
+    found (inr (i, lt, short, h)) =
+        let (low, atMost, narrow) = lower i lt short in
         record {
-          low = cut .0;
-          high = grid ε (suc (h .0));
-          atMost = cut .1;
-          atLeast = ln-at-least-scaled (halved (square (grid ε (suc (h .0))))) z (suc n) (h .3);
-          narrow = cut .2;
+          low = low;
+          high = grid ε (suc i);
+          atMost = atMost;
+          atLeast = ln-at-least-scaled (halved (square (grid ε (suc i)))) z (suc n) h;
+          narrow = narrow;
         }
 
 -- For every m up to 2 ^ b, zero counting as 1, and every fraction above 0 there is a narrower enclosure of the radius.
-pub radius-narrow : (b m : ℕ) (ε : Fraction) → m ≤ 2 ^ b → zero < ε .top → (e : RadiusEnclosure b m) × (e .high <ᶠ e .low +ᶠ ε)
+pub radius-narrow :
+    (b m : ℕ) (ε : Fraction) → m ≤ 2 ^ b → zero < ε .top → (e : RadiusEnclosure b m) × (e .high <ᶠ e .low +ᶠ ε)
 unfolding AtMostRadius AtLeastRadius
 radius-narrow b m ε le pos =
     let root : NarrowRoot (inverse b m) ε = narrow-root (inverse b m) ε (omega (arith, pow-pos b)) pos in

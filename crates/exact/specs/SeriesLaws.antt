@@ -2,11 +2,12 @@
 -- Assumes nothing.
 use mathlib.Core.Path.{_≡_, refl, sym, ap}
 use Prim.Native.Nat.{ℕ, zero, suc, _+_, _*_, _^_, _≤_, _<_}
-use native.Mathlib.Nat.{mul-pos, mul-le-mul, mul-le-mul-left, mul-le-mul-right, mul-lt-mul-of-pos-left, zero-lt-suc, pow-zero, pow-suc, le-refl, le-of-eq, le-of-lt}
+use native.Mathlib.Nat.{le-refl, le-of-eq, le-of-lt, zero-lt-suc, pow-zero, pow-suc, mul-pos}
+use native.Mathlib.Nat.{mul-le-mul, mul-le-mul-left, mul-lt-mul-of-pos-left}
 use native.Mathlib.Decide.{le-ind}
 use native.Mathlib.Omega.{arith}
-use Rattle.exact.specs.Fraction.{Fraction, _+ᶠ_, _≤ᶠ_, _<ᶠ_}
-use Rattle.exact.specs.FractionLaws.{cross-trans, ≤ᶠ-trans, ≤ᶠ-<ᶠ-trans, <ᶠ-≤ᶠ-trans}
+use Rattle.exact.specs.Fraction.{Fraction, _≤ᶠ_, _<ᶠ_}
+use Rattle.exact.specs.FractionLaws.{≤ᶠ-<ᶠ-trans, <ᶠ-≤ᶠ-trans, _≤ᶠ⟨_⟩_, _∎ᶠ, chained}
 use Rattle.exact.specs.Series.{factorial, term, partialSum}
 
 -- The partial sum of p / q as scaledTop p q n over scaledBottom q n = q ^ n n!
@@ -40,12 +41,14 @@ added a b c d e f k h g = rw g (omega (arith, ap (λ t. k * k * d * t) h))
 
 -- The partial sum is the scaled one, by cross multiplication.
 pub partialSum-is-scaled :
-    (y : Fraction) (n : ℕ) → partialSum y n .top * scaledBottom (y .bottom) n ≡ scaledTop (y .top) (y .bottom) n * partialSum y n .bottom
+    (y : Fraction) (n : ℕ) →
+    partialSum y n .top * scaledBottom (y .bottom) n ≡ scaledTop (y .top) (y .bottom) n * partialSum y n .bottom
 unfolding partialSum scaledTop scaledBottom term
 partialSum-is-scaled y zero = refl
 partialSum-is-scaled y (suc n) =
-    added (partialSum y n .top) (partialSum y n .bottom) (scaledTop (y .top) (y .bottom) n) (scaledBottom (y .bottom) n) (y .top ^ suc n)
-    (term y (suc n) .bottom) (suc n * y .bottom) (partialSum-is-scaled y n) (sym (scaledBottom-is (y .bottom) (suc n)))
+    added (partialSum y n .top) (partialSum y n .bottom) (scaledTop (y .top) (y .bottom) n) (scaledBottom (y .bottom) n)
+    (y .top ^ suc n) (term y (suc n) .bottom) (suc n * y .bottom) (partialSum-is-scaled y n)
+    (sym (scaledBottom-is (y .bottom) (suc n)))
 
 pub partialSum-at-most-scaled : (y : Fraction) (n : ℕ) → partialSum y n ≤ᶠ scaledSum y n
 unfolding scaledSum
@@ -87,27 +90,34 @@ pub scaled-strict :
 unfolding scaledTop scaledBottom
 scaled-strict p q p' q' zero pos pos' h = rw (pow-suc p 0, pow-zero p, pow-suc p' 0, pow-zero p') (omega arith)
 scaled-strict p q p' q' (suc n) pos pos' h =
-    added-strictly (suc (suc n) * q) (suc (suc n) * q') (scaledTop p q (suc n)) (scaledBottom q (suc n)) (scaledTop p' q' (suc n))
-    (scaledBottom q' (suc n)) (p ^ suc (suc n)) (p' ^ suc (suc n)) (mul-pos (zero-lt-suc (suc n)) pos) (mul-pos (zero-lt-suc (suc n)) pos')
-    (scaled-strict p q p' q' n pos pos' h) (power-grows p q p' q' (suc (suc n)) (le-of-lt h))
+    let k : ℕ = suc (suc n) in
+    added-strictly (k * q) (k * q') (scaledTop p q (suc n)) (scaledBottom q (suc n)) (scaledTop p' q' (suc n))
+    (scaledBottom q' (suc n)) (p ^ k) (p' ^ k) (mul-pos (zero-lt-suc (suc n)) pos) (mul-pos (zero-lt-suc (suc n)) pos')
+    (scaled-strict p q p' q' n pos pos' h) (power-grows p q p' q' k (le-of-lt h))
 
 -- The partial sums grow with n, and with y, strictly from n = 1 on.
 pub partialSum-grows : (y : Fraction) {n m : ℕ} → n ≤ m → partialSum y n ≤ᶠ partialSum y m
 unfolding scaledSum
 partialSum-grows y {n} {m} h =
-    ≤ᶠ-trans (partialSum y n) (scaledSum y n) (partialSum y m) (partialSum-at-most-scaled y n)
-    (≤ᶠ-trans (scaledSum y n) (scaledSum y m) (partialSum y m) (scaled-grows (y .top) (y .bottom) h) (scaled-at-most-partialSum y m))
+    chained
+    (partialSum y n ≤ᶠ⟨ partialSum-at-most-scaled y n ⟩
+    scaledSum y n ≤ᶠ⟨ scaled-grows (y .top) (y .bottom) h ⟩
+    scaledSum y m ≤ᶠ⟨ scaled-at-most-partialSum y m ⟩
+    partialSum y m ∎ᶠ)
 
 pub partialSum-mono : (y y' : Fraction) (n : ℕ) → y ≤ᶠ y' → partialSum y n ≤ᶠ partialSum y' n
 unfolding scaledSum
 partialSum-mono y y' n h =
-    ≤ᶠ-trans (partialSum y n) (scaledSum y n) (partialSum y' n) (partialSum-at-most-scaled y n)
-    (≤ᶠ-trans (scaledSum y n) (scaledSum y' n) (partialSum y' n) (scaled-mono (y .top) (y .bottom) (y' .top) (y' .bottom) n h)
-    (scaled-at-most-partialSum y' n))
+    chained
+    (partialSum y n ≤ᶠ⟨ partialSum-at-most-scaled y n ⟩
+    scaledSum y n ≤ᶠ⟨ scaled-mono (y .top) (y .bottom) (y' .top) (y' .bottom) n h ⟩
+    scaledSum y' n ≤ᶠ⟨ scaled-at-most-partialSum y' n ⟩
+    partialSum y' n ∎ᶠ)
 
 pub partialSum-strict : (y y' : Fraction) (n : ℕ) → y <ᶠ y' → partialSum y (suc n) <ᶠ partialSum y' (suc n)
 unfolding scaledSum
 partialSum-strict y y' n h =
     ≤ᶠ-<ᶠ-trans (partialSum y (suc n)) (scaledSum y (suc n)) (partialSum y' (suc n)) (partialSum-at-most-scaled y (suc n))
     (<ᶠ-≤ᶠ-trans (scaledSum y (suc n)) (scaledSum y' (suc n)) (partialSum y' (suc n))
-    (scaled-strict (y .top) (y .bottom) (y' .top) (y' .bottom) n (y .positive) (y' .positive) h) (scaled-at-most-partialSum y' (suc n)))
+    (scaled-strict (y .top) (y .bottom) (y' .top) (y' .bottom) n (y .positive) (y' .positive) h)
+    (scaled-at-most-partialSum y' (suc n)))

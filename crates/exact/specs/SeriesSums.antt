@@ -1,16 +1,17 @@
 -- The partial sums of a sum against the product of the partial sums, without binomials.
 -- Assumes nothing.
-use mathlib.Core.Path.{_≡_, refl, sym, ap, _∙_}
+use mathlib.Core.Path.{_≡_, refl, ap, _∙_}
 use Prim.Native.Nat.{ℕ, zero, suc, _+_, _*_, _^_, _≤_, _<_}
 use native.Mathlib.Nat.{mul-pos, mul-le-mul-left, mul-le-mul-right, pow-zero, pow-suc, le-refl, add-zero, add-suc, zero-add}
 use native.Mathlib.Omega.{arith}
 use Rattle.exact.specs.Fraction.{Fraction, _+ᶠ_, _*ᶠ_, _≤ᶠ_}
-use Rattle.exact.specs.FractionLaws.{≤ᶠ-trans, *ᶠ-mono}
+use Rattle.exact.specs.FractionLaws.{*ᶠ-mono, _≤ᶠ⟨_⟩_, _∎ᶠ, chained}
 use Rattle.exact.specs.Series.{partialSum}
-use Rattle.exact.specs.SeriesLaws.{scaledTop, scaledBottom, scaledSum, scaled-grows, partialSum-mono, partialSum-at-most-scaled, scaled-at-most-partialSum}
+use Rattle.exact.specs.SeriesLaws.{scaledTop, scaledBottom, scaledSum, scaled-grows, partialSum-mono}
+use Rattle.exact.specs.SeriesLaws.{partialSum-at-most-scaled, scaled-at-most-partialSum}
 
--- Read c n as a number in place of the power Xⁿ. Then `blend c b m j n` stands in place of (X + b)ʲ Xⁿ, of whose expansion only the powers
--- of b up to bᵐ are kept.
+-- Read c n as a number in place of the power Xⁿ. Then `blend c b m j n` stands in place of (X + b)ʲ Xⁿ, of whose expansion
+-- only the powers of b up to bᵐ are kept.
 unfoldable pub blend : (ℕ → ℕ) → ℕ → ℕ → ℕ → ℕ → ℕ
 blend c b m zero n = c n
 blend c b zero (suc j) n = blend c b zero j (suc n)
@@ -22,7 +23,8 @@ before (suc n) = n
 
 -- A bound on the numbers that are read is a bound on the blend.
 pub blend-mono :
-    (c d : ℕ → ℕ) (k l b m j n : ℕ) → ((i : ℕ) → i ≤ n + j → n + j ≤ i + m → k * c i ≤ l * d i) → k * blend c b m j n ≤ l * blend d b m j n
+    (c d : ℕ → ℕ) (k l b m j n : ℕ) → ((i : ℕ) → i ≤ n + j → n + j ≤ i + m → k * c i ≤ l * d i) →
+    k * blend c b m j n ≤ l * blend d b m j n
 unfolding blend
 blend-mono c d k l b m zero n h = h n (omega arith) (omega arith)
 blend-mono c d k l b zero (suc j) n h = blend-mono c d k l b zero j (suc n) (λ i p r. h i (omega arith) (omega arith))
@@ -49,7 +51,8 @@ unfolding blend
 blend-powers a b m zero n h = rw (pow-zero (a + b)) (omega arith)
 blend-powers a b zero (suc j) n h = omega arith
 blend-powers a b (suc m) (suc j) n h =
-    rw (blend-powers a b (suc m) j (suc n) (omega arith), blend-powers a b m j n (omega arith), pow-suc (a + b) j, pow-suc a n) (omega arith)
+    rw (blend-powers a b (suc m) j (suc n) (omega arith), blend-powers a b m j n (omega arith), pow-suc (a + b) j, pow-suc a n)
+    (omega arith)
 
 -- With c the powers of 0 it is 0, unless the powers of b reach far enough.
 pub blend-none : (b m j n : ℕ) → m < n + j → blend (λ i. 0 ^ i) b m j n ≡ 0
@@ -57,7 +60,8 @@ unfolding blend
 blend-none b m zero zero h = omega arith
 blend-none b m zero (suc n) h = rw (pow-suc 0 n) (omega arith)
 blend-none b zero (suc j) n h = blend-none b zero j (suc n) (omega arith)
-blend-none b (suc m) (suc j) n h = rw (blend-none b (suc m) j (suc n) (omega arith), blend-none b m j n (omega arith)) (omega arith)
+blend-none b (suc m) (suc j) n h =
+    rw (blend-none b (suc m) j (suc n) (omega arith), blend-none b m j n (omega arith)) (omega arith)
 
 -- If c is q times its derivative and d besides, so is each blend: the rule of products.
 joined :
@@ -80,15 +84,17 @@ module _ (c d : ℕ → ℕ) (q b : ℕ) (rule : (n : ℕ) → c n ≡ q * (n * 
   opened m zero n = omega arith
   opened m (suc j) n = refl
 
-  pub blend-rule : (m j n : ℕ) → blend c b m j n ≡ q * (j * blend c b m (before j) n + n * blend c b m j (before n)) + blend d b m j n
+  pub blend-rule :
+      (m j n : ℕ) → blend c b m j n ≡ q * (j * blend c b m (before j) n + n * blend c b m j (before n)) + blend d b m j n
   unfolding blend
   blend-rule m zero n = omega (arith, rule n)
   blend-rule zero (suc j) n =
       omega (arith, blend-rule zero j (suc n), ap (λ t. q * t) (lowest j n), ap (λ t. q * t) (level zero j n))
   blend-rule (suc m) (suc j) n =
-      joined q b j n (blend c b (suc m) j (suc n)) (blend c b m j n) (blend c b (suc m) (before j) (suc n)) (blend c b (suc m) j n)
-      (blend c b (suc m) j (suc (before n))) (blend c b m (before j) n) (blend c b m j (before n)) (blend d b (suc m) j (suc n))
-      (blend d b m j n) (blend-rule (suc m) j (suc n)) (blend-rule m j n) (opened m j n) (level (suc m) j n)
+      joined q b j n (blend c b (suc m) j (suc n)) (blend c b m j n) (blend c b (suc m) (before j) (suc n))
+      (blend c b (suc m) j n) (blend c b (suc m) j (suc (before n))) (blend c b m (before j) n) (blend c b m j (before n))
+      (blend d b (suc m) j (suc n)) (blend d b m j n) (blend-rule (suc m) j (suc n)) (blend-rule m j n) (opened m j n)
+      (level (suc m) j n)
 
 -- The scaled sums of a obey the rule with the powers of a; their denominators with the powers of 0.
 pub scaledTop-rule : (a q n : ℕ) → scaledTop a q n ≡ q * (n * scaledTop a q (before n)) + a ^ n
@@ -103,9 +109,11 @@ scaledBottom-rule q (suc n) = rw (pow-suc 0 n) (omega arith)
 
 -- So the blend of the scaled sums of a with b is the scaled sum of a + b.
 pub blend-scaled :
-    (c : ℕ → ℕ) (a q b m j : ℕ) → ((n : ℕ) → c n ≡ q * (n * c (before n)) + a ^ n) → j ≤ m → blend c b m j 0 ≡ scaledTop (a + b) q j
+    (c : ℕ → ℕ) (a q b m j : ℕ) → ((n : ℕ) → c n ≡ q * (n * c (before n)) + a ^ n) → j ≤ m →
+    blend c b m j 0 ≡ scaledTop (a + b) q j
 unfolding scaledTop
-blend-scaled c a q b m zero rule h = blend-rule c (λ i. a ^ i) q b rule m zero 0 ∙ rw (blend-powers a b m 0 0 h, pow-zero a, pow-zero (a + b)) (omega arith)
+blend-scaled c a q b m zero rule h =
+    blend-rule c (λ i. a ^ i) q b rule m zero 0 ∙ rw (blend-powers a b m 0 0 h, pow-zero a, pow-zero (a + b)) (omega arith)
 blend-scaled c a q b m (suc j) rule h =
     omega (
       arith,
@@ -143,7 +151,9 @@ scaled-sum-at-most a b q n =
 
 -- E_n(a) E_m(b) ≤ E_(m + n)(a + b), over the denominator q.
 pub scaled-sum-at-least :
-    (a b q n m : ℕ) → scaledTop a q n * scaledTop b q m * scaledBottom q (m + n) ≤ scaledTop (a + b) q (m + n) * (scaledBottom q n * scaledBottom q m)
+    (a b q n m : ℕ) →
+    scaledTop a q n * scaledTop b q m * scaledBottom q (m + n) ≤
+    scaledTop (a + b) q (m + n) * (scaledBottom q n * scaledBottom q m)
 scaled-sum-at-least a b q n m =
     omega (
       arith,
@@ -152,25 +162,38 @@ scaled-sum-at-least a b q n m =
           (blend-mono (scaledBottom q) (scaledTop a q) (scaledTop a q n) (scaledBottom q n) b m (m + n) 0
           (λ i h k. omega (arith, scaled-grows a q {n = n} {m = i} (omega arith)))),
       mul-le-mul-right (scaledBottom q n * scaledBottom q m) (blend-grows (scaledTop a q) b m (m + n) (m + n) 0 (omega arith)),
-      ap (λ t. scaledBottom q n * scaledBottom q m * t) (blend-scaled (scaledTop a q) a q b (m + n) (m + n) (scaledTop-rule a q) (le-refl (m + n))),
+      ap (λ t. scaledBottom q n * scaledBottom q m * t)
+          (blend-scaled (scaledTop a q) a q b (m + n) (m + n) (scaledTop-rule a q) (le-refl (m + n))),
     )
 
 -- Two fractions over the product of their denominators.
 abbrev pub overBoth : Fraction → Fraction → Fraction
-overBoth x y = record { top = x .top * y .bottom; bottom = x .bottom * y .bottom; positive = mul-pos (x .positive) (y .positive) }
+overBoth x y = record {
+  top = x .top * y .bottom;
+  bottom = x .bottom * y .bottom;
+  positive = mul-pos (x .positive) (y .positive);
+}
 
 abbrev pub underBoth : Fraction → Fraction → Fraction
-underBoth x y = record { top = y .top * x .bottom; bottom = x .bottom * y .bottom; positive = mul-pos (x .positive) (y .positive) }
+underBoth x y = record {
+  top = y .top * x .bottom;
+  bottom = x .bottom * y .bottom;
+  positive = mul-pos (x .positive) (y .positive);
+}
 
 -- A partial sum of a sum is at most the product of the partial sums.
 pub partialSum-sum-at-most : (x y : Fraction) (n : ℕ) → partialSum (x +ᶠ y) n ≤ᶠ partialSum x n *ᶠ partialSum y n
 unfolding scaledSum
 partialSum-sum-at-most x y n =
-    ≤ᶠ-trans (partialSum (x +ᶠ y) n) (scaledSum (x +ᶠ y) n) (partialSum x n *ᶠ partialSum y n) (partialSum-at-most-scaled (x +ᶠ y) n)
-    (≤ᶠ-trans (scaledSum (x +ᶠ y) n) (scaledSum x' n *ᶠ scaledSum y' n) (partialSum x n *ᶠ partialSum y n)
-    (omega (arith, mul-le-mul-right (scaledBottom (x' .bottom) n) (scaled-sum-at-most (x' .top) (y' .top) (x' .bottom) n)))
-    (*ᶠ-mono (scaledSum x' n) (partialSum x n) (scaledSum y' n) (partialSum y n) (back x' x (omega arith)) (back y' y (omega arith))))
+    chained
+    (partialSum (x +ᶠ y) n ≤ᶠ⟨ partialSum-at-most-scaled (x +ᶠ y) n ⟩
+    scaledSum (x +ᶠ y) n ≤ᶠ⟨ omega (arith, mul-le-mul-right (scaledBottom q n) (scaled-sum-at-most (x' .top) (y' .top) q n)) ⟩
+    scaledSum x' n *ᶠ scaledSum y' n ≤ᶠ⟨ products ⟩
+    partialSum x n *ᶠ partialSum y n ∎ᶠ)
   where
+    q : ℕ
+    q = x .bottom * y .bottom
+
     x' : Fraction
     x' = overBoth x y
 
@@ -178,16 +201,24 @@ partialSum-sum-at-most x y n =
     y' = underBoth x y
 
     back : (u v : Fraction) → u ≤ᶠ v → scaledSum u n ≤ᶠ partialSum v n
-    back u v h = ≤ᶠ-trans (scaledSum u n) (partialSum u n) (partialSum v n) (scaled-at-most-partialSum u n) (partialSum-mono u v n h)
+    back u v h =
+        chained
+        (scaledSum u n ≤ᶠ⟨ scaled-at-most-partialSum u n ⟩ partialSum u n ≤ᶠ⟨ partialSum-mono u v n h ⟩ partialSum v n ∎ᶠ)
+
+    products : scaledSum x' n *ᶠ scaledSum y' n ≤ᶠ partialSum x n *ᶠ partialSum y n
+    products =
+        *ᶠ-mono (scaledSum x' n) (partialSum x n) (scaledSum y' n) (partialSum y n) (back x' x (omega arith))
+        (back y' y (omega arith))
 
 -- A product of partial sums is at most a later partial sum of the sum.
 pub partialSum-sum-at-least : (x y : Fraction) (n m : ℕ) → partialSum x n *ᶠ partialSum y m ≤ᶠ partialSum (x +ᶠ y) (m + n)
 unfolding scaledSum
 partialSum-sum-at-least x y n m =
-    ≤ᶠ-trans (partialSum x n *ᶠ partialSum y m) (scaledSum x' n *ᶠ scaledSum y' m) (partialSum (x +ᶠ y) (m + n))
-    (*ᶠ-mono (partialSum x n) (scaledSum x' n) (partialSum y m) (scaledSum y' m) (there x x' n (omega arith)) (there y y' m (omega arith)))
-    (≤ᶠ-trans (scaledSum x' n *ᶠ scaledSum y' m) (scaledSum (x +ᶠ y) (m + n)) (partialSum (x +ᶠ y) (m + n))
-    (scaled-sum-at-least (x' .top) (y' .top) (x' .bottom) n m) (scaled-at-most-partialSum (x +ᶠ y) (m + n)))
+    chained
+    (partialSum x n *ᶠ partialSum y m ≤ᶠ⟨ products ⟩
+    scaledSum x' n *ᶠ scaledSum y' m ≤ᶠ⟨ scaled-sum-at-least (x' .top) (y' .top) (x' .bottom) n m ⟩
+    scaledSum (x +ᶠ y) (m + n) ≤ᶠ⟨ scaled-at-most-partialSum (x +ᶠ y) (m + n) ⟩
+    partialSum (x +ᶠ y) (m + n) ∎ᶠ)
   where
     x' : Fraction
     x' = overBoth x y
@@ -196,4 +227,11 @@ partialSum-sum-at-least x y n m =
     y' = underBoth x y
 
     there : (u v : Fraction) (k : ℕ) → u ≤ᶠ v → partialSum u k ≤ᶠ scaledSum v k
-    there u v k h = ≤ᶠ-trans (partialSum u k) (partialSum v k) (scaledSum v k) (partialSum-mono u v k h) (partialSum-at-most-scaled v k)
+    there u v k h =
+        chained
+        (partialSum u k ≤ᶠ⟨ partialSum-mono u v k h ⟩ partialSum v k ≤ᶠ⟨ partialSum-at-most-scaled v k ⟩ scaledSum v k ∎ᶠ)
+
+    products : partialSum x n *ᶠ partialSum y m ≤ᶠ scaledSum x' n *ᶠ scaledSum y' m
+    products =
+        *ᶠ-mono (partialSum x n) (scaledSum x' n) (partialSum y m) (scaledSum y' m) (there x x' n (omega arith))
+        (there y y' m (omega arith))
