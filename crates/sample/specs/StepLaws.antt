@@ -75,7 +75,7 @@ module _ (b m : ℕ) (wide : 25 ≤ b) (narrow : b ≤ 64) (above : 0 < m) (belo
         div-lt-iff-lt-mul (pow-pos (b - 9)) .1 (omega (arith, r .1, p0, p9)),
       )
 
-  divisor-pos : 0 < coarse b m * 2 ^ (b - 25)
+  pub divisor-pos : 0 < coarse b m * 2 ^ (b - 25)
   divisor-pos =
       let h = mul-le-mul-right (2 ^ (b - 25)) (coarse-range .0) in
       let p = pow-pos (b - 25) in
@@ -99,16 +99,24 @@ module _ (b m : ℕ) (wide : 25 ≤ b) (narrow : b ≤ 64) (above : 0 < m) (belo
         subst (λ (x : ℕ). x < n) e (mod-lt (rest b m) divisor-pos),
       )
 
+  -- the divisor of S
+  pub divisor-range : (0 < coarse b m * (65536 + fine b m)) × (coarse b m * (65536 + fine b m) < 2 ^ 26)
+  divisor-range =
+      let h = coarse-range in
+      let i = fine-range in
+      let product : coarse b m * (65536 + fine b m) ≤ 512 * 65792 =
+      mul-le-mul {n₁ = coarse b m} {m₁ = 65536 + fine b m} {n₂ = 512} {m₂ = 65792} (omega arith) (omega arith) in
+      (omega (arith, h .0), omega (arith, product))
+
   -- S < 2^24, where b is at most 65
   pub correction-range : correction b m < 2 ^ 24
   unfolding correction
   correction-range =
-      let h = coarse-range .0 in
       let below-r = mul-lt-mul-of-pos-right (rest-split .1) (pow-pos (65 - b)) in
       let w : b - 25 + (65 - b) ≡ 40 = omega arith in
       let p : 2 ^ (b - 25) * 2 ^ (65 - b) ≡ 2 ^ 40 = sym (pow-add 2 (b - 25) (65 - b)) ∙ ap (λ (n : ℕ). 2 ^ n) w in
       let q = ap (λ (t : ℕ). coarse b m * t) p in
-      div-lt-iff-lt-mul {k = coarse b m * (65536 + fine b m)} {x = remainder b m * 2 ^ (65 - b)} {y = 2 ^ 24} (omega (arith, h)) .1
+      div-lt-iff-lt-mul {k = coarse b m * (65536 + fine b m)} {x = remainder b m * 2 ^ (65 - b)} {y = 2 ^ 24} (divisor-range .0) .1
       (omega (arith, below-r, q))
 
 -- ---- the root
