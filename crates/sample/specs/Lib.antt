@@ -2,4 +2,5 @@
 pub mod Steps
 pub mod StepLaws
 pub mod Sample
+pub mod Parts
 pub mod Readings

@@ -3,15 +3,16 @@
 use mathlib.Core.Path.{_≡_, refl, sym, ap, _∙_, subst}
 use mathlib.Core.Bool.{Bool, true, false}
 use Prim.Native.Nat.{ℕ, zero, suc, _+_, _-_, _*_, _/_, _%_, _^_, _≤_, _<_, zero-le}
-use native.Mathlib.Nat.{le-refl, sub-zero, le-of-suc-le-suc, le-antisymm, mul-le-mul, le-trans, lt-of-lt-of-le, lt-of-le-of-lt, lt-of-not-le, not-le-of-lt, mul-le-mul-right, mul-lt-mul-of-pos-right, mod-lt, div-add-mod', div-lt-iff-lt-mul, le-div-iff-mul-le, pow-suc, mod-eq-sub-div-mul, zero-lt-suc}
+use native.Mathlib.Nat.{le-refl, mul-zero, zero-add, div-eq-of-lt, sub-zero, le-of-suc-le-suc, le-antisymm, mul-le-mul, le-trans, lt-of-lt-of-le, lt-of-le-of-lt, lt-of-not-le, not-le-of-lt, mul-le-mul-right, mul-lt-mul-of-pos-right, mod-lt, div-add-mod', div-lt-iff-lt-mul, le-div-iff-mul-le, pow-suc, mod-eq-sub-div-mul, zero-lt-suc}
 use native.Mathlib.Numerals.{add-one, add-one-le}
 use native.Mathlib.Omega.{arith}
+use lib.IntN.{ℤ, pos, negsuc, negℤ, negℤ-negℤ}
 use lib.Count.{leadingZeros, leading-top}
 use lib.Dec.{leb}
 use lib.Pow.{pow-pos, pow-mono, pow-lt, pow-add}
 use borrow.Author.Tests.{leb-true, leb-false}
 use Rattle.exact.specs.Rotation.{nextDigit, rootDigits}
-use Rattle.sample.specs.Steps.{topBit, mantissa, coarse, rest, fine, remainder, correction, wholeRoot}
+use Rattle.sample.specs.Steps.{topBit, mantissa, coarse, rest, fine, remainder, correction, logarithm, wholeRoot, size, rounded}
 
 -- ---- e, for a number of at most 64 bits: 2^e ≤ m < 2^(e+1)
 
@@ -119,6 +120,12 @@ module _ (b m : ℕ) (wide : 25 ≤ b) (narrow : b ≤ 64) (above : 0 < m) (belo
       div-lt-iff-lt-mul {k = coarse b m * (65536 + fine b m)} {x = remainder b m * 2 ^ (65 - b)} {y = 2 ^ 24} (divisor-range .0) .1
       (omega (arith, below-r, q))
 
+-- Q ≤ b × K
+pub logarithm-range : (A B : ℕ → ℕ) (K b m : ℕ) → logarithm A B K b m ≤ b * K
+unfolding logarithm
+logarithm-range A B K b m =
+    let factor : b - topBit m ≤ b = omega arith in omega (arith, mul-le-mul-right K factor)
+
 -- ---- the root
 
 -- one digit more: from a root of x / 4 to a root of x
@@ -147,3 +154,25 @@ whole-root-unique x r low high =
     root-below : (p q : ℕ) → p * p ≤ x → x < (q + 1) * (q + 1) → p ≤ q
     root-below p q lp hq =
         le-of-suc-le-suc (lt-of-not-le λ (g : suc q ≤ p). not-le-of-lt hq (le-trans (mul-le-mul (add-one-le g) (add-one-le g)) lp))
+
+-- ---- the rounding
+
+-- a sine or cosine of 0 gives the sample 0
+pub size-zero : (f F : ℕ) → f ≤ 49 → size f F 0 ≡ 0
+unfolding size
+size-zero f F h =
+    let e : 50 - f ≡ 49 - f + 1 = omega arith in
+    rw (mul-zero, zero-add, e, add-one, pow-suc) (div-eq-of-lt (omega (arith, pow-pos (49 - f))))
+
+-- the size is the same for G and -G, so that a change of G's sign is a change of the sample's
+pub rounded-neg : (f F : ℕ) → f ≤ 49 → (G : ℤ) → rounded f F (negℤ G) ≡ negℤ (rounded f F G)
+rounded-neg f F h (pos zero) = rw (size-zero f F h) refl
+rounded-neg f F h (pos (suc n)) = refl
+rounded-neg f F h (negsuc n) = sym (negℤ-negℤ (pos (size f F (suc n))))
+
+-- the largest size, at 11 fraction bits
+pub size-range : (F G : ℕ) → F < 8553728 → G ≤ 2 ^ 30 → size 11 F G ≤ 16706
+unfolding size
+size-range F G h g =
+    let product : F * G ≤ 8553727 * 2 ^ 30 = mul-le-mul {n₁ = F} {m₁ = G} {n₂ = 8553727} {m₂ = 2 ^ 30} (omega arith) g in
+    omega (arith, product)

@@ -2,7 +2,10 @@
 ghost use mathlib.Core.Path.{_≡_};
 ghost use Prim.Native.Nat.{_+_, _-_, _*_, _^_, _≤_, _<_};
 ghost use Rattle.tables.specs.Tables.{entryOf};
-ghost use Rattle.sample.specs.Steps.{topBit, mantissa, coarse, fine, correction, logarithm, wholeRoot, radius};
+ghost use Rattle.sample.specs.Steps.{topBit, mantissa, coarse, fine, correction, logarithm, wholeRoot, radius, sine, cosine, rounded};
+ghost use Rattle.sample.specs.Parts.{Rotations, withSign, valueOf};
+ghost use Rattle.exact.specs.Pair.{turn};
+ghost use lib.IntN.{pos, negℤ};
 
 pub struct Samples {
     pub number: u32,
@@ -71,4 +74,148 @@ fn logarithm(coarse: &[u64], fine: &[u64], ln2: u64, m: u64) -> u64
         cut(cut((48 - e) * ln2, from_coarse), from_fine),
         cell.correction,
     )
+}
+
+// Newton's step towards the root of x.
+fn newton(x: u64, guess: u64) -> u64
+    requires { ⌜ (2 ^ 28 ≤ guess) × (guess < 2 ^ 36) ⌝ }
+    ensures { λ r. ⌜ (guess ≤ 2 * r + 1) × (r < 2 ^ 36) ⌝ }
+{
+    (guess + x / guess) / 2
+}
+
+// Near the root of x: a line that lies near the roots of the numbers of 63 and 64 bits, and two of Newton's steps, on x moved up to that length.
+// The contract is a bound alone, since `root` corrects whatever this returns.
+fn estimate(x: u64) -> u64
+    ensures { λ r. ⌜ r < 2 ^ 24 ⌝ }
+{
+    let shift = u64::leading_zeros(x) % 64 / 2;
+    let scaled = x << (2 * shift);
+    let line = (0x8000_0000 + scaled / 0x1_0000_0000) * 11 / 16;
+    let near = newton(scaled, newton(scaled, line));
+    (near >> shift) % 0x100_0000
+}
+
+// A number whose square is at most x: the guess or less.
+fn lowered(x: u64, guess: u64) -> u64
+    requires { ⌜ guess < 2 ^ 24 ⌝ }
+    ensures { λ r. ⌜ (r * r ≤ x) × (r < 2 ^ 24) ⌝ }
+{
+    let mut r = guess;
+    while x < r * r {
+        r -= 1;
+    }
+    r
+}
+
+// The whole part of the root, from a number that is not above it.
+fn raised(x: u64, low: u64) -> u64
+    requires { ⌜ (x < 2 ^ 48) × (low * low ≤ x) × (low < 2 ^ 24) ⌝ }
+    ensures { λ r. ⌜ r ≡ wholeRoot x ⌝ }
+{
+    let mut r = low;
+    while (r + 1) * (r + 1) <= x {
+        r += 1;
+    }
+    r
+}
+
+// The whole part of the square root of x.
+fn root(x: u64) -> u64
+    requires { ⌜ x < 2 ^ 48 ⌝ }
+    ensures { λ r. ⌜ r ≡ wholeRoot x ⌝ }
+{
+    raised(x, lowered(x, estimate(x)))
+}
+
+// F, the radius at 2^20.
+fn radius(coarse: &[u64], fine: &[u64], ln2: u64, m: u64) -> u64
+    requires { ⌜ (0 < m) × (m < 2 ^ 48) × (ln2 < 2 ^ 40) ⌝ }
+    ensures { λ r. ⌜ r ≡ radius (entryOf (now (coarse .entry)) 256) (entryOf (now (fine .entry)) 0) ln2 48 m ⌝ }
+{
+    root(2 * logarithm(coarse, fine, ln2, m))
+}
+
+// The sine and the cosine of w, at 2^30.
+struct Angle {
+    sine: u64,
+    cosine: u64,
+}
+
+fn angle_of(cc: &[u64], sc: &[u64], cf: &[u64], sf: &[u64], w: u64) -> Angle
+    requires { ⌜ Rotations (now cc) (now sc) (now cf) (now sf) ⌝ }
+    ensures { λ r. ⌜ (r .sine ≡ sine (entryOf (now (cc .entry)) 0) (entryOf (now (sc .entry)) 0) (entryOf (now (cf .entry)) 0) (entryOf (now (sf .entry)) 0) w) × (r .cosine ≡ cosine (entryOf (now (cc .entry)) 0) (entryOf (now (sc .entry)) 0) (entryOf (now (cf .entry)) 0) (entryOf (now (sf .entry)) 0) w) ⌝ }
+{
+    let a = (w / 128) as usize;
+    let b = (w % 128) as usize;
+    let coarse_cos = tables::entry(cc, 0, a);
+    let coarse_sin = tables::entry(sc, 0, a);
+    let fine_cos = tables::entry(cf, 0, b);
+    let fine_sin = tables::entry(sf, 0, b);
+    Angle {
+        sine: (coarse_sin * fine_cos + coarse_cos * fine_sin) / 0x4000_0000,
+        cosine: (coarse_cos * fine_cos - coarse_sin * fine_sin) / 0x4000_0000,
+    }
+}
+
+// A signed number as its size and its sign.
+struct Signed {
+    size: u64,
+    negative: bool,
+}
+
+struct Turned {
+    sine: Signed,
+    cosine: Signed,
+}
+
+// The quarters of document 01, in its order.
+fn turn(q: u64, sine: u64, cosine: u64) -> Turned
+    requires { ⌜ (sine ≤ 2 ^ 30) × (cosine ≤ 2 ^ 30) ⌝ }
+    ensures { λ r. ⌜ ((valueOf (r .sine), valueOf (r .cosine)) ≡ turn negℤ q (pos sine, pos cosine)) × (r .sine .size ≤ 2 ^ 30) × (r .cosine .size ≤ 2 ^ 30) ⌝ }
+{
+    let plus_sine = Signed {
+        size: sine,
+        negative: false,
+    };
+    let plus_cosine = Signed {
+        size: cosine,
+        negative: false,
+    };
+    let minus_sine = Signed {
+        size: sine,
+        negative: true,
+    };
+    let minus_cosine = Signed {
+        size: cosine,
+        negative: true,
+    };
+    match q {
+        0 => Turned {
+            sine: plus_sine,
+            cosine: plus_cosine,
+        },
+        1 => Turned {
+            sine: plus_cosine,
+            cosine: minus_sine,
+        },
+        2 => Turned {
+            sine: minus_sine,
+            cosine: minus_cosine,
+        },
+        _ => Turned {
+            sine: minus_cosine,
+            cosine: plus_sine,
+        },
+    }
+}
+
+// A sample: the nearest whole number of units of 2^-11, halves away from zero, of the radius times a number with its sign apart.
+fn rounded(radius: u64, size: u64, negative: bool) -> i16
+    requires { ⌜ (radius < 8553728) × (size ≤ 2 ^ 30) ⌝ }
+    ensures { λ r. ⌜ r ≡ rounded 11 radius (withSign negative size) ⌝ }
+{
+    let units = (radius * size + 0x40_0000_0000) / 0x80_0000_0000;
+    let x = units as i16;
+    if negative { -x } else { x }
 }

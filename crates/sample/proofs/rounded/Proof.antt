@@ -1,0 +1,49 @@
+-- `sample::rounded` meets its contract: the size is at most 16706, so that it and its negative fit 16 bits.
+-- Assumes nothing.
+use mathlib.Core.Path.{_≡_, sym, _∙_}
+use Prim.Native.Nat.{ℕ, _+_, _*_, _/_, _≤_, _<_, _^_}
+use native.Mathlib.Nat.{mul-le-mul, le-of-lt}
+use native.Mathlib.Omega.{arith}
+use mir.Syntax.{w16}
+use mir.Facts.{toZ-pos}
+use Rattle.sample.specs.Steps.{size, rounded}
+use Rattle.sample.specs.StepLaws.{size-range}
+use Rattle.sample.proofs.Signs.{rounded-apart, minus-fits, minus-reads}
+use Rattle.sample.proofs.rounded.Statement.{statement}
+use Rattle.sample.proofs.rounded.Tie as tie
+use Rattle.sample.proofs.rounded.Reads as reads
+use Rattle.sample.proofs.rounded.Lts as lts
+
+product : (c : tie.Start) → c .args .radius * c .args .size ≤ 8553728 * 2 ^ 30
+product c = mul-le-mul (le-of-lt (c .pre .0)) (c .pre .1)
+
+fits : (c : tie.Start) → (c .args .radius * c .args .size + 0x40_0000_0000) / 0x80_0000_0000 < 2 ^ 15
+unfolding size
+fits c = let s = size-range (c .args .radius) (c .args .size) (c .pre .0) (c .pre .1) in omega (arith, s)
+
+mul-units : tie.Need-mul-units
+mul-units c = omega (arith, product c)
+
+add-units : tie.Need-add-units
+add-units c = omega (arith, product c)
+
+cast-x : tie.Need-cast-x
+cast-x c = record { sfits = fits c }
+
+sub-result : tie.Need-sub-result
+sub-result c = minus-fits w16 _ (fits (c .before))
+
+returns : tie.Need-returns
+unfolding size
+returns c =
+    let apart = rounded-apart 11 (c .before .args .radius) (omega arith) (c .before .args .negative) (c .before .args .size) in
+    rw (apart, c .if1 .taken) (minus-reads w16 _ (fits (c .before)))
+
+returns-2 : tie.Need-returns-2
+unfolding size
+returns-2 c =
+    let apart = rounded-apart 11 (c .before .args .radius) (omega arith) (c .before .args .negative) (c .before .args .size) in
+    rw (apart, c .if1 .left) (toZ-pos w16 (fits (c .before)))
+
+pub rounded-spec : {M : Type 1} → statement M
+rounded-spec = tie.close (tie.spec mul-units add-units cast-x sub-result returns returns-2)
