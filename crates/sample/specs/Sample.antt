@@ -33,9 +33,16 @@ samplesOf k v =
     pick (leb (2 ^ 48) k) (refused 2)
     (pick (ltb 65535 v) (refused 3) (record { number = 0; first = firstOf k v; second = secondOf k v }))
 
--- The two numbers of a pair as one: z = 65536 k + v. Each z has its two samples, as far as there is room for both; every other element stays.
+-- The two numbers of a pair as one, z = 65536 k + v, and its two samples.
+abbrev pub firstAt : ℕ → ℤ
+firstAt z = firstOf (z / 65536) (z % 65536)
+
+abbrev pub secondAt : ℕ → ℤ
+secondAt z = secondOf (z / 65536) (z % 65536)
+
+-- Each z has its two samples, as far as there is room for both; every other element stays.
 unfoldable pub filled : List ℕ → List ℤ → List ℤ
 filled [] out = out
 filled (z ∷ zs) [] = []
 filled (z ∷ zs) (x ∷ []) = x ∷ []
-filled (z ∷ zs) (x ∷ y ∷ out) = firstOf (z / 65536) (z % 65536) ∷ secondOf (z / 65536) (z % 65536) ∷ filled zs out
+filled (z ∷ zs) (x ∷ y ∷ out) = firstAt z ∷ secondAt z ∷ filled zs out

@@ -2,8 +2,9 @@
 ghost use mathlib.Core.Path.{_≡_};
 ghost use Prim.Native.Nat.{_+_, _-_, _*_, _^_, _≤_, _<_};
 ghost use Rattle.tables.specs.Tables.{entryOf};
-ghost use Rattle.sample.specs.Steps.{topBit, mantissa, coarse, fine, correction, logarithm, wholeRoot, radius, sine, cosine, rounded};
-ghost use Rattle.sample.specs.Parts.{Rotations, withSign, valueOf};
+ghost use Rattle.sample.specs.Steps.{numerator, topBit, mantissa, coarse, fine, correction, logarithm, wholeRoot, radius, sine, cosine, rounded};
+ghost use Rattle.sample.specs.Parts.{Rotations, Loaded, withSign, valueOf};
+ghost use Rattle.sample.specs.Sample.{firstAt, secondAt, samplesOf};
 ghost use Rattle.exact.specs.Pair.{turn};
 ghost use lib.IntN.{pos, negℤ};
 
@@ -218,4 +219,83 @@ fn rounded(radius: u64, size: u64, negative: bool) -> i16
     let units = (radius * size + 0x40_0000_0000) / 0x80_0000_0000;
     let x = units as i16;
     if negative { -x } else { x }
+}
+
+struct Pair {
+    first: i16,
+    second: i16,
+}
+
+// The number under the logarithm: k = 0 is read as 1.
+fn numerator(k: u64) -> u64
+    ensures { λ r. ⌜ r ≡ numerator k ⌝ }
+{
+    if k == 0 { 1 } else { k }
+}
+
+// The two samples of z = 65536 k + v, from the lent tables A and B, K, C, D, c and s.
+fn pair_of(
+    lc: &[u64],
+    lf: &[u64],
+    ln2: u64,
+    cc: &[u64],
+    sc: &[u64],
+    cf: &[u64],
+    sf: &[u64],
+    z: u64,
+) -> Pair
+    requires { ⌜ Loaded (now lc) (now lf) ln2 (now cc) (now sc) (now cf) (now sf) ⌝ }
+    ensures { λ r. ⌜ (r .first ≡ firstAt z) × (r .second ≡ secondAt z) ⌝ }
+{
+    let v = z % 65536;
+    let f = radius(lc, lf, ln2, numerator(z / 65536));
+    let angle = angle_of(cc, sc, cf, sf, v % 16384);
+    let t = turn(v / 16384, angle.sine, angle.cosine);
+    let sine = t.sine;
+    let cosine = t.cosine;
+    Pair {
+        first: rounded(f, sine.size, sine.negative),
+        second: rounded(f, cosine.size, cosine.negative),
+    }
+}
+
+// The two samples of k and v.
+pub fn sample(k: u64, v: u32) -> Samples
+    ensures steps { λ r. ⌜ r ≡ samplesOf k v ⌝ }
+{
+    if 0x1_0000_0000_0000 <= k {
+        return Samples {
+            number: 2,
+            first: 0,
+            second: 0,
+        };
+    }
+    if 65535 < v {
+        return Samples {
+            number: 3,
+            first: 0,
+            second: 0,
+        };
+    }
+    let lc = tables::log_coarse();
+    let lf = tables::log_fine();
+    let cc = tables::cos_coarse();
+    let sc = tables::sin_coarse();
+    let cf = tables::cos_fine();
+    let sf = tables::sin_fine();
+    let pair = pair_of(
+        &lc,
+        &lf,
+        tables::ln_two(),
+        &cc,
+        &sc,
+        &cf,
+        &sf,
+        k * 65536 + v as u64,
+    );
+    Samples {
+        number: 0,
+        first: pair.first,
+        second: pair.second,
+    }
 }
