@@ -18,7 +18,7 @@ use Rattle.exact.specs.SeriesLaws.{scaledTop, scaledBottom}
 use Rattle.exact.specs.LogarithmLaws.{ln-at-least-mono, ln-at-least-scaled, tail}
 use Rattle.tables.specs.Values.{logCoarseList, logFineList, lnTwoValue}
 use Rattle.tables.specs.Tables.{entryOf, lengths, logCoarse, logFine, lnTwo, logCoarse-is, logFine-is, lnTwo-is}
-use Rattle.tables.specs.Promise.{NearestLn}
+use Rattle.tables.specs.Promise.{NearestLn, lower, upper}
 use Rattle.tables.proofs.Entries.{both, both-left, both-right, every, at}
 
 -- y is at most ln z: n terms and the last once more are at most z, and from there on the terms at least halve
@@ -43,13 +43,13 @@ least-is n y z t = ln-at-least-scaled y z n (leb→le _ _ t)
 
 -- the test of an entry x for the logarithm of z, at f fraction bits
 nearest : ℕ → ℕ → Fraction → ℕ → Bool
-nearest n f z x = both (most n (dyadic (suc f) (2 * x - 1)) z) (least n (dyadic (suc f) (2 * x + 1)) z)
+nearest n f z x = both (most n (lower f x) z) (least n (upper f x) z)
 
 nearest-is : (n f : ℕ) (z : Fraction) (x : ℕ) → T (nearest n f z x) → NearestLn f z x
 unfolding nearest
 nearest-is n f z x t = record {
-  low = most-is n _ z (both-left (most n (dyadic (suc f) (2 * x - 1)) z) _ t);
-  high = least-is n _ z (both-right (most n (dyadic (suc f) (2 * x - 1)) z) _ t);
+  low = most-is n _ z (both-left (most n (lower f x) z) _ t);
+  high = least-is n _ z (both-right (most n (lower f x) z) _ t);
 }
 
 test : ℕ → ℕ → (ℕ → Fraction) → ℕ → List ℕ → Bool
@@ -91,8 +91,8 @@ apart y z p m l =
 
 not-below : (f : ℕ) (z : Fraction) (x y : ℕ) → NearestLn f z x → NearestLn f z y → x < y → ⊥
 not-below f z x y nx ny h =
-    apart (dyadic (suc f) (2 * y - 1)) z (omega arith) (ny .low)
-    (ln-at-least-mono (dyadic (suc f) (2 * x + 1)) (dyadic (suc f) (2 * y - 1)) z z
+    apart (lower f y) z (omega arith) (ny .low)
+    (ln-at-least-mono (upper f x) (lower f y) z z
     (mul-le-mul-right (2 ^ suc f) (omega arith)) (≤ᶠ-refl z) (nx .high))
 
 pub ln-unique : (f : ℕ) (z : Fraction) (x y : ℕ) → NearestLn f z x → NearestLn f z y → x ≡ y

@@ -10,7 +10,7 @@ use lib.IntN.{pos}
 use lib.Pow.{pow-pos}
 use Rattle.exact.specs.Fraction.{Fraction, whole, halved, dyadic, _≤ᶠ_}
 use Rattle.exact.specs.Pair.{Enclosure, Within, CloseTo}
-use Rattle.tables.specs.Promise.{NearestIn, Points}
+use Rattle.tables.specs.Promise.{NearestIn}
 
 -- N for 2^n and F for 2^f, at the point t / b
 from-below : (N F low x b t : ℕ) → 0 < b → 2 * (x * N) < 2 * (F * low) + N → low * b ≤ t * N → 2 * (x * b) < 2 * (F * t) + b
@@ -21,11 +21,13 @@ from-above : (N F high x b t : ℕ) → 0 < b → 2 * (F * high) < 2 * (x * N) +
 from-above N F high x b t p h k =
     lt-of-mul-lt-mul-right N (omega (arith, mul-lt-mul-of-pos-right h p, mul-le-mul-left (2 * F) k))
 
-pub points : Points
+pub points :
+    (f n low high x : ℕ) → NearestIn f n low high x →
+    CloseTo (halved (whole 1)) f (pos x) (record { negative = false; low = dyadic n low; high = dyadic n high })
 unfolding CloseTo Within
 points f n low high x near y from to = (
-  omega (arith, from-below (2 ^ n) (2 ^ f) low x (y .bottom) (y .top) (y .positive) (near .below) from),
-  omega (arith, from-above (2 ^ n) (2 ^ f) high x (y .bottom) (y .top) (y .positive) (near .above) to),
+  omega (arith, from-below (2 ^ n) (2 ^ f) low x (y .bottom) (y .top) (y .positive) (omega (arith, near)) from),
+  omega (arith, from-above (2 ^ n) (2 ^ f) high x (y .bottom) (y .top) (y .positive) (omega (arith, near)) to),
 )
 
 -- M and N for 2^m and 2^n, where the low end at m bits is at most the high end at n bits

@@ -1,5 +1,5 @@
--- What the tables promise (document 01, 'Radius' and 'Angle and sample'), in the words of `exact`. proofs/Promise.antt proves it; the crates above use
--- it and nothing else of an entry.
+-- What the tables promise (document 01, 'Radius' and 'Angle and sample'), in the words of `exact`. Of an entry the crates above use nothing
+-- else. proofs/Promise.antt has a value of each record.
 -- Assumes nothing.
 use mathlib.Core.Path.{_≡_}
 use mathlib.Core.Bool.{false}
@@ -7,18 +7,23 @@ use Prim.Native.Nat.{ℕ, suc, _+_, _*_, _-_, _^_, _≤_, _<_}
 use lib.IntN.{pos}
 use Rattle.exact.specs.Fraction.{Fraction, whole, halved, dyadic}
 use Rattle.exact.specs.Series.{AtMostLn, AtLeastLn}
-use Rattle.exact.specs.Rotation.{Rotation, coarse, fine, bitsRotation}
+use Rattle.exact.specs.Rotation.{Rotation, coarse, fine, rotation}
 use Rattle.exact.specs.Pair.{CloseTo}
 use Rattle.tables.specs.Tables.{entryOf, logCoarse, logFine, cosCoarse, sinCoarse, cosFine, sinFine, lnTwo}
 
--- "the nearest whole number to its logarithm times 2^40", for any f in place of 40: (2x - 1) / 2^(f + 1) is at most ln z, and (2x + 1) / 2^(f + 1)
--- at least. Where x is 0 the first is 0.
-pub record NearestLn (f : ℕ) (z : Fraction) (x : ℕ) : Type 0 where
-  pub low : AtMostLn (dyadic (suc f) (2 * x - 1)) z
-  pub high : AtLeastLn (dyadic (suc f) (2 * x + 1)) z
+-- half a unit below x and half a unit above it, the unit being 2^-f; below 0 it is 0
+abbrev pub lower : ℕ → ℕ → Fraction
+lower f x = dyadic (suc f) (2 * x - 1)
 
--- "nearest at 2^30", for any f in place of 30: the two ends of an enclosure at n fraction bits, and so all of its points, are less than half a unit
--- of 2^-f from x.
+abbrev pub upper : ℕ → ℕ → Fraction
+upper f x = dyadic (suc f) (2 * x + 1)
+
+-- "the nearest whole number to its logarithm times 2^40", for any f in place of 40 and any number z
+pub record NearestLn (f : ℕ) (z : Fraction) (x : ℕ) : Type 0 where
+  pub low : AtMostLn (lower f x) z
+  pub high : AtLeastLn (upper f x) z
+
+-- "nearest at 2^30", for any f in place of 30: the two ends of an enclosure at n fraction bits are less than half a unit of 2^-f from x
 pub record NearestIn (f n low high x : ℕ) : Type 0 where
   pub below : 2 * (x * 2 ^ n) < 2 * (2 ^ f * low) + 2 ^ n
   pub above : 2 * (2 ^ f * high) < 2 * (x * 2 ^ n) + 2 ^ n
@@ -28,12 +33,6 @@ NearestCos f n r x = NearestIn f n (r .cosLow) (r .cosHigh) x
 
 abbrev pub NearestSin : ℕ → ℕ → Rotation → ℕ → Type 0
 NearestSin f n r x = NearestIn f n (r .sinLow) (r .sinHigh) x
-
--- "every point": the ends speak for all fractions between them
-abbrev pub Points : Type 0
-Points =
-    (f n low high x : ℕ) → NearestIn f n low high x →
-    CloseTo (halved (whole 1)) f (pos x) (record { negative = false; low = dyadic n low; high = dyadic n high })
 
 -- Each entry is the nearest: of the logarithms at 2^40, and of the rotations at 2^30, in their enclosures at 96 fraction bits.
 pub record Promise : Type 0 where
@@ -45,7 +44,29 @@ pub record Promise : Type 0 where
   pub cos-fine : (b : ℕ) → b < 128 → NearestCos 30 96 (fine 96 b) (entryOf cosFine 0 b)
   pub sin-fine : (b : ℕ) → b < 128 → NearestSin 30 96 (fine 96 b) (entryOf sinFine 0 b)
 
--- What else the steps of a sample ask, at every index, an entry that a table lacks being 0.
+-- What "nearest" says, at any scale. Every point of the enclosure is less than half a unit from x. The coarse tables' rotations are the exact ones
+-- for w = 128 a, the fine tables' those for w = b. A whole number that meets the same promise, for a rotation in any of its enclosures, is x.
+pub record Nearest : Type 0 where
+  pub points :
+      (f n low high x : ℕ) → NearestIn f n low high x →
+      CloseTo (halved (whole 1)) f (pos x) (record { negative = false; low = dyadic n low; high = dyadic n high })
+  pub coarse-is : (n a : ℕ) → rotation n (128 * a) ≡ coarse n a
+  pub fine-is : (n b : ℕ) → b < 128 → rotation n b ≡ fine n b
+  pub ln-unique : (f : ℕ) (z : Fraction) (x y : ℕ) → NearestLn f z x → NearestLn f z y → x ≡ y
+  pub cos-unique : (f w m n x y : ℕ) → NearestCos f m (rotation m w) x → NearestCos f n (rotation n w) y → x ≡ y
+  pub sin-unique : (f w m n x y : ℕ) → NearestSin f m (rotation m w) x → NearestSin f n (rotation n w) y → x ≡ y
+
+-- "Any table [..] gives 0 for an entry that it lacks"
+pub record Lacking : Type 0 where
+  pub log-coarse-below : (h : ℕ) → h < 256 → entryOf logCoarse 256 h ≡ 0
+  pub log-coarse : (h : ℕ) → 512 ≤ h → entryOf logCoarse 256 h ≡ 0
+  pub log-fine : (i : ℕ) → 256 ≤ i → entryOf logFine 0 i ≡ 0
+  pub cos-coarse : (a : ℕ) → 128 ≤ a → entryOf cosCoarse 0 a ≡ 0
+  pub sin-coarse : (a : ℕ) → 128 ≤ a → entryOf sinCoarse 0 a ≡ 0
+  pub cos-fine : (b : ℕ) → 128 ≤ b → entryOf cosFine 0 b ≡ 0
+  pub sin-fine : (b : ℕ) → 128 ≤ b → entryOf sinFine 0 b ≡ 0
+
+-- What the steps of a sample ask besides, at every index.
 pub record Bounds : Type 0 where
   pub ln-two : lnTwo ≤ 762123384786
   pub log-coarse : (h : ℕ) → entryOf logCoarse 256 h ≤ lnTwo
@@ -66,11 +87,3 @@ pub record ExactEntries : Type 0 where
   pub sin-coarse : entryOf sinCoarse 0 0 ≡ 0
   pub cos-fine : entryOf cosFine 0 0 ≡ 2 ^ 30
   pub sin-fine : entryOf sinFine 0 0 ≡ 0
-
--- A whole number that meets the same promise, at any scale, is the same number: the logarithms', and the rotations' in whatever enclosures.
-pub record Unique : Type 0 where
-  pub ln : (f : ℕ) (z : Fraction) (x y : ℕ) → NearestLn f z x → NearestLn f z y → x ≡ y
-  pub cos :
-      (f j count i m n x y : ℕ) → NearestCos f m (bitsRotation m j count i) x → NearestCos f n (bitsRotation n j count i) y → x ≡ y
-  pub sin :
-      (f j count i m n x y : ℕ) → NearestSin f m (bitsRotation m j count i) x → NearestSin f n (bitsRotation n j count i) y → x ≡ y

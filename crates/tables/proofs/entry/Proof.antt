@@ -8,7 +8,7 @@ use Rattle.tables.proofs.entry.Statement.{statement}
 use Rattle.tables.proofs.entry.Tie as tie
 
 returns : tie.Need-returns
-returns c = sym (entry-below _ _ _ (c .if1 .taken))
+returns c = sym (entry-below _ _ _ (omega arith))
 
 mul-result : tie.Need-mul-result
 mul-result c = search needs
