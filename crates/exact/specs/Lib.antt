@@ -10,5 +10,6 @@ pub mod Rotation
 pub mod RootLaws
 pub mod RotationLaws
 pub mod RotationWidth
+pub mod RotationBits
 pub mod Pair
 pub mod MemberLaws

@@ -3,12 +3,13 @@
 use mathlib.Core.Path.{_≡_, refl, sym, ap, ap₂}
 use mathlib.Core.Bool.{false, not}
 use Prim.Native.Nat.{ℕ, zero, suc, _/_, _%_, _+_, _-_, _*_, _^_, _≤_, _<_, min}
-use native.Mathlib.Nat.{mul-le-mul-right, div-eq-of-eq-mul-left, div-eq-of-lt-le}
+use native.Mathlib.Nat.{mul-le-mul-right}
 use lib.Pow.{pow-pos}
 use native.Mathlib.Omega.{arith}
 use Rattle.exact.specs.Fraction.{Fraction, whole, dyadic, _≤ᶠ_, _<ᶠ_, _+ᶠ_}
 use Rattle.exact.specs.Rotation.{Rotation, quarter, compose, quotientUp, rotation}
-use Rattle.exact.specs.RotationLaws.{Good, quotient-up-at-least, quotient-up-least, rotation-good, rotations-overlap}
+use Rattle.exact.specs.RotationLaws.{Good, rotation-good, rotations-overlap}
+use Rattle.exact.specs.RotationBits.{floor-exact, ceiling-exact}
 use Rattle.exact.specs.RotationWidth.{rotation-narrow}
 use Rattle.exact.specs.Pair.{Enclosure, turn, negate, sineOf, cosineOf, members}
 
@@ -32,11 +33,9 @@ pub turn-quarter : (n : ℕ) (r : Rotation) → Good n r →
     sineOf n (compose n r (quarter n)) ≡ turn negate 1 (sineOf n r, cosineOf n r) .0
 unfolding compose
 turn-quarter n r g =
-    let N : ℕ = 2 ^ n in
-    let low : (r .sinLow * 0 + r .cosLow * N) / N ≡ r .cosLow = div-eq-of-eq-mul-left (pow-pos n) (omega arith) in
-    let up : quotientUp (r .sinHigh * 0 + r .cosHigh * N) N ≡ r .cosHigh =
-    div-eq-of-lt-le N (omega arith) (omega (arith, pow-pos n)) in
-    let high : min N (quotientUp (r .sinHigh * 0 + r .cosHigh * N) N) ≡ r .cosHigh = omega (arith, up, g .cosineMost) in
+    let low : (r .sinLow * 0 + r .cosLow * 2 ^ n) / 2 ^ n ≡ r .cosLow = floor-exact (2 ^ n) _ _ (pow-pos n) (omega arith) in
+    let high : min (2 ^ n) (quotientUp (r .sinHigh * 0 + r .cosHigh * 2 ^ n) (2 ^ n)) ≡ r .cosHigh =
+    ceiling-exact (2 ^ n) _ _ (pow-pos n) (omega arith) (g .cosineMost) in
     ap₂ {A = ℕ} {B = ℕ} (λ x y. record { negative = false; low = dyadic n x; high = dyadic n y }) low high
 
 -- Where a relation of two enclosures is kept when both change sign, it is kept by the quarter turns.

@@ -30,7 +30,7 @@ pub record Good (n : ℕ) (r : Rotation) : Type 0 where
   pub sineMost : r .sinHigh ≤ 2 ^ n
   pub unit : r .cosLow * r .cosLow + r .sinLow * r .sinLow ≤ 2 ^ n * 2 ^ n
 
-good-none : (n : ℕ) → Good n (none n)
+pub good-none : (n : ℕ) → Good n (none n)
 good-none n = omega arith
 
 good-quarter : (n : ℕ) → Good n (quarter n)
@@ -116,7 +116,7 @@ good-bit n j (suc b) = good-halving n j
 pub good-bits : (n j count x : ℕ) → Good n (bitsRotation n j count x)
 unfolding bitsRotation
 good-bits n j zero x = good-none n
-good-bits n j (suc count) x = good-compose n (good-bits n j count (x / 2)) (good-bit n (j + suc count) (x % 2))
+good-bits n j (suc count) x = good-compose n (good-bits n j count (x / 2)) (good-bit n _ (x % 2))
 
 -- every enclosure of every rotation is good
 pub rotation-good : (n w : ℕ) → Good n (rotation n w)
@@ -212,7 +212,7 @@ inside-bit n d j (suc b) = inside-halving n d j
 inside-bits : (n d j count x : ℕ) → Inside d (bitsRotation n j count x) (bitsRotation (n + d) j count x)
 unfolding bitsRotation
 inside-bits n d j zero x = inside-none n d
-inside-bits n d j (suc count) x = inside-compose n d (inside-bits n d j count (x / 2)) (inside-bit n d (j + suc count) (x % 2))
+inside-bits n d j (suc count) x = inside-compose n d (inside-bits n d j count (x / 2)) (inside-bit n d _ (x % 2))
 
 -- enclosures at m ≥ n bits lie inside those at n bits
 pub rotation-nested : (n d w : ℕ) → Inside d (rotation n w) (rotation (n + d) w)

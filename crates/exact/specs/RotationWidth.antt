@@ -148,8 +148,8 @@ narrowing-bits : (j count : ℕ) → Narrowing (λ n x. bitsRotation n j count x
 unfolding bitsRotation
 narrowing-bits j zero = narrowing-none
 narrowing-bits j (suc count) =
-    narrowing-compose (λ n x. good-bits n j count (x / 2)) (λ n x. good-bit n (j + suc count) (x % 2))
-    (narrowing-at (λ x. x / 2) (narrowing-bits j count)) (narrowing-at (λ x. x % 2) (narrowing-bit (j + suc count)))
+    narrowing-compose (λ n x. good-bits n j count (x / 2)) (λ n x. good-bit n _ (x % 2))
+    (narrowing-at (λ x. x / 2) (narrowing-bits j count)) (narrowing-at (λ x. x % 2) (narrowing-bit _))
 
 narrowing-rotation : Narrowing rotation
 unfolding rotation
