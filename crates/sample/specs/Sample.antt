@@ -2,8 +2,10 @@
 -- Assumes nothing.
 use mathlib.Core.List.{List, [], _∷_}
 use Prim.Native.Nat.{ℕ, _+_, _/_, _%_, _^_}
+use native.Mathlib.Omega.{arith}
 use lib.Dec.{leb, ltb}
 use lib.IntN.{ℤ, pos}
+use Rattle.exact.specs.Fraction.{Fraction}
 use Rattle.sample.specs.declared.Samples.{Samples}
 use Rattle.sample.specs.Steps.{pick, numerator, radius, rotation, rounded}
 use Rattle.tables.specs.Tables.{logCoarse, logFine, cosCoarse, sinCoarse, cosFine, sinFine, lnTwo, entryOf}
@@ -32,6 +34,10 @@ unfoldable pub samplesOf : ℕ → ℕ → Samples
 samplesOf k v =
     pick (leb (2 ^ 48) k) (refused 2)
     (pick (ltb 65535 v) (refused 3) (record { number = 0; first = firstOf k v; second = secondOf k v }))
+
+-- Demand 3: "I hold you to the nine sixteenths"
+abbrev pub nineSixteenths : Fraction
+nineSixteenths = record { top = 9; bottom = 16; positive = omega arith }
 
 -- The two numbers of a pair as one, z = 65536 k + v, and its two samples.
 abbrev pub firstAt : ℕ → ℤ
