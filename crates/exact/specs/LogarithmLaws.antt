@@ -16,17 +16,6 @@ use Rattle.exact.specs.SeriesLaws.{partialSum-at-most-scaled, scaled-at-
 use Rattle.exact.specs.SeriesLaws.{partialSum-grows, partialSum-mono, partialSum-strict}
 use Rattle.exact.specs.SeriesSums.{partialSum-sum-at-most, partialSum-sum-at-least}
 
--- What is below a lower cut is one too, also for a greater number; so a fraction may be put for an equal one.
-pub ln-at-most-mono : (y y' z z' : Fraction) → y' ≤ᶠ y → z ≤ᶠ z' → AtMostLn y z → AtMostLn y' z'
-unfolding AtMostLn
-ln-at-most-mono y y' z z' h k cut n =
-    chained (partialSum y' n ≤ᶠ⟨ partialSum-mono y' y n h ⟩ partialSum y n ≤ᶠ⟨ cut n ⟩ z ≤ᶠ⟨ k ⟩ z' ∎ᶠ)
-
-pub ln-at-least-mono : (y y' z z' : Fraction) → y ≤ᶠ y' → z' ≤ᶠ z → AtLeastLn y z → AtLeastLn y' z'
-unfolding AtLeastLn
-ln-at-least-mono y y' z z' h k (n, reached) =
-    (n, chained (z' ≤ᶠ⟨ k ⟩ z ≤ᶠ⟨ reached ⟩ partialSum y n ≤ᶠ⟨ partialSum-mono y y' n h ⟩ partialSum y' n ∎ᶠ))
-
 -- A lower cut of a logarithm is at most every upper cut.
 pub logarithm-cuts-meet : (y y' z : Fraction) → AtMostLn y z → AtLeastLn y' z → y ≤ᶠ y'
 unfolding AtMostLn AtLeastLn
@@ -43,6 +32,17 @@ logarithm-cuts-meet y y' z most (n, reached) = decided (≤ᶠ-or-<ᶠ y y')
         (lt-irrefl _
         (≤ᶠ-<ᶠ-trans z (partialSum y' (suc n)) z reached-later
         (<ᶠ-≤ᶠ-trans (partialSum y' (suc n)) (partialSum y (suc n)) z (partialSum-strict y' y n h) (most (suc n)))))
+
+-- What is below a lower cut is one too, also for a greater number; so a fraction may be put for an equal one.
+pub ln-at-most-mono : (y y' z z' : Fraction) → y' ≤ᶠ y → z ≤ᶠ z' → AtMostLn y z → AtMostLn y' z'
+unfolding AtMostLn
+ln-at-most-mono y y' z z' h k cut n =
+    chained (partialSum y' n ≤ᶠ⟨ partialSum-mono y' y n h ⟩ partialSum y n ≤ᶠ⟨ cut n ⟩ z ≤ᶠ⟨ k ⟩ z' ∎ᶠ)
+
+pub ln-at-least-mono : (y y' z z' : Fraction) → y ≤ᶠ y' → z' ≤ᶠ z → AtLeastLn y z → AtLeastLn y' z'
+unfolding AtLeastLn
+ln-at-least-mono y y' z z' h k (n, reached) =
+    (n, chained (z' ≤ᶠ⟨ k ⟩ z ≤ᶠ⟨ reached ⟩ partialSum y n ≤ᶠ⟨ partialSum-mono y y' n h ⟩ partialSum y' n ∎ᶠ))
 
 -- Sums: the logarithm of a product.
 pub ln-sum-at-most : (y y' z z' : Fraction) → AtMostLn y z → AtMostLn y' z' → AtMostLn (y +ᶠ y') (z *ᶠ z')
