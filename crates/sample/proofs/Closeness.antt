@@ -1,8 +1,10 @@
 -- Demand 3: each sample is less than nine sixteenths of a unit from its member of the exact pair.
 -- Assumes nothing.
+use mathlib.Core.Path.{_≡_}
 use Prim.Native.Nat.{ℕ, suc, _+_, _-_, _*_, _^_, _≤_, _<_, max}
-use native.Mathlib.Nat.{le-refl}
+use native.Mathlib.Nat.{le-refl, le-of-suc-le-suc}
 use native.Mathlib.Omega.{arith}
+use borrow.Author.Tests.{lt-leb, le-ltb}
 use Rattle.exact.specs.Fraction.{dyadic}
 use Rattle.exact.specs.Radius.{RadiusEnclosure}
 use Rattle.exact.specs.Pair.{Close, members}
@@ -11,7 +13,8 @@ use Rattle.tables.proofs.Promise.{promise}
 use Rattle.tables.proofs.Bounds.{bounds}
 use Rattle.tables.specs.Tables.{logCoarse, logFine, lnTwo, entryOf}
 use Rattle.sample.specs.Steps.{numerator, radius}
-use Rattle.sample.specs.Sample.{nineSixteenths, radiusOf, rotationOf, firstOf, secondOf}
+use Rattle.sample.specs.Sample.{nineSixteenths, radiusOf, rotationOf, firstOf, secondOf, samplesOf}
+use Rattle.sample.specs.declared.Samples.{Samples}
 use Rattle.sample.proofs.Margin.Rounding.{member-close}
 use Rattle.sample.proofs.Margin.Radius.{Logs, enclosure-low, enclosure-high, radius-small}
 use Rattle.sample.proofs.Margin.Members.{members-near}
@@ -48,3 +51,14 @@ by-promise promise bounds k v hk hv =
 
 pub samples-close : (k v : ℕ) → k < 2 ^ 48 → v < 65536 → Close nineSixteenths 11 48 k v (firstOf k v) (secondOf k v)
 samples-close = by-promise promise bounds
+
+-- what the call returns is document 01's answer, and so it is close
+pub answer-close : (k v : ℕ) (r : Samples) → r ≡ samplesOf k v
+    → (r ≡ samplesOf k v) × (k < 2 ^ 48 → v < 65536 → Close nineSixteenths 11 48 k v (r .first) (r .second))
+unfolding samplesOf
+answer-close k v r e = (e, close)
+  where
+    close : k < 2 ^ 48 → v < 65536 → Close nineSixteenths 11 48 k v (r .first) (r .second)
+    close hk hv =
+        let accepted = rw (lt-leb (2 ^ 48) k hk, le-ltb 65535 v (le-of-suc-le-suc hv)) at e in
+        rw accepted (samples-close k v hk hv)

@@ -4,8 +4,8 @@ ghost use Prim.Native.Nat.{_+_, _-_, _*_, _^_, _≤_, _<_};
 ghost use Rattle.tables.specs.Tables.{entryOf};
 ghost use Rattle.sample.specs.Steps.{numerator, topBit, mantissa, coarse, fine, correction, logarithm, wholeRoot, radius, sine, cosine, rounded};
 ghost use Rattle.sample.specs.Parts.{Rotations, Loaded, withSign, valueOf};
-ghost use Rattle.sample.specs.Sample.{firstAt, secondAt, samplesOf};
-ghost use Rattle.exact.specs.Pair.{turn};
+ghost use Rattle.sample.specs.Sample.{firstAt, secondAt, samplesOf, nineSixteenths};
+ghost use Rattle.exact.specs.Pair.{turn, Close};
 ghost use lib.IntN.{pos, negℤ};
 
 pub struct Samples {
@@ -259,9 +259,11 @@ fn pair_of(
     }
 }
 
-// The two samples of k and v.
+// The two samples of k and v: document 01's steps (demand 2), and so each less than nine sixteenths of a unit of 2^-11 from its member of the exact
+// pair of the same two numbers (demand 3).
 pub fn sample(k: u64, v: u32) -> Samples
     ensures steps { λ r. ⌜ r ≡ samplesOf k v ⌝ }
+    ensures close { λ r. ⌜ (k < 2 ^ 48 → v < 65536 → Close nineSixteenths 11 48 k v (r .first) (r .second)) ⌝ }
 {
     if 0x1_0000_0000_0000 <= k {
         return Samples {

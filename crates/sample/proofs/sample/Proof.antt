@@ -8,6 +8,7 @@ use lib.IntN.{ℤ}
 use mir.Syntax.{w16}
 use mir.Facts.{toZ-ofZ}
 use Rattle.sample.specs.Sample.{firstOf, secondOf, samplesOf}
+use Rattle.sample.proofs.Closeness.{answer-close}
 use borrow.Author.Needs.{needs}
 use Rattle.sample.proofs.sample.Statement.{statement}
 use Rattle.sample.proofs.sample.Tie as tie
@@ -24,11 +25,13 @@ use Rattle.tables.proofs.sin_fine.Reads as sin-fine-reads
 
 returns : tie.Need-returns
 unfolding samplesOf
-returns c = rw (le-leb (2 ^ 48) (c .before .args .k) (c .if1 .taken)) refl
+returns c = answer-close _ _ _ (rw (le-leb (2 ^ 48) (c .before .args .k) (c .if1 .taken)) refl)
 
 returns-2 : tie.Need-returns-2
 unfolding samplesOf
-returns-2 c = rw (lt-leb (2 ^ 48) (c .before .before .args .k) (c .before .if1 .left), lt-ltb 65535 (c .before .before .args .v) (c .if2 .taken)) refl
+returns-2 c =
+    answer-close _ _ _
+    (rw (lt-leb (2 ^ 48) (c .before .before .args .k) (c .before .if1 .left), lt-ltb 65535 (c .before .before .args .v) (c .if2 .taken)) refl)
 
 log-coarse-requires : tie.Need-log-coarse-requires
 log-coarse-requires c κs = search needs
@@ -90,10 +93,11 @@ returns-3 c =
     let v = tested .before .before .args .v in
     let a = apart k v (tested .if2 .left) in
     let given = c .struct-told .given in
-    rw (lt-leb (2 ^ 48) k (tested .before .if1 .left), le-ltb 65535 v (tested .if2 .left))
+    answer-close _ _ _
+    (rw (lt-leb (2 ^ 48) k (tested .before .if1 .left), le-ltb 65535 v (tested .if2 .left))
     (ap₂ (λ (x y : ℤ). record { number = 0; first = x; second = y })
     (toZ-ofZ {w = w16} {z = c .before .pair-of .result .first} (record { sfits = given .0 .1 }) ∙ c .before .pair-of .ensures .0 ∙ ap₂ firstOf (a .0) (a .1))
-    (toZ-ofZ {w = w16} {z = c .before .pair-of .result .second} (record { sfits = given .1 .0 .1 }) ∙ c .before .pair-of .ensures .1 ∙ ap₂ secondOf (a .0) (a .1)))
+    (toZ-ofZ {w = w16} {z = c .before .pair-of .result .second} (record { sfits = given .1 .0 .1 }) ∙ c .before .pair-of .ensures .1 ∙ ap₂ secondOf (a .0) (a .1))))
 
 pub sample-spec : {M : Type 1} → statement M
 sample-spec =
