@@ -1,3 +1,4 @@
 pub mod Decimal
 pub mod Fields
 pub mod RoundTrip
+pub mod Scan

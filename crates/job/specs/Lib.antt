@@ -1,4 +1,5 @@
 pub mod Ascii
 pub mod Numbers
 pub mod Forms
+pub mod Answers
 pub mod Lines

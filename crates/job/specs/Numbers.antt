@@ -10,13 +10,16 @@ unfoldable pub all : (ℕ → Bool) → List ℕ → Bool
 all p [] = true
 all p (x ∷ xs) = p x && all p xs
 
+abbrev pub within : ℕ → ℕ → ℕ → Bool
+within low high b = leb low b && leb b high
+
 -- the ASCII digits, 0 to 9
 unfoldable pub digit : ℕ → Bool
-digit b = leb 48 b && leb b 57
+digit b = within 48 57 b
 
 -- the ASCII letters, A to Z and a to z
 unfoldable pub letter : ℕ → Bool
-letter b = leb 65 b && leb b 90 || leb 97 b && leb b 122
+letter b = within 65 90 b || within 97 122 b
 
 unfoldable pub letterOrDigit : ℕ → Bool
 unfolding letter digit

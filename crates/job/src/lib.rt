@@ -1,1 +1,2 @@
 // Jobs and their listings (document 01, "A job and its listing").
+mod field;
