@@ -10,7 +10,7 @@ use lib.ListN.{length, getD, drop, take-append-drop}
 use lib.Seq.{drop-append-seam}
 use borrow.Author.Tests.{ne-eqb, eqb-true, eq-eqb}
 use Rattle.job.specs.Numbers.{all}
-use Rattle.job.specs.Forms.{fill, separator, field, startsWith, isEmpty, lead, cut}
+use Rattle.job.specs.Forms.{fill, separator, field, startsWith, isEmpty, lead, cut, marks}
 
 -- a field that holds no separator
 unfoldable pub plain : List ℕ → Bool
@@ -30,11 +30,6 @@ unfoldable pub formed : List ℕ → Bool
 unfolding startsSeparate
 formed [] = true
 formed (f ∷ form) = cond (eqb f 35) (startsSeparate form && formed form) (formed form)
-
--- the number of fields
-unfoldable pub marks : List ℕ → ℕ
-marks [] = 0
-marks (f ∷ form) = cond (eqb f 35) (suc (marks form)) (marks form)
 
 not-mark : (x : ℕ) → separator x ≡ true → eqb x 35 ≡ false
 unfolding separator

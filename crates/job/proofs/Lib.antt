@@ -2,3 +2,4 @@ pub mod Decimal
 pub mod Fields
 pub mod RoundTrip
 pub mod Scan
+pub mod Cuts

@@ -12,9 +12,9 @@ use lib.ListN.{length, getD, drop, drop-of-length-le}
 use lib.Seq.{drop-cons}
 use borrow.Author.Tests.{ne-eqb, leb-true}
 use Rattle.job.specs.Numbers.{all, digit, letter, letterOrDigit, name, numeral, value, decimal}
-use Rattle.job.specs.Forms.{Form, seeds, sigma, shot, noForm, seedsForm, sigmaForm, shotForm, fill, separator, cut, startsWith, field, isEmpty, seedsOf, sigmaOf, shotOf, orElse, readLine, printLine}
+use Rattle.job.specs.Forms.{Form, seeds, sigma, shot, noForm, seedsForm, sigmaForm, shotForm, fill, marks, separator, cut, startsWith, field, isEmpty, seedsOf, sigmaOf, shotOf, orElse, readLine, printLine}
 use Rattle.job.proofs.Decimal.{numeral-decimal, value-decimal, decimal-value, decimal-digits, numeral-is, digit-range}
-use Rattle.job.proofs.Fields.{plain, allPlain, formed, marks, startsSeparate, cut-byte, fill-byte, starts-same, starts-other, cut-fill, fill-cut, cut-count}
+use Rattle.job.proofs.Fields.{plain, allPlain, formed, startsSeparate, cut-byte, fill-byte, starts-same, starts-other, cut-fill, fill-cut, cut-count}
 
 -- what can be printed: names that are names, numbers of at most 10 digits
 unfoldable pub Printable : Form → Type 0

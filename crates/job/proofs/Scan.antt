@@ -14,7 +14,7 @@ use borrow.Author.Tests.{lt-leb, le-leb, eq-eqb, ne-eqb, lt-ltb, le-ltb}
 use Rattle.job.specs.Numbers.{all, value, digit, numeral}
 use Rattle.job.specs.Forms.{separator, field}
 
-ahead : (l : List ℕ) (i : ℕ) → i < length l → drop i l ≡ getD l i 0 ∷ drop (i + 1) l
+pub ahead : (l : List ℕ) (i : ℕ) → i < length l → drop i l ≡ getD l i 0 ∷ drop (i + 1) l
 ahead l i h = rw add-one (drop-cons l i 0 h)
 
 module _ (p : ℕ → Bool) (l : List ℕ) (i : ℕ) where

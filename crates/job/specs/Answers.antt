@@ -1,11 +1,14 @@
 -- What the answers of the readers mean.
-use Prim.Native.Nat.{ℕ, _-_}
+use Prim.Native.Nat.{ℕ, _+_, _-_}
 use mathlib.Core.Path.{_≡_}
-use mathlib.Core.Bool.{Bool, cond}
-use mathlib.Core.List.{List, []}
-use lib.Dec.{leb}
-use lib.ListN.{length, take, drop}
+use mathlib.Core.Bool.{Bool, true, false, cond}
+use mathlib.Core.Option.{Option, some, none}
+use mathlib.Core.List.{List, [], map}
+use lib.Dec.{leb, eqb}
+use lib.ListN.{length, getD, take, drop, set}
 use Rattle.job.specs.Numbers.{value}
+use Rattle.job.specs.Forms.{field}
+use Rattle.job.specs.declared.line.Cutting.{Cutting}
 use Rattle.job.specs.declared.field.Numeral.{Numeral}
 use Rattle.job.specs.declared.field.Place.{Place}
 
@@ -17,3 +20,20 @@ partOf line p = cond (leb (p .to) (length line)) (take (p .to - p .from) (drop (
 pub record Spells (test : Bool) (digits : List ℕ) (r : Numeral) : Type 0 where
   pub ok : r .ok ≡ test
   pub value : r .value ≡ cond test (value 0 digits) 0
+
+abbrev pub fieldsAt : List ℕ → List Place → List (List ℕ)
+fieldsAt line places = map (partOf line) places
+
+-- the fields that a cutting found: as many of its places as the form has, or none
+unfoldable pub fieldsOf : List ℕ → ℕ → Cutting → Option (List (List ℕ))
+fieldsOf line n c = cond (c .ok) (some (fieldsAt line (take n (c .places)))) none
+
+-- one byte of a form: # takes the next field, any other byte is the line's next
+unfoldable pub nextOf : ℕ → List ℕ → Cutting → Cutting
+nextOf f line c =
+    let end = c .at + length (field (drop (c .at) line)) in
+    cond (eqb f 35)
+    (record { ok = true; at = end; count = c .count + 1; places = set (c .places) (c .count) (record { from = c .at; to = end }) })
+    (cond (leb (length line) (c .at))
+    (record { ok = false; at = c .at; count = c .count; places = c .places })
+    (record { ok = eqb (getD line (c .at) 0) f; at = c .at + 1; count = c .count; places = c .places }))

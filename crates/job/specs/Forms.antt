@@ -21,6 +21,11 @@ sigmaForm = ascii "(sigma # #)\n"
 unfoldable pub shotForm : List ℕ
 shotForm = ascii "(shot # # # #)\n"
 
+-- the number of its fields
+unfoldable pub marks : List ℕ → ℕ
+marks [] = 0
+marks (f ∷ form) = cond (eqb f 35) (suc (marks form)) (marks form)
+
 -- The printer: the form with its fields in the places marked #
 unfoldable pub fill : List ℕ → List (List ℕ) → List ℕ
 fill [] fields = []

@@ -1,2 +1,3 @@
 // Jobs and their listings (document 01, "A job and its listing").
 mod field;
+mod line;
