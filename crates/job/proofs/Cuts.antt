@@ -115,7 +115,7 @@ module _ (form line : List ℕ) (c : Cutting) (i : ℕ) (fit : Fits form line c 
         index = omega arith;
         count = k;
         array = rw length-set (fit .array);
-        cuts = fit .cuts ∙ rw (cut-at-mark form line i (c .at) more e, after-lead, fields-mark (omega (arith, k)))
+        cuts = fit .cuts ∙ rw (cut-at-mark form line i (c .at) more e, after-lead, fields-mark (omega (arith, k)));
       })
 
   -- where the next byte fits, the cutting goes on, and where not, the line is not of the form
@@ -134,7 +134,7 @@ module _ (form line : List ℕ) (c : Cutting) (i : ℕ) (fit : Fits form line c 
             index = omega arith;
             count = omega (arith, fit .count, ap marks (ahead form i more), marks-byte b (drop (i + 1) form) e);
             array = fit .array;
-            cuts = fit .cuts ∙ rw (cut-at-byte form line i (c .at) more e h, o)
+            cuts = fit .cuts ∙ rw (cut-at-byte form line i (c .at) more e h, o);
           })
 
   pub fit-none : nextOf b line c .ok ≡ false → cut form line ≡ none
@@ -156,7 +156,7 @@ fit-start form line c o a n l =
       index = omega arith;
       count = omega (arith, n);
       array = l;
-      cuts = rw (a, n) (whole (cut form line))
+      cuts = rw (a, n) (whole (cut form line));
     }
   where
     whole : (o : Option (List (List ℕ))) → o ≡ after [] o

@@ -3,3 +3,4 @@ pub mod Fields
 pub mod RoundTrip
 pub mod Scan
 pub mod Cuts
+pub mod Reading

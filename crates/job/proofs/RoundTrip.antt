@@ -120,7 +120,7 @@ all-formed : (formed seedsForm ≡ true) × (formed sigmaForm ≡ true) × (form
 unfolding formed startsSeparate seedsForm sigmaForm shotForm separator
 all-formed = (refl, refl, refl)
 
-all-marks : (6 ≡ marks seedsForm) × (2 ≡ marks sigmaForm) × (4 ≡ marks shotForm)
+pub all-marks : (6 ≡ marks seedsForm) × (2 ≡ marks sigmaForm) × (4 ≡ marks shotForm)
 unfolding marks seedsForm sigmaForm shotForm
 all-marks = (refl, refl, refl)
 
@@ -181,6 +181,11 @@ fill-places form l vs n k h = ap (λ (ws : List (List ℕ)). fill form ws) (sym 
 Printed : List ℕ → Form → Type 0
 Printed l x = Printable x × (printLine x ≡ l)
 
+three-true : (a b c : Bool) → a && b && c ≡ true → (a ≡ true) × (b ≡ true) × (c ≡ true)
+three-true a b c h =
+    let t = and-eq-true-iff (a && b) c .0 h in
+    let u = and-eq-true-iff a b .0 (t .0) in (u .0, u .1, t .1)
+
 four : (a b c d : Bool) → a && b && c && d ≡ true → (a ≡ true) × (b ≡ true) × (c ≡ true) × (d ≡ true)
 four a b c d h =
     let t = and-eq-true-iff (a && b && c) d .0 h in
@@ -193,21 +198,30 @@ module _ (l : List ℕ) (vs : List (List ℕ)) where
 
   seeds-read : cut seedsForm l ≡ some vs → (seedsOf vs ≡ noForm → ⊥) → Printed l (seedsOf vs)
   unfolding seedsOf Printed Printable printLine v
-  seeds-read h k = split (numeral (v 0) && numeral (v 1) && numeral (v 2) && numeral (v 3) && numeral (v 4) && numeral (v 5)) refl k
+  seeds-read h k = split (three 0 && three 3) refl k
     where
+      three : ℕ → Bool
+      three i = numeral (v i) && numeral (v (i + 1)) && numeral (v (i + 2))
+
       x : Form
       x = seeds (value 0 (v 0)) (value 0 (v 1)) (value 0 (v 2)) (value 0 (v 3)) (value 0 (v 4)) (value 0 (v 5))
 
-      split : (b : Bool) → numeral (v 0) && numeral (v 1) && numeral (v 2) && numeral (v 3) && numeral (v 4) && numeral (v 5) ≡ b
-          → (cond b x noForm ≡ noForm → ⊥) → Printed l (cond b x noForm)
+      split : (b : Bool) → three 0 && three 3 ≡ b → (cond b x noForm ≡ noForm → ⊥) → Printed l (cond b x noForm)
       split false e k = absurd (k refl)
       split true e k =
-          let t = and-eq-true-iff (numeral (v 0) && numeral (v 1) && numeral (v 2) && numeral (v 3) && numeral (v 4)) (numeral (v 5)) .0 e in
-          let u = and-eq-true-iff (numeral (v 0) && numeral (v 1) && numeral (v 2) && numeral (v 3)) (numeral (v 4)) .0 (t .0) in
-          let n = four (numeral (v 0)) (numeral (v 1)) (numeral (v 2)) (numeral (v 3)) (u .0) in (
-            (numeral-below (v 0) (n .0), numeral-below (v 1) (n .1), numeral-below (v 2) (n .2), numeral-below (v 3) (n .3), numeral-below (v 4) (u .1), numeral-below (v 5) (t .1)),
-            rw (decimal-value (v 0) (n .0), decimal-value (v 1) (n .1), decimal-value (v 2) (n .2), decimal-value (v 3) (n .3), decimal-value (v 4) (u .1), decimal-value (v 5) (t .1))
-                (fill-places seedsForm l vs 6 (all-marks .0) h),
+          let t = and-eq-true-iff (three 0) (three 3) .0 e in
+          let m = three-true (numeral (v 0)) (numeral (v 1)) (numeral (v 2)) (t .0) in
+          let n = three-true (numeral (v 3)) (numeral (v 4)) (numeral (v 5)) (t .1) in (
+            (
+              numeral-below (v 0) (m .0),
+              numeral-below (v 1) (m .1),
+              numeral-below (v 2) (m .2),
+              numeral-below (v 3) (n .0),
+              numeral-below (v 4) (n .1),
+              numeral-below (v 5) (n .2),
+            ),
+            rw (decimal-value (v 0) (m .0), decimal-value (v 1) (m .1), decimal-value (v 2) (m .2), decimal-value (v 3) (n .0))
+                (rw (decimal-value (v 4) (n .1), decimal-value (v 5) (n .2)) (fill-places seedsForm l vs 6 (all-marks .0) h)),
           )
 
   sigma-read : cut sigmaForm l ≡ some vs → (sigmaOf vs ≡ noForm → ⊥) → Printed l (sigmaOf vs)

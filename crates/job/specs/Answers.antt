@@ -1,14 +1,17 @@
 -- What the answers of the readers mean.
 use Prim.Native.Nat.{ℕ, _+_, _-_}
 use mathlib.Core.Path.{_≡_}
-use mathlib.Core.Bool.{Bool, true, false, cond}
+use mathlib.Core.Bool.{Bool, true, false, cond, _&&_}
 use mathlib.Core.Option.{Option, some, none}
 use mathlib.Core.List.{List, [], map}
 use lib.Dec.{leb, eqb}
 use lib.ListN.{length, getD, take, drop, set}
-use Rattle.job.specs.Numbers.{value}
-use Rattle.job.specs.Forms.{field}
+use Rattle.job.specs.Numbers.{value, numeral}
+use Rattle.job.specs.Forms.{field, Form, seeds, sigma, shot, noForm}
 use Rattle.job.specs.declared.line.Cutting.{Cutting}
+use Rattle.job.specs.declared.line.Three.{Three}
+use Rattle.job.specs.declared.line.Line.{Line}
+use Rattle.job.specs.declared.line.Line.the-variants.{Seeds, Sigma, Shot, NoForm}
 use Rattle.job.specs.declared.field.Numeral.{Numeral}
 use Rattle.job.specs.declared.field.Place.{Place}
 
@@ -37,3 +40,21 @@ nextOf f line c =
     (cond (leb (length line) (c .at))
     (record { ok = false; at = c .at; count = c .count; places = c .places })
     (record { ok = eqb (getD line (c .at) 0) f; at = c .at + 1; count = c .count; places = c .places }))
+
+-- the field at the i-th place
+abbrev pub partAt : List ℕ → Cutting → ℕ → List ℕ
+partAt line c i = partOf line (getD (c .places) i (record { from = 0; to = 0 }))
+
+-- the numbers at three places, ok where all three are numbers
+pub record SpellThree (line : List ℕ) (c : Cutting) (i : ℕ) (r : Three) : Type 0 where
+  pub ok : r .ok ≡ numeral (partAt line c i) && numeral (partAt line c (i + 1)) && numeral (partAt line c (i + 2))
+  pub first : r .ok ≡ true → r .first ≡ value 0 (partAt line c i)
+  pub second : r .ok ≡ true → r .second ≡ value 0 (partAt line c (i + 1))
+  pub third : r .ok ≡ true → r .third ≡ value 0 (partAt line c (i + 2))
+
+-- What each case of the enum says of a line: the three kinds with their values, or no form
+abbrev pub said : List ℕ → Line → Form
+said line (Seeds s) = seeds (s .a0) (s .a1) (s .a2) (s .b0) (s .b1) (s .b2)
+said line (Sigma s) = sigma (s .distance) (s .bearing)
+said line (Shot s) = shot (partOf line (s .from)) (partOf line (s .to)) (s .distance) (s .bearing)
+said line NoForm = noForm

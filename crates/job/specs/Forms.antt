@@ -1,5 +1,5 @@
 -- The three forms of a line (document 01, "A job and its listing"): the printer and the reader of each.
-use Prim.Native.Nat.{ℕ, zero, suc}
+use Prim.Native.Nat.{ℕ, zero, suc, _+_}
 use mathlib.Core.Bool.{Bool, true, false, cond, not, _&&_, _||_}
 use mathlib.Core.List.{List, [], _∷_, _++_}
 use mathlib.Core.Option.{Option, some, none}
@@ -78,9 +78,13 @@ numberAt fields i = value 0 (fieldAt fields i)
 abbrev pub numeralAt : List (List ℕ) → ℕ → Bool
 numeralAt fields i = numeral (fieldAt fields i)
 
+-- three numbers from a place on
+abbrev pub threeAt : List (List ℕ) → ℕ → Bool
+threeAt fields i = numeralAt fields i && numeralAt fields (i + 1) && numeralAt fields (i + 2)
+
 unfoldable pub seedsOf : List (List ℕ) → Form
 seedsOf v =
-    cond (numeralAt v 0 && numeralAt v 1 && numeralAt v 2 && numeralAt v 3 && numeralAt v 4 && numeralAt v 5)
+    cond (threeAt v 0 && threeAt v 3)
     (seeds (numberAt v 0) (numberAt v 1) (numberAt v 2) (numberAt v 3) (numberAt v 4) (numberAt v 5))
     noForm
 

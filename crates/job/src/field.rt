@@ -105,7 +105,10 @@ fn spelled(part: &[u8]) -> Numeral
     while i < part.len() {
         let b = part[i];
         if !is_within(48, 57, b) {
-            return Numeral { ok: false, value: 0 };
+            return Numeral {
+                ok: false,
+                value: 0,
+            };
         }
         value = value * 10 + (b - 48) as u64;
         i += 1;
@@ -119,16 +122,25 @@ pub fn number(part: &[u8]) -> Numeral
 {
     let n = part.len();
     if n < 1 {
-        return Numeral { ok: false, value: 0 };
+        return Numeral {
+            ok: false,
+            value: 0,
+        };
     }
     if 10 < n {
-        return Numeral { ok: false, value: 0 };
+        return Numeral {
+            ok: false,
+            value: 0,
+        };
     }
     if n == 1 {
         return spelled(part);
     }
     if part[0] == 48 {
-        return Numeral { ok: false, value: 0 };
+        return Numeral {
+            ok: false,
+            value: 0,
+        };
     }
     spelled(part)
 }

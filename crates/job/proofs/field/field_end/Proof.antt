@@ -33,7 +33,7 @@ is-separator-requires c κs = search needs
 
 -- src/field.rt:142:13
 returns : tie.Need-returns Inv-loop μ-loop
-returns c = 
+returns c =
     let at = c .before .before .before .before in
     let test = c .before .before .before .loop-test .taken in
     omega (arith, at .loop .inv .1, ap length (field-stop (at .before .before .args .line .now) (at .loop .end) test (sym (c .before .is-separator .ensures) ∙ c .if1 .taken)))
@@ -48,7 +48,7 @@ loop-less c = search needs
 
 -- src/field.rt:140:5
 loop-again : tie.Need-loop-again Inv-loop μ-loop
-loop-again c = 
+loop-again c =
     let at = c .before .before .before .before in
     let test = c .before .before .before .loop-test .taken in
     (omega arith, omega (arith, at .loop .inv .1, ap length (field-ahead (at .before .before .args .line .now) (at .loop .end) test (sym (c .before .is-separator .ensures) ∙ c .if1 .left))))

@@ -22,7 +22,7 @@ spelled-requires c κs = search needs
 
 -- src/field.rt:128:9
 returns-3 : tie.Need-returns-3
-returns-3 c = 
+returns-3 c =
     let l = c .before .before .before .before .before .args .part .now in
     rw (← numeral-digits l (omega arith) (omega arith) (λ h e. omega arith)) (c .spelled .ensures)
 
@@ -32,7 +32,7 @@ shared-slice-read-if4 c = search needs
 
 -- src/field.rt:131:9
 returns-4 : tie.Need-returns-4
-returns-4 c = 
+returns-4 c =
     let l = c .before .before .before .before .before .before .args .part .now in
     let e = numeral-zero l (omega arith) (c .if4 .taken) in record { ok = e; value = rw (← e) }
 
@@ -42,7 +42,7 @@ spelled-requires-2 c κs = search needs
 
 -- src/field.rt:117:1
 returns-5 : tie.Need-returns-5
-returns-5 c = 
+returns-5 c =
     let l = c .before .before .before .before .before .before .before .args .part .now in
     rw (← numeral-digits l (omega arith) (omega arith) (λ h e. c .before .if4 .left e)) (c .spelled2 .ensures)
 

@@ -34,7 +34,7 @@ is-letter-or-digit-requires c κs = search needs
 
 -- src/field.rt:77:13
 returns : tie.Need-returns Inv-loop μ-loop
-returns c = 
+returns c =
     let at = c .before .before .before .before in
     let test = c .before .before .before .loop-test .taken in
     all-stop letterOrDigit _ (at .loop .i) (at .loop .inv .1) test (sym (c .before .is-letter-or-digit .ensures) ∙ not-true _ (c .if1 .taken))
@@ -49,7 +49,7 @@ loop-less c = search needs
 
 -- src/field.rt:75:5
 loop-again : tie.Need-loop-again Inv-loop μ-loop
-loop-again c = 
+loop-again c =
     let at = c .before .before .before .before in
     let test = c .before .before .before .loop-test .taken in
     (omega arith, all-step letterOrDigit _ (at .loop .i) (at .loop .inv .1) test (sym (c .before .is-letter-or-digit .ensures) ∙ not-false _ (c .if1 .left)))

@@ -26,7 +26,7 @@ part-result-end c = search needs
 -- src/field.rt:28:9
 returns : tie.Need-returns
 unfolding partOf
-returns c = 
+returns c =
     let line = c .before .before .args .line .now in
     let place = c .before .before .args .place in
     part-none (leb (place .to) (length line)) (place .to - place .from) (drop (place .from) line) (omega arith)

@@ -36,7 +36,7 @@ is-within-requires c κs = search needs
 -- src/field.rt:107:13
 returns : tie.Need-returns Inv-loop μ-loop
 unfolding digit
-returns c = 
+returns c =
     let at = c .before .before .before .before in
     let test = c .before .before .before .loop-test .taken in
     let e = all-stop digit _ (at .loop .i) (at .loop .inv .1) test (sym (c .before .is-within .ensures) ∙ not-true _ (c .if1 .taken)) in
@@ -45,7 +45,7 @@ returns c =
 -- src/field.rt:109:17
 mul-value : tie.Need-mul-value Inv-loop μ-loop
 unfolding digit
-mul-value c = 
+mul-value c =
     let at = c .before .before .before .before in
     let d = digit-range (getD (at .before .before .args .part .now) (at .loop .i) 0) (sym (c .before .is-within .ensures) ∙ not-false _ (c .if1 .left)) in
     let m = digits-below (at .loop .i) (at .loop .value) (getD (at .before .before .args .part .now) (at .loop .i) 0 - 48) (omega (arith, at .before .before .pre)) (at .loop .inv .3) (omega (arith, d .1)) in
@@ -54,7 +54,7 @@ mul-value c =
 -- src/field.rt:109:31
 sub-value : tie.Need-sub-value Inv-loop μ-loop
 unfolding digit
-sub-value c = 
+sub-value c =
     let at = c .before .before .before .before in
     let d = digit-range (getD (at .before .before .args .part .now) (at .loop .i) 0) (sym (c .before .is-within .ensures) ∙ not-false _ (c .if1 .left)) in
     let m = digits-below (at .loop .i) (at .loop .value) (getD (at .before .before .args .part .now) (at .loop .i) 0 - 48) (omega (arith, at .before .before .pre)) (at .loop .inv .3) (omega (arith, d .1)) in
@@ -63,7 +63,7 @@ sub-value c =
 -- src/field.rt:109:30
 cast-value : tie.Need-cast-value Inv-loop μ-loop
 unfolding digit
-cast-value c = 
+cast-value c =
     let at = c .before .before .before .before in
     let d = digit-range (getD (at .before .before .args .part .now) (at .loop .i) 0) (sym (c .before .is-within .ensures) ∙ not-false _ (c .if1 .left)) in
     let m = digits-below (at .loop .i) (at .loop .value) (getD (at .before .before .args .part .now) (at .loop .i) 0 - 48) (omega (arith, at .before .before .pre)) (at .loop .inv .3) (omega (arith, d .1)) in
@@ -72,7 +72,7 @@ cast-value c =
 -- src/field.rt:109:17
 add-value : tie.Need-add-value Inv-loop μ-loop
 unfolding digit
-add-value c = 
+add-value c =
     let at = c .before .before .before .before in
     let d = digit-range (getD (at .before .before .args .part .now) (at .loop .i) 0) (sym (c .before .is-within .ensures) ∙ not-false _ (c .if1 .left)) in
     let m = digits-below (at .loop .i) (at .loop .value) (getD (at .before .before .args .part .now) (at .loop .i) 0 - 48) (omega (arith, at .before .before .pre)) (at .loop .inv .3) (omega (arith, d .1)) in
@@ -89,7 +89,7 @@ loop-less c = search needs
 -- src/field.rt:104:5
 loop-again : tie.Need-loop-again Inv-loop μ-loop
 unfolding digit
-loop-again c = 
+loop-again c =
     let at = c .before .before .before .before in
     let d = digit-range (getD (at .before .before .args .part .now) (at .loop .i) 0) (sym (c .before .is-within .ensures) ∙ not-false _ (c .if1 .left)) in
     let m = digits-below (at .loop .i) (at .loop .value) (getD (at .before .before .args .part .now) (at .loop .i) 0 - 48) (omega (arith, at .before .before .pre)) (at .loop .inv .3) (omega (arith, d .1)) in
@@ -102,7 +102,7 @@ loop-again c =
 
 -- src/field.rt:98:1
 returns-2 : tie.Need-returns-2 Inv-loop μ-loop
-returns-2 c = 
+returns-2 c =
     let e = all-end digit _ (c .before .loop .i) (c .before .loop .inv .1) (c .loop-test .left) in
     record { ok = e; value = rw (← e) (sym (c .before .loop .inv .2 ∙ value-end _ (c .before .loop .i) (c .before .loop .value) (c .loop-test .left))) }
 

@@ -31,14 +31,14 @@ shared-slice-read-next c = search needs
 
 -- src/line.rt:66:9
 next-requires : tie.Need-next-requires Inv-loop μ-loop
-next-requires c κs = 
+next-requires c κs =
     let at = c .before .before in
     (at .loop .inv .within, mark-room _ _ _ _ (at .loop .inv) (c .before .loop-test .taken) (at .before .before .before .pre))
 
 -- src/line.rt:68:13
 returns : tie.Need-returns Inv-loop μ-loop
 unfolding fieldsOf
-returns c = 
+returns c =
     let at = c .before .before .before .before .before in
     let e = c .before .before .next .ensures in
     let t : c .before .before .next .result .ok ≡ false = not-true _ (c .if1 .taken) in
@@ -54,7 +54,7 @@ loop-less c = search needs
 
 -- src/line.rt:65:5
 loop-again : tie.Need-loop-again Inv-loop μ-loop
-loop-again c = 
+loop-again c =
     let at = c .before .before .before .before .before in
     let e = c .before .before .next .ensures in
     rw e (fit-next _ _ _ _ (at .loop .inv) (c .before .before .before .before .loop-test .taken) (at .before .before .before .pre) (rw (← e) (not-false _ (c .if1 .left))))
@@ -67,7 +67,7 @@ returns-2 c = fit-left _ _ _ _ (c .before .before .before .loop .inv) (c .before
 -- src/line.rt:54:1
 returns-3 : tie.Need-returns-3 Inv-loop μ-loop
 unfolding fieldsOf
-returns-3 c = 
+returns-3 c =
     let at = c .before .before .before in
     rw (at .loop .inv .ok) (fit-whole _ _ _ _ (at .loop .inv) (c .before .before .loop-test .left) (c .if2 .left))
 
