@@ -1,0 +1,17 @@
+-- `abi::jabulghi_seed` meets its contract: number and registers are those of the call below it.
+-- Assumes nothing.
+use borrow.Author.Needs.{needs}
+use Rattle.abi.proofs.jabulghi_seed.Statement.{statement}
+use Rattle.abi.proofs.jabulghi_seed.Tie as tie
+
+seed-requires : tie.Need-seed-requires
+seed-requires c κs = search needs
+
+packed-requires : tie.Need-packed-requires
+packed-requires c κs = search needs
+
+returns : tie.Need-returns
+returns c = (cc, cc)
+
+pub jabulghi-seed-spec : {M : Type 1} → statement M
+jabulghi-seed-spec = tie.close (tie.spec seed-requires packed-requires returns)

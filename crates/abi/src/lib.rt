@@ -1,0 +1,78 @@
+// The makers' C interface: each function equals the call below it. A generator record is six lent registers, a's s0, s1, s2 and then b's.
+ghost use mathlib.Core.Path.{_≡_};
+ghost use Rattle.streams.specs.Streams.{seedOf, drawA, drawB};
+ghost use Rattle.abi.specs.Registers.{registersOf, generatorOf};
+use streams::Generator;
+use streams::Stream;
+
+// The record that six registers are.
+fn unpacked(registers: [u32; 6]) -> Generator
+    ensures { λ r. ⌜ r ≡ generatorOf registers ⌝ }
+{
+    let a = Stream {
+        s0: registers[0],
+        s1: registers[1],
+        s2: registers[2],
+    };
+    let b = Stream {
+        s0: registers[3],
+        s1: registers[4],
+        s2: registers[5],
+    };
+    Generator { a, b }
+}
+
+// The six registers of a record.
+fn packed(g: Generator) -> [u32; 6]
+    ensures { λ r. ⌜ r ≡ registersOf g ⌝ }
+{
+    [g.a.s0, g.a.s1, g.a.s2, g.b.s0, g.b.s1, g.b.s2]
+}
+
+// Seeds a record.
+#[no_mangle]
+pub extern "C" fn jabulghi_seed(
+    a0: u32,
+    a1: u32,
+    a2: u32,
+    b0: u32,
+    b1: u32,
+    b2: u32,
+    registers: &mut [u32; 6],
+) -> u32
+    ensures { λ r. ⌜ r ≡ seedOf a0 a1 a2 b0 b1 b2 .number ⌝ }
+    ensures { λ _. ⌜ now (registers .exit) ≡ registersOf (seedOf a0 a1 a2 b0 b1 b2 .next) ⌝ }
+{
+    let seeded = Generator::seed(a0, a1, a2, b0, b1, b2);
+    let next = seeded.next;
+    *registers = packed(next);
+    seeded.number
+}
+
+// One draw from stream a.
+#[no_mangle]
+pub extern "C" fn jabulghi_draw_a(registers: &mut [u32; 6], draw: &mut u32) -> u32
+    ensures { λ r. ⌜ r ≡ drawA (generatorOf (now (registers .entry))) .number ⌝ }
+    ensures { λ _. ⌜ now (draw .exit) ≡ drawA (generatorOf (now (registers .entry))) .draw ⌝ }
+    ensures { λ _. ⌜ now (registers .exit) ≡ registersOf (drawA (generatorOf (now (registers .entry))) .next) ⌝ }
+{
+    let from_a = unpacked(*registers).draw_a();
+    let next = from_a.next;
+    *draw = from_a.draw;
+    *registers = packed(next);
+    from_a.number
+}
+
+// One draw from stream b.
+#[no_mangle]
+pub extern "C" fn jabulghi_draw_b(registers: &mut [u32; 6], draw: &mut u32) -> u32
+    ensures { λ r. ⌜ r ≡ drawB (generatorOf (now (registers .entry))) .number ⌝ }
+    ensures { λ _. ⌜ now (draw .exit) ≡ drawB (generatorOf (now (registers .entry))) .draw ⌝ }
+    ensures { λ _. ⌜ now (registers .exit) ≡ registersOf (drawB (generatorOf (now (registers .entry))) .next) ⌝ }
+{
+    let from_b = unpacked(*registers).draw_b();
+    let next = from_b.next;
+    *draw = from_b.draw;
+    *registers = packed(next);
+    from_b.number
+}
