@@ -82,18 +82,18 @@ small-term P q pos =
     (2 * P + k, at-most-times (suc (suc (2 * P + k))) q pos (omega arith), fallen P q k pos (doubling k))
 
 -- A test that a number passes is passed by 0, or not by some smaller number and by the next.
-abbrev Crossing : (ℕ → Type 0) → ℕ → Type 0
-Crossing test n = test 0 ⊎ ((i : ℕ) × (i < n) × (¬ test i) × test (suc i))
+abbrev Crossed : (ℕ → Type 0) → ℕ → Type 0
+Crossed test n = test 0 ⊎ ((i : ℕ) × (i < n) × (¬ test i) × test (suc i))
 
-crossing : (test : ℕ → Type 0) → ((i : ℕ) → Dec (test i)) → (n : ℕ) → test n → Crossing test n
+crossing : (test : ℕ → Type 0) → ((i : ℕ) → Dec (test i)) → (n : ℕ) → test n → Crossed test n
 crossing test dec zero h = inl h
 crossing test dec (suc n) h = decided (dec n) (crossing test dec n)
   where
-    lifted : Crossing test n → Crossing test (suc n)
+    lifted : Crossed test n → Crossed test (suc n)
     lifted (inl g) = inl g
     lifted (inr (i, lt, g, g')) = inr (i, omega arith, g, g')
 
-    decided : Dec (test n) → (test n → Crossing test n) → Crossing test (suc n)
+    decided : Dec (test n) → (test n → Crossed test n) → Crossed test (suc n)
     decided (yes g) earlier = lifted (earlier g)
     decided (no g) earlier = inr (n, le-refl _, g, h)
 
@@ -184,7 +184,7 @@ narrow-root z ε above pos =
       omega (arith, step),
     )
 
-    found : Crossing reached last → NarrowRoot z ε
+    found : Crossed reached last → NarrowRoot z ε
     found (inl h) = record {
       low = grid ε 0;
       high = grid ε 0;
