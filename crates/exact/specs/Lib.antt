@@ -13,3 +13,4 @@ pub mod RotationWidth
 pub mod RotationBits
 pub mod Pair
 pub mod MemberLaws
+pub mod PairLaws

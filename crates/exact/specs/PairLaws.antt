@@ -1,0 +1,108 @@
+-- Laws of the exact pair: every enclosure of a product has a point, any two meet, and they become as narrow as one likes.
+-- Assumes nothing.
+use Prim.Native.Nat.{ℕ, zero, _+_, _*_, _^_, _≤_, _<_}
+use native.Mathlib.Nat.{mul-pos, mul-le-mul-left, mul-lt-mul-of-pos-right}
+use native.Mathlib.Omega.{arith}
+use lib.Pow.{pow-pos}
+use Rattle.exact.specs.Fraction.{Fraction, whole, _+ᶠ_, _*ᶠ_, _≤ᶠ_, _<ᶠ_}
+use Rattle.exact.specs.FractionLaws.{≤ᶠ-refl, ≤ᶠ-trans, ≤ᶠ-<ᶠ-trans, <ᶠ-weaken, +ᶠ-mono, +ᶠ-mono-le-lt, *ᶠ-mono, _≤ᶠ⟨_⟩_, _∎ᶠ, chained}
+use Rattle.exact.specs.Radius.{RadiusEnclosure}
+use Rattle.exact.specs.RadiusLaws.{radius-enclosures-overlap, radius-narrow}
+use Rattle.exact.specs.Pair.{Enclosure, members, times, firstProduct, secondProduct}
+use Rattle.exact.specs.MemberLaws.{Meet, Proper, members-proper, members-overlap, members-narrow}
+
+-- The product has a point: its low end is at most its high end.
+pub product-ends : {b m : ℕ} (g : RadiusEnclosure b m) (n v : ℕ) →
+    (firstProduct g n v .low ≤ᶠ firstProduct g n v .high) × (secondProduct g n v .low ≤ᶠ secondProduct g n v .high)
+product-ends g n v =
+    let (s, c) = members-proper n v in
+    let r = radius-enclosures-overlap g g .0 in (
+      *ᶠ-mono (g .low) (g .high) (members n v .0 .low) (members n v .0 .high) r (s .ends),
+      *ᶠ-mono (g .low) (g .high) (members n v .1 .low) (members n v .1 .high) r (c .ends),
+    )
+
+-- Any two enclosures of the exact pair meet, whatever their radii and fraction bits.
+times-meet : {b m : ℕ} (g g' : RadiusEnclosure b m) (e e' : Enclosure) → Meet e e' → Meet (times g e) (times g' e')
+times-meet g g' e e' h =
+    let (r, r') = radius-enclosures-overlap g g' in
+    record {
+      sign = h .sign;
+      low = *ᶠ-mono (g .low) (g' .high) (e .low) (e' .high) r (h .low);
+      high = *ᶠ-mono (g' .low) (g .high) (e' .low) (e .high) r' (h .high);
+    }
+
+pub products-overlap : {b m : ℕ} (g g' : RadiusEnclosure b m) (n n' v : ℕ) →
+    Meet (firstProduct g n v) (firstProduct g' n' v) × Meet (secondProduct g n v) (secondProduct g' n' v)
+products-overlap g g' n n' v =
+    let (s, c) = members-overlap n n' v in
+    (times-meet g g' _ _ s, times-meet g g' _ _ c)
+
+-- The width of a product: with the radius below X, its width at most δ, and the member at most 1, its width at most η with X η ≤ δ.
+expand-left : (x y z : Fraction) → (x +ᶠ y) *ᶠ z ≤ᶠ x *ᶠ z +ᶠ y *ᶠ z
+expand-left x y z = omega arith
+
+expand-right : (x y z : Fraction) → x *ᶠ (y +ᶠ z) ≤ᶠ x *ᶠ y +ᶠ x *ᶠ z
+expand-right x y z = omega arith
+
+times-one : (x y : Fraction) → y ≤ᶠ whole 1 → x *ᶠ y ≤ᶠ x
+times-one x y h = omega (arith, mul-le-mul-left (x .top * x .bottom) h)
+
+product-width : (low high low' high' X δ η : Fraction) → high ≤ᶠ low +ᶠ δ → high' ≤ᶠ low' +ᶠ η → high' ≤ᶠ whole 1 → low ≤ᶠ X → X *ᶠ η ≤ᶠ δ →
+    high *ᶠ high' ≤ᶠ low *ᶠ low' +ᶠ δ +ᶠ δ
+product-width low high low' high' X δ η h h' one most small =
+    chained
+    (high *ᶠ high' ≤ᶠ⟨ *ᶠ-mono high (low +ᶠ δ) high' high' h (≤ᶠ-refl high') ⟩
+    (low +ᶠ δ) *ᶠ high' ≤ᶠ⟨ expand-left low δ high' ⟩
+    low *ᶠ high' +ᶠ δ *ᶠ high' ≤ᶠ⟨ +ᶠ-mono (low *ᶠ high') (low *ᶠ low' +ᶠ δ) (δ *ᶠ high') δ inner (times-one δ high' one) ⟩
+    low *ᶠ low' +ᶠ δ +ᶠ δ ∎ᶠ)
+  where
+    inner : low *ᶠ high' ≤ᶠ low *ᶠ low' +ᶠ δ
+    inner =
+        chained
+        (low *ᶠ high' ≤ᶠ⟨ *ᶠ-mono low low high' (low' +ᶠ η) (≤ᶠ-refl low) h' ⟩
+        low *ᶠ (low' +ᶠ η) ≤ᶠ⟨ expand-right low low' η ⟩
+        low *ᶠ low' +ᶠ low *ᶠ η ≤ᶠ⟨ +ᶠ-mono (low *ᶠ low') (low *ᶠ low') (low *ᶠ η) δ (≤ᶠ-refl (low *ᶠ low'))
+        (≤ᶠ-trans (low *ᶠ η) (X *ᶠ η) δ (*ᶠ-mono low X η η most (≤ᶠ-refl η)) small) ⟩
+        low *ᶠ low' +ᶠ δ ∎ᶠ)
+
+-- a quarter of ε, and a quarter of ε over X + 1
+quarterOf : Fraction → Fraction
+quarterOf ε = record { top = ε .top; bottom = 4 * ε .bottom; positive = omega (arith, ε .positive) }
+
+share : Fraction → Fraction → Fraction
+share ε X = record {
+  top = ε .top * X .bottom;
+  bottom = 4 * ε .bottom * (X .top + X .bottom);
+  positive = mul-pos (omega (arith, ε .positive)) (omega (arith, X .positive));
+}
+
+share-small : (ε X : Fraction) → X *ᶠ share ε X ≤ᶠ quarterOf ε
+unfolding share quarterOf
+share-small ε X = omega arith
+
+two-quarters : (ε x : Fraction) → zero < ε .top → x +ᶠ quarterOf ε +ᶠ quarterOf ε <ᶠ x +ᶠ ε
+unfolding quarterOf
+two-quarters ε x pos = omega (arith, mul-pos (mul-pos pos (mul-pos (ε .positive) (ε .positive))) (mul-pos (x .positive) (x .positive)))
+
+-- the product with a member that is narrower than the share of ε
+narrow-product : {b m : ℕ} (g : RadiusEnclosure b m) (e : Enclosure) (ε X : Fraction) → zero < ε .top → g .high <ᶠ g .low +ᶠ quarterOf ε → g .low ≤ᶠ X →
+    e .high <ᶠ e .low +ᶠ share ε X → Proper e → times g e .high <ᶠ times g e .low +ᶠ ε
+narrow-product g e ε X pos narrow most small p =
+    ≤ᶠ-<ᶠ-trans (g .high *ᶠ e .high) (g .low *ᶠ e .low +ᶠ quarterOf ε +ᶠ quarterOf ε) (g .low *ᶠ e .low +ᶠ ε)
+    (product-width (g .low) (g .high) (e .low) (e .high) X (quarterOf ε) (share ε X) (<ᶠ-weaken (g .high) (g .low +ᶠ quarterOf ε) narrow)
+    (<ᶠ-weaken (e .high) (e .low +ᶠ share ε X) small) (p .most) most (share-small ε X))
+    (two-quarters ε (g .low *ᶠ e .low) pos)
+
+-- For every first number, every v and every fraction above 0 there is an enclosure of the exact pair of which both products are narrower.
+pub pair-narrow : (b m v : ℕ) (ε : Fraction) → m ≤ 2 ^ b → zero < ε .top → (g : RadiusEnclosure b m) × (n : ℕ)
+    × (firstProduct g n v .high <ᶠ firstProduct g n v .low +ᶠ ε) × (secondProduct g n v .high <ᶠ secondProduct g n v .low +ᶠ ε)
+unfolding quarterOf share
+pair-narrow b m v ε le pos =
+    let (some, _) = radius-narrow b m (whole 1) le (omega arith) in
+    let X = some .high in
+    let (g, narrow) = radius-narrow b m (quarterOf ε) le pos in
+    let (n, small) = members-narrow (share ε X) (omega (arith, mul-pos pos (X .positive))) in
+    let (sine, cosine) = small n v (omega arith) in
+    let (proper, proper') = members-proper n v in
+    let most = radius-enclosures-overlap g some .0 in
+    (g, n, narrow-product g (members n v .0) ε X pos narrow most sine proper, narrow-product g (members n v .1) ε X pos narrow most cosine proper')
