@@ -2,5 +2,6 @@
 pub mod Steps
 pub mod StepLaws
 pub mod Sample
+pub mod FillLaws
 pub mod Parts
 pub mod Readings

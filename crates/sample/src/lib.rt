@@ -1,10 +1,10 @@
 // Two samples from k and v (document 01, 'Radius' and 'Angle and sample').
 ghost use mathlib.Core.Path.{_≡_};
-ghost use Prim.Native.Nat.{_+_, _-_, _*_, _^_, _≤_, _<_};
+ghost use Prim.Native.Nat.{_+_, _-_, _*_, _/_, _^_, _≤_, _<_, min};
 ghost use Rattle.tables.specs.Tables.{entryOf};
 ghost use Rattle.sample.specs.Steps.{numerator, topBit, mantissa, coarse, fine, correction, logarithm, wholeRoot, radius, sine, cosine, rounded};
 ghost use Rattle.sample.specs.Parts.{Rotations, Loaded, withSign, valueOf};
-ghost use Rattle.sample.specs.Sample.{firstAt, secondAt, samplesOf, nineSixteenths};
+ghost use Rattle.sample.specs.Sample.{firstAt, secondAt, samplesOf, nineSixteenths, filled};
 ghost use Rattle.exact.specs.Pair.{turn, Close};
 ghost use lib.IntN.{pos, negℤ};
 
@@ -300,4 +300,51 @@ pub fn sample(k: u64, v: u32) -> Samples
         first: pair.first,
         second: pair.second,
     }
+}
+
+// How many pairs there are to fill, of so many z and so many elements.
+fn pairs(count: usize, room: usize) -> usize
+    ensures { λ r. ⌜ r ≡ min count (room / 2) ⌝ }
+{
+    if count < room / 2 { count } else { room / 2 }
+}
+
+// `fill` with the lent tables A and B, K, C, D, c and s.
+fn fill_with(
+    lc: &[u64],
+    lf: &[u64],
+    ln2: u64,
+    cc: &[u64],
+    sc: &[u64],
+    cf: &[u64],
+    sf: &[u64],
+    z: &[u64],
+    out: &mut [i16],
+)
+    requires { ⌜ Loaded (now lc) (now lf) ln2 (now cc) (now sc) (now cf) (now sf) ⌝ }
+    ensures { λ r. ⌜ now (out .exit) ≡ filled (now (z .entry)) (now (out .entry)) ⌝ }
+{
+    let n = pairs(z.len(), out.len());
+    let mut i = 0;
+    while i < n {
+        let pair = pair_of(lc, lf, ln2, cc, sc, cf, sf, z[i]);
+        let first = pair.first;
+        let second = pair.second;
+        out[2 * i] = first;
+        out[2 * i + 1] = second;
+        i += 1;
+    }
+}
+
+// The two samples of each z = 65536 k + v, first and second alternating, as far as there is room for both; every other element stays.
+pub fn fill(z: &[u64], out: &mut [i16])
+    ensures { λ r. ⌜ now (out .exit) ≡ filled (now (z .entry)) (now (out .entry)) ⌝ }
+{
+    let lc = tables::log_coarse();
+    let lf = tables::log_fine();
+    let cc = tables::cos_coarse();
+    let sc = tables::sin_coarse();
+    let cf = tables::cos_fine();
+    let sf = tables::sin_fine();
+    fill_with(&lc, &lf, tables::ln_two(), &cc, &sc, &cf, &sf, z, out)
 }

@@ -1,0 +1,55 @@
+-- Laws of a filled slice: its length, the slice that has room for just the pairs, and one pair more.
+-- Assumes nothing.
+use mathlib.Core.Path.{_≡_, refl, ap, sym}
+use mathlib.Core.List.{List, [], _∷_}
+use Prim.Native.Nat.{ℕ, zero, suc, _+_, _*_, _/_, _≤_, _<_, min}
+use native.Mathlib.Omega.{arith}
+use lib.IntN.{ℤ}
+use lib.ListN.{length, take, getD, set}
+use Rattle.sample.specs.Sample.{firstAt, secondAt, filled}
+
+pub length-filled : (zs : List ℕ) (out : List ℤ) → length (filled zs out) ≡ length out
+unfolding filled
+length-filled [] out = refl
+length-filled (z ∷ zs) [] = refl
+length-filled (z ∷ zs) (x ∷ []) = refl
+length-filled (z ∷ zs) (x ∷ y ∷ out) = ap (λ (n : ℕ). suc (suc n)) (length-filled zs out)
+
+-- the samples of some z, first and second alternating
+unfoldable pub samplesAt : List ℕ → List ℤ
+samplesAt [] = []
+samplesAt (z ∷ zs) = firstAt z ∷ secondAt z ∷ samplesAt zs
+
+-- where the slice has room for just the pairs, it holds their samples
+pub filled-whole : (zs : List ℕ) (out : List ℤ) → length out ≡ 2 * length zs → filled zs out ≡ samplesAt zs
+unfolding filled samplesAt
+filled-whole [] [] h = refl
+filled-whole [] (x ∷ out) h = absurd (omega arith)
+filled-whole (z ∷ zs) [] h = absurd (omega arith)
+filled-whole (z ∷ zs) (x ∷ []) h = absurd (omega arith)
+filled-whole (z ∷ zs) (x ∷ y ∷ out) h = ap (λ (l : List ℤ). firstAt z ∷ secondAt z ∷ l) (filled-whole zs out (omega arith))
+
+-- the pairs beyond the room change nothing
+pub filled-all : (n : ℕ) (zs : List ℕ) (out : List ℤ) → min (length zs) (length out / 2) ≤ n → filled (take n zs) out ≡ filled zs out
+unfolding filled
+filled-all zero [] out h = refl
+filled-all zero (z ∷ zs) [] h = refl
+filled-all zero (z ∷ zs) (x ∷ []) h = refl
+filled-all zero (z ∷ zs) (x ∷ y ∷ out) h = absurd (omega arith)
+filled-all (suc n) [] out h = refl
+filled-all (suc n) (z ∷ zs) [] h = refl
+filled-all (suc n) (z ∷ zs) (x ∷ []) h = refl
+filled-all (suc n) (z ∷ zs) (x ∷ y ∷ out) h = ap (λ (l : List ℤ). firstAt z ∷ secondAt z ∷ l) (filled-all n zs out (omega arith))
+
+-- one pair more: two stores
+pub filled-step : (i : ℕ) (zs : List ℕ) (out : List ℤ) → i < length zs → 2 * i + 1 < length out →
+    set (set (filled (take i zs) out) (2 * i) (firstAt (getD zs i 0))) (2 * i + 1) (secondAt (getD zs i 0)) ≡ filled (take (suc i) zs) out
+unfolding filled
+filled-step i [] out h g = absurd (omega arith)
+filled-step i (z ∷ zs) [] h g = absurd (omega arith)
+filled-step i (z ∷ zs) (x ∷ []) h g = absurd (omega arith)
+filled-step zero (z ∷ zs) (x ∷ y ∷ out) h g = refl
+filled-step (suc i) (z ∷ zs) (x ∷ y ∷ out) h g =
+    let a : 2 * suc i ≡ suc (suc (2 * i)) = omega arith in
+    let b : 2 * suc i + 1 ≡ suc (suc (2 * i + 1)) = omega arith in
+    rw (b, a) (ap (λ (l : List ℤ). firstAt z ∷ secondAt z ∷ l) (filled-step i zs out (omega arith) (omega arith)))
