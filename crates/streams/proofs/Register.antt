@@ -57,17 +57,29 @@ folded-low q p j m x e h =
 
 -- ---- One step, bit by bit
 
+-- a step is their exclusive-or
+step-is : (k q s x : ℕ) → step k q s x ≡ bitXor (masked (32 - k) s x) (folded q (k - s) x)
+unfolding step masked folded
+step-is k q s x = refl
+
+masked-lt : (c s x : ℕ) → masked c s x < 2 ^ 32
+unfolding masked
+masked-lt c s x = mod-lt (bitAnd x (2 ^ 32 - 2 ^ c) * 2 ^ s) (pow-pos 32)
+
+folded-lt : (q p x : ℕ) → x < 2 ^ 32 → folded q p x < 2 ^ 32
+unfolding folded
+folded-lt q p x hx =
+    lt-of-le-of-lt (shr-le (bitXor (x * 2 ^ q % 2 ^ 32) x) p)
+    (xor-lt 32 (x * 2 ^ q % 2 ^ 32) x (mod-lt (x * 2 ^ q) (pow-pos 32)) hx)
+
 pub step-lt : (k q s x : ℕ) → x < 2 ^ 32 → step k q s x < 2 ^ 32
-unfolding step
 step-lt k q s x hx =
-    let fold : bitXor (x * 2 ^ q % 2 ^ 32) x < 2 ^ 32 = xor-lt 32 (x * 2 ^ q % 2 ^ 32) x (mod-lt (x * 2 ^ q) (pow-pos 32)) hx in
-    xor-lt 32 (bitAnd x (2 ^ 32 - 2 ^ (32 - k)) * 2 ^ s % 2 ^ 32) (bitXor (x * 2 ^ q % 2 ^ 32) x / 2 ^ (k - s))
-    (mod-lt (bitAnd x (2 ^ 32 - 2 ^ (32 - k)) * 2 ^ s) (pow-pos 32))
-    (lt-of-le-of-lt (shr-le (bitXor (x * 2 ^ q % 2 ^ 32) x) (k - s)) fold)
+    rw (step-is k q s x)
+    (xor-lt 32 (masked (32 - k) s x) (folded q (k - s) x) (masked-lt (32 - k) s x) (folded-lt q (k - s) x hx))
 
 step-bit : (k q s x j : ℕ) → bit (step k q s x) j ≡ (bit (masked (32 - k) s x) j + bit (folded q (k - s) x) j) % 2
-unfolding step masked folded
-step-bit k q s x j = bit-xor (masked (32 - k) s x) (folded q (k - s) x) j
+step-bit k q s x j =
+    ap (λ (y : ℕ). bit y j) (step-is k q s x) ∙ bit-xor (masked (32 - k) s x) (folded q (k - s) x) j
 
 module _ {k q s : ℕ} (P : Params k q s) (x : ℕ) (hx : x < 2 ^ 32) where
   -- the top k - s bits are those from place s on
