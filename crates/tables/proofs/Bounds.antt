@@ -36,7 +36,7 @@ use Rattle.tables.proofs.Entries.{both, both-left, both-right, every, a
 abbrev small : ℕ → ℕ → ℕ → Bool
 small bound i x = leb x bound
 
-logs : (lnTwo ≤ 762123384786) × T (every (small lnTwo) 256 logCoarse) × T (every (small lnTwo) 0 logFine)
+logs : (lnTwo ≤ 0xB17217F7D2) × T (every (small lnTwo) 256 logCoarse) × T (every (small lnTwo) 0 logFine)
 unfolding lnTwoValue logCoarseList logFineList
 logs = rw (lnTwo-is, logCoarse-is, logFine-is) (lit≤ tt, tt, tt)
 

@@ -47,7 +47,7 @@ at f first table t index low high =
     (rw (add-sub-of-le low) at (from f table first t (index - first) (omega arith)))
 
 -- an entry is in the table, or it is 0
-pub in-or-zero :
+in-or-zero :
     (first : ℕ) (table : List ℕ) (index : ℕ) →
     ((first ≤ index) × (index < first + length table)) ⊎ (entryOf table first index ≡ 0)
 in-or-zero first table index = go (decLe first index) (decLt index (first + length table))
@@ -65,11 +65,8 @@ pub at-most :
     (index : ℕ) → entryOf table first index ≤ bound
 at-most bound first table t index = go (in-or-zero first table index)
   where
-    go : ((first ≤ index) × (index < first + length table)) ⊎ (entryOf table first index ≡ 0) → entryOf table first index ≤ bound
+    go :
+        ((first ≤ index) × (index < first + length table)) ⊎ (entryOf table first index ≡ 0) →
+        entryOf table first index ≤ bound
     go (inl (low, high)) = leb→le _ _ (at (λ i x. leb x bound) first table t index low high)
     go (inr e) = omega arith
-
-pub at-least :
-    (bound first : ℕ) (table : List ℕ) → T (every (λ i x. leb bound x) first table) →
-    (index : ℕ) → first ≤ index → index < first + length table → bound ≤ entryOf table first index
-at-least bound first table t index low high = leb→le _ _ (at (λ i x. leb bound x) first table t index low high)

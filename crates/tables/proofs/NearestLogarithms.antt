@@ -1,5 +1,5 @@
--- The logarithm tables and ln 2 hold the nearest whole numbers: one test over any index and scale, which antt computes with 20 terms of the series,
--- and one lemma that carries it to each entry.
+-- The logarithm tables and ln 2 hold the nearest whole numbers: one test over any index and scale, which antt computes with 20 terms
+-- of the series, and one lemma that carries it to each entry.
 -- Assumes nothing.
 use mathlib.Core.Path.{_≡_, refl}
 use mathlib.Core.Bool.{Bool}
@@ -62,7 +62,10 @@ unfolding test
 carried n f number first table t i low high =
     nearest-is n f (number i) _ (at (λ i x. nearest n f (number i) x) first table t i low high)
 
-tested : T (test 20 40 (λ h. dyadic 8 h) 256 logCoarse) × T (test 20 40 (λ i. dyadic 16 (65536 + i)) 0 logFine) × T (nearest 20 40 (whole 2) lnTwo)
+tested :
+    T (test 20 40 (λ h. dyadic 8 h) 256 logCoarse) ×
+    T (test 20 40 (λ i. dyadic 16 (65536 + i)) 0 logFine) ×
+    T (nearest 20 40 (whole 2) lnTwo)
 unfolding logCoarseList logFineList lnTwoValue test nearest most least scaledTop scaledBottom
 tested = rw (logCoarse-is, logFine-is, lnTwo-is) (tt, tt, tt)
 
@@ -75,7 +78,8 @@ log-fine i high = carried 20 40 (λ i. dyadic 16 (65536 + i)) 0 logFine (tested 
 pub ln-two : NearestLn 40 (whole 2) lnTwo
 ln-two = nearest-is 20 40 (whole 2) lnTwo (tested .2)
 
--- Uniqueness, at any scale and for any number: the sums of a fraction above 0 grow for ever, so it is not both at most and at least a logarithm.
+-- Uniqueness, at any scale and for any number: the partial sums of a fraction above 0 grow for ever, so that it is not both at most
+-- and at least one logarithm.
 grows : (y : Fraction) (n : ℕ) → zero < y .top → partialSum y n <ᶠ partialSum y (suc n)
 unfolding partialSum term
 grows y n p =

@@ -1,5 +1,5 @@
--- Half a unit at the ends of an enclosure is half a unit at every point of it, and of two enclosures that overlap it is half a unit from one whole
--- number alone.
+-- Half a unit at the ends of an enclosure is half a unit at every point of it. Two enclosures that overlap are less than half a unit
+-- from one whole number alone.
 -- Assumes nothing.
 use mathlib.Core.Path.{_≡_}
 use mathlib.Core.Bool.{false}
@@ -31,7 +31,9 @@ points f n low high x near y from to = (
 )
 
 -- M and N for 2^m and 2^n, where the low end at m bits is at most the high end at n bits
-at-most : (M N F low high x y : ℕ) → 0 < M → 0 < N → low * N ≤ high * M → 2 * (x * M) < 2 * (F * low) + M → 2 * (F * high) < 2 * (y * N) + N → x ≤ y
+at-most :
+    (M N F low high x y : ℕ) → 0 < M → 0 < N → low * N ≤ high * M →
+    2 * (x * M) < 2 * (F * low) + M → 2 * (F * high) < 2 * (y * N) + N → x ≤ y
 at-most M N F low high x y p q o h k =
     let l : x < y + 1 = lt-of-mul-lt-mul-right (2 * (M * N))
     (omega (arith, mul-le-mul-left (2 * F) o, mul-lt-mul-of-pos-right h q, mul-lt-mul-of-pos-right k p)) in

@@ -1,5 +1,5 @@
--- The rotation tables hold the nearest whole numbers: one test over any index and scale, which antt computes at 96 fraction bits, and one lemma that
--- carries it to each entry.
+-- The rotation tables hold the nearest whole numbers: one test over any index and scale, which antt computes at 96 fraction bits, and
+-- one lemma that carries it to each entry.
 -- Assumes nothing.
 use mathlib.Core.Path.{_≡_, refl, ap₂}
 use mathlib.Core.Bool.{Bool}

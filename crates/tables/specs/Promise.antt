@@ -1,5 +1,5 @@
--- What the tables promise (document 01, 'Radius' and 'Angle and sample'), in the words of `exact`. Of an entry the crates above use nothing
--- else. proofs/Promise.antt has a value of each record.
+-- What the tables promise (document 01, 'Radius' and 'Angle and sample'), in the words of `exact`; the crates above use nothing else
+-- of an entry. proofs/Promise.antt has a value of each record.
 -- Assumes nothing.
 use mathlib.Core.Path.{_≡_}
 use mathlib.Core.Bool.{false}
@@ -23,7 +23,7 @@ pub record NearestLn (f : ℕ) (z : Fraction) (x : ℕ) : Type 0 where
   pub low : AtMostLn (lower f x) z
   pub high : AtLeastLn (upper f x) z
 
--- "nearest at 2^30", for any f in place of 30: the two ends of an enclosure at n fraction bits are less than half a unit of 2^-f from x
+-- "nearest at 2^30", for any f in place of 30: both ends of an enclosure at n fraction bits are less than half a unit of 2^-f from x
 pub record NearestIn (f n low high x : ℕ) : Type 0 where
   pub below : 2 * (x * 2 ^ n) < 2 * (2 ^ f * low) + 2 ^ n
   pub above : 2 * (2 ^ f * high) < 2 * (x * 2 ^ n) + 2 ^ n
@@ -44,8 +44,9 @@ pub record Promise : Type 0 where
   pub cos-fine : (b : ℕ) → b < 128 → NearestCos 30 96 (fine 96 b) (entryOf cosFine 0 b)
   pub sin-fine : (b : ℕ) → b < 128 → NearestSin 30 96 (fine 96 b) (entryOf sinFine 0 b)
 
--- What "nearest" says, at any scale. Every point of the enclosure is less than half a unit from x. The coarse tables' rotations are the exact ones
--- for w = 128 a, the fine tables' those for w = b. A whole number that meets the same promise, for a rotation in any of its enclosures, is x.
+-- What "nearest" says, at any scale. Every point of the enclosure is less than half a unit from x. The coarse tables' rotations are
+-- the exact ones for w = 128 a, the fine tables' those for w = b. A whole number that meets the same promise, for a rotation in any of
+-- its enclosures, is x.
 pub record Nearest : Type 0 where
   pub points :
       (f n low high x : ℕ) → NearestIn f n low high x →
@@ -68,7 +69,7 @@ pub record Lacking : Type 0 where
 
 -- What the steps of a sample ask besides, at every index.
 pub record Bounds : Type 0 where
-  pub ln-two : lnTwo ≤ 762123384786
+  pub ln-two : lnTwo ≤ 0xB17217F7D2
   pub log-coarse : (h : ℕ) → entryOf logCoarse 256 h ≤ lnTwo
   pub log-fine : (i : ℕ) → entryOf logFine 0 i ≤ lnTwo
   pub cos-coarse : (a : ℕ) → entryOf cosCoarse 0 a ≤ 2 ^ 30

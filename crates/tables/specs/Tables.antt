@@ -1,5 +1,5 @@
--- The tables as other crates see them (document 01, 'Radius' and 'Angle and sample'): shut, so that their promise is all that is known of an entry.
--- Only who cites a law below sees the entries themselves.
+-- The tables (document 01, 'Radius' and 'Angle and sample'). They are shut to other crates, which know an entry by its promise
+-- (Promise.antt); only who cites a law `-is` below sees the entries themselves.
 -- Assumes nothing.
 use mathlib.Core.Path.{_≡_, _∙_, refl}
 use mathlib.Core.Bool.{Bool, true, false}
@@ -37,7 +37,7 @@ sinFine = sinFineList
 pub lnTwo : ℕ
 lnTwo = lnTwoValue
 
--- The entry of a table at the document's own index, where the table's first index is `first`; 0 for an entry that the table lacks.
+-- The entry at the document's own index, of a table whose first index is `first`. "Any table [..] gives 0 for an entry that it lacks."
 abbrev pub entryAt : Bool → List ℕ → ℕ → ℕ
 entryAt true table at = getD table at 0
 entryAt false table at = 0

@@ -1,5 +1,5 @@
-// The tables of logarithms and rotations (document 01, 'Radius' and 'Angle and sample'). A table is handed out by value, loaded once by its caller
-// and lent to `entry`. What its entries promise is in specs/Promise.antt.
+// The tables of logarithms and rotations (document 01, 'Radius' and 'Angle and sample'). A table is handed out by value, so that a
+// caller loads it once and lends it to `entry`. What its entries promise is in specs/Promise.antt.
 mod cosines;
 mod logarithms;
 mod sines;
