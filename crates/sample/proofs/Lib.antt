@@ -4,3 +4,4 @@ mod Signs
 mod Squares
 pub mod Margin
 pub mod Closeness
+pub mod Theorems

@@ -5,3 +5,4 @@ pub mod Sample
 pub mod FillLaws
 pub mod Parts
 pub mod Readings
+pub mod Theorems

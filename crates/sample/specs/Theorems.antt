@@ -1,0 +1,24 @@
+-- What a buyer can rely on beyond the steps: proofs/Theorems.antt proves it.
+-- Assumes nothing.
+use mathlib.Core.Path.{_≡_}
+use Prim.Native.Nat.{ℕ, _+_, _%_, _≤_, _<_}
+use lib.IntN.{ℤ, pos, negℤ, natAbs}
+use Rattle.sample.specs.declared.Samples.{Samples}
+use Rattle.sample.specs.Sample.{samplesOf}
+
+-- v half a turn on, mod 65536
+abbrev pub opposite : ℕ → ℕ
+opposite v = (v + 32768) % 65536
+
+-- an answer with both samples negated
+abbrev pub negated : Samples → Samples
+negated r = record { number = r .number; first = negℤ (r .first); second = negℤ (r .second) }
+
+pub record Theorems : Type 0 where
+  -- "a turn of half a circle" is "an exact change of sign" (document 01, 'Blunders that would look sound')
+  pub half-turn : (k v : ℕ) → v < 65536 → samplesOf k (opposite v) ≡ negated (samplesOf k v)
+  -- no sample's size is above 16706
+  pub sizes : (k v : ℕ) → (natAbs (samplesOf k v .first) ≤ 16706) × (natAbs (samplesOf k v .second) ≤ 16706)
+  -- and either sample meets both bounds
+  pub highest : (samplesOf 1 16384 .first ≡ pos 16706) × (samplesOf 1 0 .second ≡ pos 16706)
+  pub lowest : (samplesOf 1 49152 .first ≡ negℤ (pos 16706)) × (samplesOf 1 32768 .second ≡ negℤ (pos 16706))
