@@ -23,12 +23,16 @@
 extern "C" {
 #endif
 
-/* Seeds a record. Refused (1), the record becomes six zeros. */
+/* Seeds a record. Refused (1), the record becomes six zeros. registers: 6 elements, here and below. */
 uint32_t jabulghi_seed(uint32_t a0, uint32_t a1, uint32_t a2, uint32_t b0, uint32_t b1, uint32_t b2, uint32_t *registers);
 
 /* One draw from stream a, or from stream b: moves its own stream alone. Refused (1), the draw is 0 and the record stays. */
 uint32_t jabulghi_draw_a(uint32_t *registers, uint32_t *draw);
 uint32_t jabulghi_draw_b(uint32_t *registers, uint32_t *draw);
+
+/* The two samples of k, read as 1 where it is 0, and v, in units of 2^-11 of a standard deviation. Each is less than nine
+ * sixteenths of a unit from its member of the exact Box-Muller pair. Refused (2, 3), the samples are 0 0. samples: 2 elements. */
+uint32_t jabulghi_sample(uint64_t k, uint32_t v, int16_t *samples);
 
 #ifdef __cplusplus
 }

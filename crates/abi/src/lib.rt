@@ -1,6 +1,10 @@
 // The makers' C interface: each function equals the call below it. A generator record is six lent registers, a's s0, s1, s2 and then b's.
 ghost use mathlib.Core.Path.{_≡_};
+ghost use Prim.Native.Nat.{_<_, _^_};
+ghost use mathlib.Core.List.{[], _∷_};
 ghost use Rattle.streams.specs.Streams.{seedOf, drawA, drawB};
+ghost use Rattle.sample.specs.Sample.{samplesOf, nineSixteenths};
+ghost use Rattle.exact.specs.Pair.{Close};
 ghost use Rattle.abi.specs.Registers.{registersOf, generatorOf};
 use streams::Generator;
 use streams::Stream;
@@ -75,4 +79,16 @@ pub extern "C" fn jabulghi_draw_b(registers: &mut [u32; 6], draw: &mut u32) -> u
     *draw = from_b.draw;
     *registers = packed(next);
     from_b.number
+}
+
+// The two samples of k and v.
+#[no_mangle]
+pub extern "C" fn jabulghi_sample(k: u64, v: u32, samples: &mut [i16; 2]) -> u32
+    ensures { λ r. ⌜ r ≡ samplesOf k v .number ⌝ }
+    ensures { λ _. ⌜ now (samples .exit) ≡ samplesOf k v .first ∷ samplesOf k v .second ∷ [] ⌝ }
+    ensures close { λ _. ⌜ (k < 2 ^ 48 → v < 65536 → Close nineSixteenths 11 48 k v (samplesOf k v .first) (samplesOf k v .second)) ⌝ }
+{
+    let s = sample::sample(k, v);
+    *samples = [s.first, s.second];
+    s.number
 }
