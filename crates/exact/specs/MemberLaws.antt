@@ -38,21 +38,21 @@ turn-quarter n r g =
     ceiling-exact (2 ^ n) _ _ (pow-pos n) (omega arith) (g .cosineMost) in
     ap₂ {A = ℕ} {B = ℕ} (λ x y. record { negative = false; low = dyadic n x; high = dyadic n y }) low high
 
--- Where a relation of two enclosures is kept when both change sign, it is kept by the quarter turns.
-pub turn-keeps : (R : Enclosure → Enclosure → Type 0) → ((e f : Enclosure) → R e f → R (negate e) (negate f)) →
-    (q : ℕ) (p t : Enclosure × Enclosure) → R (p .0) (t .0) → R (p .1) (t .1) →
-    R (turn negate q p .0) (turn negate q t .0) × R (turn negate q p .1) (turn negate q t .1)
-turn-keeps R k zero p t a b = (a, b)
-turn-keeps R k (suc zero) p t a b = (b, k (p .0) (t .0) a)
-turn-keeps R k (suc (suc zero)) p t a b = (k (p .0) (t .0) a, k (p .1) (t .1) b)
-turn-keeps R k (suc (suc (suc q))) p t a b = (k (p .1) (t .1) b, a)
+-- Where a relation is kept when both sides change sign, it is kept by the quarter turns.
+pub turn-keeps : {A B : Type 0} (negA : A → A) (negB : B → B) (R : A → B → Type 0) → ((a : A) (b : B) → R a b → R (negA a) (negB b)) →
+    (q : ℕ) (p : A × A) (t : B × B) → R (p .0) (t .0) → R (p .1) (t .1) →
+    R (turn negA q p .0) (turn negB q t .0) × R (turn negA q p .1) (turn negB q t .1)
+turn-keeps negA negB R k zero p t a b = (a, b)
+turn-keeps negA negB R k (suc zero) p t a b = (b, k (p .0) (t .0) a)
+turn-keeps negA negB R k (suc (suc zero)) p t a b = (k (p .0) (t .0) a, k (p .1) (t .1) b)
+turn-keeps negA negB R k (suc (suc (suc q))) p t a b = (k (p .1) (t .1) b, a)
 
 -- what holds of the sine and the cosine of every w holds of both members of every v, for a relation that both signs may change in
 members-keep : (R : Enclosure → Enclosure → Type 0) → ((e f : Enclosure) → R e f → R (negate e) (negate f)) → (n m : ℕ) →
     ((w : ℕ) → R (sineOf n (rotation n w)) (sineOf m (rotation m w)) × R (cosineOf n (rotation n w)) (cosineOf m (rotation m w))) →
     (v : ℕ) → R (members n v .0) (members m v .0) × R (members n v .1) (members m v .1)
 unfolding members
-members-keep R k n m h v = turn-keeps R k (v / 16384) _ _ (h (v % 16384) .0) (h (v % 16384) .1)
+members-keep R k n m h v = turn-keeps negate negate R k (v / 16384) _ _ (h (v % 16384) .0) (h (v % 16384) .1)
 
 -- an enclosure has a point, and its points are at most 1 in size
 pub record Proper (e : Enclosure) : Type 0 where

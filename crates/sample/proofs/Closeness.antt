@@ -45,8 +45,8 @@ by-promise promise bounds k v hk hv =
     record {
       radius = g;
       bits = 96;
-      first = close (rotationOf v .0) (members 96 v .0) small (le-refl _) (le-refl _) (near .0) (omega arith) (omega arith);
-      second = close (rotationOf v .1) (members 96 v .1) small (le-refl _) (le-refl _) (near .1) (omega arith) (omega arith);
+      first = close (rotationOf v .0) (members 96 v .0) small (le-refl _) (le-refl _) (near .0) (omega arith);
+      second = close (rotationOf v .1) (members 96 v .1) small (le-refl _) (le-refl _) (near .1) (omega arith);
     }
 
 pub samples-close : (k v : ℕ) → k < 2 ^ 48 → v < 65536 → Close nineSixteenths 11 48 k v (firstOf k v) (secondOf k v)

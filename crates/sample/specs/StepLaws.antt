@@ -1,17 +1,14 @@
 -- Laws of the steps: the ranges that document 01 states, over the numerator m and the width b, and the root's law.
 -- Assumes nothing.
 use mathlib.Core.Path.{_≡_, refl, sym, ap, _∙_, subst}
-use mathlib.Core.Bool.{Bool, true, false}
-use Prim.Native.Nat.{ℕ, zero, suc, _+_, _-_, _*_, _/_, _%_, _^_, _≤_, _<_, zero-le}
-use native.Mathlib.Nat.{le-refl, mul-zero, zero-add, div-eq-of-lt, sub-zero, le-of-suc-le-suc, le-antisymm, mul-le-mul, le-trans, lt-of-lt-of-le, lt-of-le-of-lt, lt-of-not-le, not-le-of-lt, mul-le-mul-right, mul-lt-mul-of-pos-right, mod-lt, div-add-mod', div-lt-iff-lt-mul, le-div-iff-mul-le, pow-suc, mod-eq-sub-div-mul, zero-lt-suc}
+use Prim.Native.Nat.{ℕ, zero, suc, _+_, _-_, _*_, _/_, _%_, _^_, _≤_, _<_}
+use native.Mathlib.Nat.{le-refl, mul-zero, zero-add, div-eq-of-lt, sub-zero, le-of-suc-le-suc, le-antisymm, mul-le-mul, le-trans, lt-of-lt-of-le, lt-of-le-of-lt, lt-of-not-le, not-le-of-lt, mul-le-mul-right, mul-lt-mul-of-pos-right, mod-lt, div-add-mod', div-lt-iff-lt-mul, le-div-iff-mul-le, pow-suc, mod-eq-sub-div-mul}
 use native.Mathlib.Numerals.{add-one, add-one-le}
 use native.Mathlib.Omega.{arith}
 use lib.IntN.{ℤ, pos, negsuc, negℤ, negℤ-negℤ}
 use lib.Count.{leadingZeros, leading-top}
-use lib.Dec.{leb}
 use lib.Pow.{pow-pos, pow-mono, pow-lt, pow-add}
-use borrow.Author.Tests.{leb-true, leb-false}
-use Rattle.exact.specs.Rotation.{nextDigit, rootDigits}
+use Rattle.exact.specs.RootLaws.{root-digits-root}
 use Rattle.sample.specs.Steps.{topBit, mantissa, coarse, rest, fine, remainder, correction, logarithm, wholeRoot, size, rounded}
 
 -- ---- e, for a number of at most 64 bits: 2^e ≤ m < 2^(e+1)
@@ -128,23 +125,12 @@ logarithm-range A B K b m =
 
 -- ---- the root
 
--- one digit more: from a root of x / 4 to a root of x
-digit : (x r : ℕ) → r * r ≤ x / 4 → x / 4 < (r + 1) * (r + 1) → (t : Bool) → leb ((2 * r + 1) * (2 * r + 1)) x ≡ t →
-    (nextDigit r t * nextDigit r t ≤ x) × (x < (nextDigit r t + 1) * (nextDigit r t + 1))
-digit x r low high true e = (leb-true ((2 * r + 1) * (2 * r + 1)) x e, omega (arith, high))
-digit x r low high false e = (omega (arith, low), omega (arith, leb-false ((2 * r + 1) * (2 * r + 1)) x e))
-
-root-digits : (n x : ℕ) → x ≤ n → (rootDigits n x * rootDigits n x ≤ x) × (x < (rootDigits n x + 1) * (rootDigits n x + 1))
-unfolding rootDigits
-root-digits zero x h = (zero-le, omega arith)
-root-digits (suc n) zero h = (zero-le, omega arith)
-root-digits (suc n) (suc x) h =
-    let s = root-digits n (suc x / 4) (omega arith) in digit (suc x) (rootDigits n (suc x / 4)) (s .0) (s .1) _ refl
-
 -- F² ≤ x < (F + 1)²
 pub whole-root : (x : ℕ) → (wholeRoot x * wholeRoot x ≤ x) × (x < (wholeRoot x + 1) * (wholeRoot x + 1))
 unfolding wholeRoot
-whole-root x = root-digits x x (le-refl x)
+whole-root x =
+    let r = root-digits-root x x (le-refl x) in
+    (r .atMost, r .next)
 
 -- and no other number has that law
 pub whole-root-unique : (x r : ℕ) → r * r ≤ x → x < (r + 1) * (r + 1) → r ≡ wholeRoot x

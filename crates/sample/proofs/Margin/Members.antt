@@ -10,12 +10,13 @@ use lib.Pow.{pow-pos}
 use Rattle.exact.specs.Fraction.{dyadic, _≤ᶠ_}
 use Rattle.exact.specs.Rotation.{rotation, compose, coarse, fine, quotientUp}
 use Rattle.exact.specs.Pair.{negate, sineOf, cosineOf, members}
+use Rattle.exact.specs.MemberLaws.{turn-keeps}
 use Rattle.tables.specs.Promise.{Promise, Bounds, NearestIn}
 use Rattle.tables.specs.Tables.{cosCoarse, sinCoarse, cosFine, sinFine, entryOf}
 use Rattle.sample.specs.Steps.{cosine, sine}
 use Rattle.sample.specs.Sample.{rotationOf}
 use Rattle.sample.proofs.Margin.Angle.{Nearest, Entries, cosine-low, cosine-high, sine-low, sine-high}
-use Rattle.sample.proofs.Margin.Rounding.{Member, member-negate, turn-related}
+use Rattle.sample.proofs.Margin.Rounding.{Member, member-negate}
 
 -- a quotient rounded up, times the divisor
 rounded-up : (x y z : ℕ) → 0 < y → z ≤ quotientUp x y → y * z < x + y
@@ -130,5 +131,5 @@ module _ (promise : Promise) (bounds : Bounds) (w : ℕ) (small : w < 16384) whe
 pub members-near : Promise → Bounds → (v : ℕ) → Member (rotationOf v .0) (members 96 v .0) × Member (rotationOf v .1) (members 96 v .1)
 unfolding rotationOf Rattle.sample.specs.Steps.rotation members sines cosines
 members-near promise bounds v =
-    turn-related negℤ negate Member member-negate (v / 16384) _ _
+    turn-keeps negℤ negate Member member-negate (v / 16384) _ _
     (sine-member promise bounds (v % 16384) (omega arith)) (cosine-member promise bounds (v % 16384) (omega arith))

@@ -3,15 +3,17 @@
 use mathlib.Core.Path.{_≡_, refl, ap, sym, _∙_}
 use mathlib.Core.Bool.{Bool, true, false, not}
 use Prim.Native.Nat.{ℕ, zero, suc, _+_, _-_, _*_, _^_, _≤_, _<_}
-use native.Mathlib.Nat.{mul-le-mul, mul-le-mul-right, mul-lt-mul-of-pos-right, lt-of-mul-lt-mul-left, div-add-mod, mod-lt, div-eq-of-lt, mul-zero, zero-add}
+use native.Mathlib.Nat.{mul-le-mul, mul-le-mul-right, mul-lt-mul-of-pos-right, lt-of-mul-lt-mul-left, div-add-mod, mod-lt}
 use native.Mathlib.Omega.{arith}
-use lib.IntN.{ℤ, pos, negsuc, negℤ}
-use lib.Pow.{pow-pos, pow-add, pow-lt}
+use lib.IntN.{ℤ, pos, negℤ, negℤ-negℤ}
+use lib.Pow.{pow-pos, pow-add}
 use Rattle.exact.specs.Fraction.{Fraction, _≤ᶠ_, dyadic, _*ᶠ_}
 use Rattle.exact.specs.FractionLaws.{≤ᶠ-trans, *ᶠ-mono}
 use Rattle.exact.specs.Radius.{RadiusEnclosure}
-use Rattle.exact.specs.Pair.{Enclosure, negate, times, Within, along, CloseTo, turn}
+use Rattle.exact.specs.Pair.{Enclosure, negate, times, Within, along, CloseTo}
 use Rattle.sample.specs.Steps.{size, rounded}
+use Rattle.sample.specs.Parts.{withSign}
+use Rattle.sample.proofs.Signs.{rounded-apart}
 
 -- F at 2^20 is at most 8 above and 20 below the radius, G at 2^30 less than 3 from the member: what that does to their product
 product-below : (F G : ℕ) → F < 2 ^ 24 → G ≤ 2 ^ 30 + 3 → F * G ≤ (F - 8) * (G - 3) + 21 * 2 ^ 30
@@ -31,31 +33,29 @@ record Rounded (F G H U z : ℕ) : Type 0 where
   low : 2 * H * z ≤ F * G + H
   high : F * G + H < 2 * H * z + 2 * H
 
--- a over c lies between the products of the ends, and p over r leaves room for 21 × 2^30 beside the half: then |z - (a / c) U| < p / r
-sample-below : (F G H U z a c p r : ℕ) → Rounded F G H U z → 0 < c → 0 < r → r * (H + 21 * 2 ^ 30) < 2 * H * p
-    → (F - 8) * (G - 3) * c ≤ 2 ^ 50 * a → z * c * r < a * U * r + p * c
-sample-below F G H U z a c p r R hc hr room h =
-    let t : 2 * H * z ≤ (F - 8) * (G - 3) + 21 * 2 ^ 30 + H = omega (arith, product-below F G (R .radius) (R .member), R .low) in
-    lt-of-mul-lt-mul-left (2 * H) (from ((F - 8) * (G - 3)) (rw (← R .unit) at h) t (mul-lt-mul-of-pos-right room hc))
-  where
-    from : (b : ℕ) → b * c ≤ 2 * H * U * a → 2 * H * z ≤ b + 21 * 2 ^ 30 + H → r * (H + 21 * 2 ^ 30) * c < 2 * H * p * c
-        → 2 * H * (z * c * r) < 2 * H * (a * U * r + p * c)
-    from b h t room = omega (arith, mul-le-mul-right (c * r) t, mul-le-mul-right r h, room)
+-- x lies between the products of the ends, and the limit leaves room for 21 × 2^30 beside the half: then |z - x U| is below the limit
+below-half : (H U z a c p r b : ℕ) → b * c ≤ 2 * H * U * a → 2 * H * z ≤ b + 21 * 2 ^ 30 + H → r * (H + 21 * 2 ^ 30) * c < 2 * H * p * c
+    → 2 * H * (z * c * r) < 2 * H * (a * U * r + p * c)
+below-half H U z a c p r b h t room = omega (arith, mul-le-mul-right (c * r) t, mul-le-mul-right r h, room)
 
-sample-above : (F G H U z a c p r : ℕ) → Rounded F G H U z → 0 < c → 0 < r → r * (H + 21 * 2 ^ 30) < 2 * H * p
-    → 2 ^ 50 * a ≤ (F + 20) * (G + 3) * c → a * U * r < z * c * r + p * c
-sample-above F G H U z a c p r R hc hr room h =
-    let t : (F + 20) * (G + 3) ≤ 2 * H * z + H + 21 * 2 ^ 30 = omega (arith, product-above F G (R .radius) (R .member), R .high) in
-    lt-of-mul-lt-mul-left (2 * H) (from ((F + 20) * (G + 3)) (rw (← R .unit) at h) t (mul-lt-mul-of-pos-right room hc))
-  where
-    from : (b : ℕ) → 2 * H * U * a ≤ b * c → b ≤ 2 * H * z + H + 21 * 2 ^ 30 → r * (H + 21 * 2 ^ 30) * c < 2 * H * p * c
-        → 2 * H * (a * U * r) < 2 * H * (z * c * r + p * c)
-    from b h t room = omega (arith, mul-le-mul-right (c * r) t, mul-le-mul-right r h, room)
+above-half : (H U z a c p r b : ℕ) → 2 * H * U * a ≤ b * c → b ≤ 2 * H * z + H + 21 * 2 ^ 30 → r * (H + 21 * 2 ^ 30) * c < 2 * H * p * c
+    → 2 * H * (a * U * r) < 2 * H * (z * c * r + p * c)
+above-half H U z a c p r b h t room = omega (arith, mul-le-mul-right (c * r) t, mul-le-mul-right r h, room)
 
--- n with a sign
-abbrev pub withSign : Bool → ℕ → ℤ
-withSign false n = pos n
-withSign true n = negℤ (pos n)
+module _ (F G H U z : ℕ) (x limit : Fraction) (R : Rounded F G H U z) (room : limit .bottom * (H + 21 * 2 ^ 30) < 2 * H * limit .top) where
+  sample-below : (F - 8) * (G - 3) * x .bottom ≤ 2 ^ 50 * x .top → z * x .bottom * limit .bottom < x .top * U * limit .bottom + limit .top * x .bottom
+  sample-below h =
+      let t : 2 * H * z ≤ (F - 8) * (G - 3) + 21 * 2 ^ 30 + H = omega (arith, product-below F G (R .radius) (R .member), R .low) in
+      lt-of-mul-lt-mul-left (2 * H)
+      (below-half H U z (x .top) (x .bottom) (limit .top) (limit .bottom) ((F - 8) * (G - 3)) (rw (← R .unit) at h) t
+      (mul-lt-mul-of-pos-right room (x .positive)))
+
+  sample-above : 2 ^ 50 * x .top ≤ (F + 20) * (G + 3) * x .bottom → x .top * U * limit .bottom < z * x .bottom * limit .bottom + limit .top * x .bottom
+  sample-above h =
+      let t : (F + 20) * (G + 3) ≤ 2 * H * z + H + 21 * 2 ^ 30 = omega (arith, product-above F G (R .radius) (R .member), R .high) in
+      lt-of-mul-lt-mul-left (2 * H)
+      (above-half H U z (x .top) (x .bottom) (limit .top) (limit .bottom) ((F + 20) * (G + 3)) (rw (← R .unit) at h) t
+      (mul-lt-mul-of-pos-right room (x .positive)))
 
 -- G at 2^30 has the enclosure's sign and is less than 3 from each of its points
 pub record Member (G : ℤ) (e : Enclosure) : Type 0 where
@@ -65,14 +65,13 @@ pub record Member (G : ℤ) (e : Enclosure) : Type 0 where
   pub low : dyadic 30 (number - 3) ≤ᶠ e .low
   pub high : e .high ≤ᶠ dyadic 30 (number + 3)
 
-neg-neg : (x : ℤ) → negℤ (negℤ x) ≡ x
-neg-neg (pos zero) = refl
-neg-neg (pos (suc n)) = refl
-neg-neg (negsuc n) = refl
-
 withSign-not : (b : Bool) (n : ℕ) → negℤ (withSign b n) ≡ withSign (not b) n
 withSign-not false n = refl
-withSign-not true n = neg-neg (pos n)
+withSign-not true n = negℤ-negℤ (pos n)
+
+along-sign : (b : Bool) (n : ℕ) → along b (withSign b n) ≡ pos n
+along-sign false n = refl
+along-sign true n = negℤ-negℤ (pos n)
 
 pub member-negate : (G : ℤ) (e : Enclosure) → Member G e → Member (negℤ G) (negate e)
 member-negate G e m = record {
@@ -82,14 +81,6 @@ member-negate G e m = record {
   low = m .low;
   high = m .high;
 }
-
--- Quarter turns keep what negation keeps.
-pub turn-related : {A B : Type 0} (negA : A → A) (negB : B → B) (R : A → B → Type 0) → ((a : A) (b : B) → R a b → R (negA a) (negB b))
-    → (q : ℕ) (p : A × A) (r : B × B) → R (p .0) (r .0) → R (p .1) (r .1) → R (turn negA q p .0) (turn negB q r .0) × R (turn negA q p .1) (turn negB q r .1)
-turn-related negA negB R keeps zero p r s c = (s, c)
-turn-related negA negB R keeps (suc zero) p r s c = (c, keeps (p .0) (r .0) s)
-turn-related negA negB R keeps (suc (suc zero)) p r s c = (keeps (p .0) (r .0) s, keeps (p .1) (r .1) c)
-turn-related negA negB R keeps (suc (suc (suc q))) p r s c = (keeps (p .1) (r .1) c, s)
 
 -- the size, as a rounding at 2 H = 2 ^ (50 - f)
 module _ (f F : ℕ) (few : f ≤ 49) where
@@ -111,29 +102,23 @@ module _ (f F : ℕ) (few : f ≤ 49) where
       let m = rw halves at (mod-lt (F * G + H) (pow-pos (50 - f))) in
       rw halves (record { radius = hF; member = hG; unit = whole-units; low = omega (arith, d, m); high = omega (arith, d, m) })
 
-  size-zero : size f F 0 ≡ 0
-  unfolding size
-  size-zero = div-eq-of-lt (rw (mul-zero F, zero-add) (pow-lt (omega arith)))
-
   -- the sample, seen along the sign, is its size
   along-rounded : (b : Bool) (n : ℕ) → along b (rounded f F (withSign b n)) ≡ pos (size f F n)
-  along-rounded false n = refl
-  along-rounded true zero = ap (λ (k : ℕ). negℤ (pos k)) size-zero ∙ ap pos (sym size-zero)
-  along-rounded true (suc n) = neg-neg (pos (size f F (suc n)))
+  along-rounded b n = ap (along b) (rounded-apart f F few b n) ∙ along-sign b (size f F n)
 
   -- a sample is close to every point between the radius, F at 2^20 with its margin, times a member with its margin
   pub member-close : {b m : ℕ} (g : RadiusEnclosure b m) (limit : Fraction) (G : ℤ) (e : Enclosure) → F < 2 ^ 24
       → dyadic 20 (F - 8) ≤ᶠ g .low → g .high ≤ᶠ dyadic 20 (F + 20) → Member G e
-      → 0 < limit .bottom → limit .bottom * (2 ^ (49 - f) + 21 * 2 ^ 30) < 2 * 2 ^ (49 - f) * limit .top
+      → limit .bottom * (2 ^ (49 - f) + 21 * 2 ^ 30) < 2 * 2 ^ (49 - f) * limit .top
       → CloseTo limit f (rounded f F G) (times g e)
   unfolding CloseTo Within
-  member-close g limit G e hF low high m some room x from to =
+  member-close g limit G e hF low high m room x from to =
       let n = m .number in
       let r = size-rounded n hF (m .most) in
-      let lo = ≤ᶠ-trans (dyadic 20 (F - 8) *ᶠ dyadic 30 (n - 3)) (g .low *ᶠ e .low) x
-      (*ᶠ-mono (dyadic 20 (F - 8)) (g .low) (dyadic 30 (n - 3)) (e .low) low (m .low)) from in
-      let hi = ≤ᶠ-trans x (g .high *ᶠ e .high) (dyadic 20 (F + 20) *ᶠ dyadic 30 (n + 3)) to
-      (*ᶠ-mono (g .high) (dyadic 20 (F + 20)) (e .high) (dyadic 30 (n + 3)) high (m .high)) in
-      let below = sample-below F n (2 ^ (49 - f)) (2 ^ f) (size f F n) (x .top) (x .bottom) (limit .top) (limit .bottom) r (x .positive) some room (omega (arith, lo)) in
-      let above = sample-above F n (2 ^ (49 - f)) (2 ^ f) (size f F n) (x .top) (x .bottom) (limit .top) (limit .bottom) r (x .positive) some room (omega (arith, hi)) in
+      let low' = *ᶠ-mono (dyadic 20 (F - 8)) (g .low) (dyadic 30 (n - 3)) (e .low) low (m .low) in
+      let high' = *ᶠ-mono (g .high) (dyadic 20 (F + 20)) (e .high) (dyadic 30 (n + 3)) high (m .high) in
+      let from' = ≤ᶠ-trans (dyadic 20 (F - 8) *ᶠ dyadic 30 (n - 3)) (g .low *ᶠ e .low) x low' from in
+      let to' = ≤ᶠ-trans x (g .high *ᶠ e .high) (dyadic 20 (F + 20) *ᶠ dyadic 30 (n + 3)) to high' in
+      let below = sample-below F n (2 ^ (49 - f)) (2 ^ f) (size f F n) x limit r room (omega (arith, from')) in
+      let above = sample-above F n (2 ^ (49 - f)) (2 ^ f) (size f F n) x limit r room (omega (arith, to')) in
       rw (m .value, along-rounded (e .negative) n) (omega (arith, below), omega (arith, above))
