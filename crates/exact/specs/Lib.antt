@@ -11,6 +11,9 @@ pub mod RootLaws
 pub mod RotationLaws
 pub mod RotationWidth
 pub mod RotationBits
+pub mod Limit
+pub mod RotationLimit
+pub mod RotationLength
 pub mod Pair
 pub mod MemberLaws
 pub mod PairLaws

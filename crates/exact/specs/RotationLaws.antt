@@ -1,5 +1,5 @@
--- Laws of the rotations of Rotation.antt: every enclosure is non-empty, with low ends of a length at most 1; those at more bits lie
--- inside those at fewer, and so any two overlap. Assumes nothing.
+-- Laws of the rotations of Rotation.antt: every enclosure is non-empty, with low ends of a length at most 1; those at more bits
+-- lie inside those at fewer, and so any two overlap. Assumes nothing.
 use mathlib.Core.Path.{_≡_, refl}
 use Prim.Native.Nat.{ℕ, zero, suc, _+_, _-_, _*_, _/_, _%_, _^_, _≤_, _<_, min}
 use native.Mathlib.Nat.{add-comm, le-trans, le-dest, min-eq-left, min-eq-right, mul-sub, mul-pos, mul-le-mul, mul-le-mul-left}
@@ -52,7 +52,7 @@ good-half n {r} g = record {
       omega (arith, mul-le-mul-right (2 ^ n) l);
 }
 
-square-of-difference : (p q k : ℕ) → q + k ≡ p → k * k + 2 * (p * q) ≡ p * p + q * q
+pub square-of-difference : (p q k : ℕ) → q + k ≡ p → k * k + 2 * (p * q) ≡ p * p + q * q
 square-of-difference p q k e = rw (← e) (omega arith)
 
 -- (c c' - s s')² + (s c' + c s')² = (c² + s²) (c'² + s'²), at low ends and with the first difference made smaller
@@ -124,8 +124,9 @@ unfolding rotation
 rotation-good n w = good-compose n (good-bits n 0 7 (w / 128)) (good-bits n 7 7 (w % 128))
 
 -- "a rotation": the squares of the low ends sum to at most 1
-pub rotation-length : (n w : ℕ) → square (dyadic n (rotation n w .cosLow)) +ᶠ square (dyadic n (rotation n w .sinLow)) ≤ᶠ whole 1
-rotation-length n w = omega (arith, mul-le-mul-right (2 ^ n * 2 ^ n) (rotation-good n w .unit))
+pub rotation-length-low : (n w : ℕ) →
+    square (dyadic n (rotation n w .cosLow)) +ᶠ square (dyadic n (rotation n w .sinLow)) ≤ᶠ whole 1
+rotation-length-low n w = omega (arith, mul-le-mul-right (2 ^ n * 2 ^ n) (rotation-good n w .unit))
 
 -- the ends of `inner` at n + d bits lie within those of `outer` at n bits
 pub record Inside (d : ℕ) (outer inner : Rotation) : Type 0 where
@@ -160,7 +161,7 @@ inside-half n d {r} {t} i = rw (pow-add 2 n d) record {
 floor-inside : (N D a b : ℕ) → zero < N → zero < D → D * D * a ≤ b → D * (a / N) ≤ b / (N * D)
 floor-inside N D a b p q h = le-div-iff-mul-le (mul-pos p q) .1 (omega (arith, mul-le-mul-left (D * D) (mul-div-le a N)))
 
-scaled-min : (D x y z : ℕ) → z ≤ D * x → z ≤ D * y → z ≤ D * min x y
+pub scaled-min : (D x y z : ℕ) → z ≤ D * x → z ≤ D * y → z ≤ D * min x y
 scaled-min D x y z h k = go (decLe x y)
   where
     go : Dec (x ≤ y) → z ≤ D * min x y
@@ -199,17 +200,17 @@ inside-compose n d {r} {t} {r'} {t'} i j =
           ceiling-inside N D _ _ (pow-pos n) (pow-pos d) (omega (arith, sc, cs));
     }
 
-inside-halving : (n d j : ℕ) → Inside d (halving n j) (halving (n + d) j)
+pub inside-halving : (n d j : ℕ) → Inside d (halving n j) (halving (n + d) j)
 unfolding halving
 inside-halving n d zero = inside-quarter n d
 inside-halving n d (suc j) = inside-half n d (inside-halving n d j)
 
-inside-bit : (n d j b : ℕ) → Inside d (bitRotation n j b) (bitRotation (n + d) j b)
+pub inside-bit : (n d j b : ℕ) → Inside d (bitRotation n j b) (bitRotation (n + d) j b)
 unfolding bitRotation
 inside-bit n d j zero = inside-none n d
 inside-bit n d j (suc b) = inside-halving n d j
 
-inside-bits : (n d j count x : ℕ) → Inside d (bitsRotation n j count x) (bitsRotation (n + d) j count x)
+pub inside-bits : (n d j count x : ℕ) → Inside d (bitsRotation n j count x) (bitsRotation (n + d) j count x)
 unfolding bitsRotation
 inside-bits n d j zero x = inside-none n d
 inside-bits n d j (suc count) x = inside-compose n d (inside-bits n d j count (x / 2)) (inside-bit n d _ (x % 2))

@@ -23,7 +23,7 @@ pub record Narrowing (r : ℕ → ℕ → Rotation) : Type 0 where
   pub narrow : (e n x : ℕ) → start e ≤ n → Narrow e n (r n x)
 
 -- such a family may be read at other numbers
-narrowing-at : {r : ℕ → ℕ → Rotation} (f : ℕ → ℕ) → Narrowing r → Narrowing (λ n x. r n (f x))
+pub narrowing-at : {r : ℕ → ℕ → Rotation} (f : ℕ → ℕ) → Narrowing r → Narrowing (λ n x. r n (f x))
 narrowing-at f w = record { start = w .start; narrow = λ e n x. w .narrow e n (f x) }
 
 four-units : (e n : ℕ) → e + 2 ≤ n → 4 * 2 ^ e ≤ 2 ^ n
@@ -115,13 +115,13 @@ narrow-compose e n {r} {t} big g h w v =
       sine = quotient-width N E _ _ width (pow-pos n) units small (omega (arith, sc, cs));
     }
 
-narrowing-half : {r : ℕ → ℕ → Rotation} → Narrowing r → Narrowing (λ n x. half n (r n x))
+pub narrowing-half : {r : ℕ → ℕ → Rotation} → Narrowing r → Narrowing (λ n x. half n (r n x))
 narrowing-half w = record {
   start = λ e. max (w .start (e + e + 1)) (e + 2);
   narrow = λ e n x big. narrow-half e n (omega arith) (w .narrow (e + e + 1) n x (omega arith));
 }
 
-narrowing-compose : {r t : ℕ → ℕ → Rotation} → ((n x : ℕ) → Good n (r n x)) → ((n x : ℕ) → Good n (t n x)) →
+pub narrowing-compose : {r t : ℕ → ℕ → Rotation} → ((n x : ℕ) → Good n (r n x)) → ((n x : ℕ) → Good n (t n x)) →
     Narrowing r → Narrowing t → Narrowing (λ n x. compose n (r n x) (t n x))
 narrowing-compose g h w v = record {
   start = λ e. max (max (w .start (e + 3)) (v .start (e + 3))) (e + 2);
@@ -129,29 +129,29 @@ narrowing-compose g h w v = record {
       narrow-compose e n (omega arith) (g n x) (h n x) (w .narrow (e + 3) n x (omega arith)) (v .narrow (e + 3) n x (omega arith));
 }
 
-narrowing-none : Narrowing (λ n x. none n)
+pub narrowing-none : Narrowing (λ n x. none n)
 narrowing-none = record { start = λ e. 0; narrow = λ e n x big. omega arith }
 
-narrowing-halving : (j : ℕ) → Narrowing (λ n x. halving n j)
+pub narrowing-halving : (j : ℕ) → Narrowing (λ n x. halving n j)
 unfolding halving
 narrowing-halving zero = record { start = λ e. 0; narrow = λ e n x big. omega arith }
 narrowing-halving (suc j) = narrowing-half (narrowing-halving j)
 
-narrowing-bit : (j : ℕ) → Narrowing (λ n x. bitRotation n j x)
+pub narrowing-bit : (j : ℕ) → Narrowing (λ n x. bitRotation n j x)
 unfolding bitRotation
 narrowing-bit j = record {
   start = narrowing-halving j .start;
   narrow = λ e n. elim [ zero ↦ λ big. omega arith | suc x ↦ narrowing-halving j .narrow e n x ];
 }
 
-narrowing-bits : (j count : ℕ) → Narrowing (λ n x. bitsRotation n j count x)
+pub narrowing-bits : (j count : ℕ) → Narrowing (λ n x. bitsRotation n j count x)
 unfolding bitsRotation
 narrowing-bits j zero = narrowing-none
 narrowing-bits j (suc count) =
     narrowing-compose (λ n x. good-bits n j count (x / 2)) (λ n x. good-bit n _ (x % 2))
     (narrowing-at (λ x. x / 2) (narrowing-bits j count)) (narrowing-at (λ x. x % 2) (narrowing-bit _))
 
-narrowing-rotation : Narrowing rotation
+pub narrowing-rotation : Narrowing rotation
 unfolding rotation
 narrowing-rotation =
     narrowing-compose (λ n w. good-bits n 0 7 (w / 128)) (λ n w. good-bits n 7 7 (w % 128))
