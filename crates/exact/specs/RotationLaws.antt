@@ -52,6 +52,7 @@ good-half n {r} g = record {
       omega (arith, mul-le-mul-right (2 ^ n) l);
 }
 
+-- (p - q)² = p² + q² - 2 p q
 pub square-of-difference : (p q k : ℕ) → q + k ≡ p → k * k + 2 * (p * q) ≡ p * p + q * q
 square-of-difference p q k e = rw (← e) (omega arith)
 
@@ -70,6 +71,7 @@ unit-product N c s c' s' u g h l = go (decLe (s * s') (c * c'))
         let m : u ≤ 0 = omega arith in
         omega (arith, square-of-difference (s * s') (c * c') k e, mul-le-mul m m, mul-le-mul g h)
 
+-- a quotient rounded down against one rounded up and cut at 1
 floor-le-ceiling : (N a b : ℕ) → zero < N → a ≤ b → a ≤ N * N → a / N ≤ min N (quotientUp b N)
 floor-le-ceiling N a b p h l = omega (arith, x, y)
   where

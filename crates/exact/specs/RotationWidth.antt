@@ -23,9 +23,10 @@ pub record Narrowing (r : ℕ → ℕ → Rotation) : Type 0 where
   pub narrow : (e n x : ℕ) → start e ≤ n → Narrow e n (r n x)
 
 -- such a family may be read at other numbers
-pub narrowing-at : {r : ℕ → ℕ → Rotation} (f : ℕ → ℕ) → Narrowing r → Narrowing (λ n x. r n (f x))
+narrowing-at : {r : ℕ → ℕ → Rotation} (f : ℕ → ℕ) → Narrowing r → Narrowing (λ n x. r n (f x))
 narrowing-at f w = record { start = w .start; narrow = λ e n x. w .narrow e n (f x) }
 
+-- four units of 2 ^ -n are at most 2 ^ -e
 four-units : (e n : ℕ) → e + 2 ≤ n → 4 * 2 ^ e ≤ 2 ^ n
 four-units e n h = omega (arith, pow-mono h, pow-add 2 e 2)
 
@@ -57,6 +58,7 @@ root-width N E x y big h = go (decLe (rootDown (x * N) + 1) (rootDown (y * N)))
         let m : rootDown (y * N) ≤ rootDown (x * N) = omega arith in
         omega (arith, up, mul-le-mul-left E m)
 
+-- half an angle to 2 ^ -e, from the angle to 2 ^ -(2 e + 1)
 narrow-half : (e n : ℕ) {r : Rotation} → e + 2 ≤ n → Narrow (e + e + 1) n r → Narrow e n (half n r)
 unfolding half
 narrow-half e n {r} big w =
@@ -92,7 +94,7 @@ eighth : (e n : ℕ) {low high : ℕ} → low ≤ high → 2 ^ (e + 3) * high �
     8 * (2 ^ e * (high - low)) ≤ 2 ^ n
 eighth e n l = rw (pow-add 2 e 3, mul-sub) (λ h. omega arith)
 
--- each of the four widths is at most N / (8 E), so their sum is at most N / (2 E)
+-- a composition to 2 ^ -e, from both to 2 ^ -(e + 3): each of the four widths is at most N / (8 E), and their sum at most N / (2 E)
 narrow-compose : (e n : ℕ) {r t : Rotation} → e + 2 ≤ n → Good n r → Good n t → Narrow (e + 3) n r → Narrow (e + 3) n t →
     Narrow e n (compose n r t)
 unfolding compose
@@ -115,13 +117,13 @@ narrow-compose e n {r} {t} big g h w v =
       sine = quotient-width N E _ _ width (pow-pos n) units small (omega (arith, sc, cs));
     }
 
-pub narrowing-half : {r : ℕ → ℕ → Rotation} → Narrowing r → Narrowing (λ n x. half n (r n x))
+narrowing-half : {r : ℕ → ℕ → Rotation} → Narrowing r → Narrowing (λ n x. half n (r n x))
 narrowing-half w = record {
   start = λ e. max (w .start (e + e + 1)) (e + 2);
   narrow = λ e n x big. narrow-half e n (omega arith) (w .narrow (e + e + 1) n x (omega arith));
 }
 
-pub narrowing-compose : {r t : ℕ → ℕ → Rotation} → ((n x : ℕ) → Good n (r n x)) → ((n x : ℕ) → Good n (t n x)) →
+narrowing-compose : {r t : ℕ → ℕ → Rotation} → ((n x : ℕ) → Good n (r n x)) → ((n x : ℕ) → Good n (t n x)) →
     Narrowing r → Narrowing t → Narrowing (λ n x. compose n (r n x) (t n x))
 narrowing-compose g h w v = record {
   start = λ e. max (max (w .start (e + 3)) (v .start (e + 3))) (e + 2);
@@ -137,7 +139,7 @@ unfolding halving
 narrowing-halving zero = record { start = λ e. 0; narrow = λ e n x big. omega arith }
 narrowing-halving (suc j) = narrowing-half (narrowing-halving j)
 
-pub narrowing-bit : (j : ℕ) → Narrowing (λ n x. bitRotation n j x)
+narrowing-bit : (j : ℕ) → Narrowing (λ n x. bitRotation n j x)
 unfolding bitRotation
 narrowing-bit j = record {
   start = narrowing-halving j .start;
@@ -151,7 +153,7 @@ narrowing-bits j (suc count) =
     narrowing-compose (λ n x. good-bits n j count (x / 2)) (λ n x. good-bit n _ (x % 2))
     (narrowing-at (λ x. x / 2) (narrowing-bits j count)) (narrowing-at (λ x. x % 2) (narrowing-bit _))
 
-pub narrowing-rotation : Narrowing rotation
+narrowing-rotation : Narrowing rotation
 unfolding rotation
 narrowing-rotation =
     narrowing-compose (λ n w. good-bits n 0 7 (w / 128)) (λ n w. good-bits n 7 7 (w % 128))
@@ -177,6 +179,7 @@ narrower-than N Q p q low high one some l h = go (decLe high low)
         let small : 2 * (q * k) ≤ N = omega (arith, mul-le-mul-right k l, ap (λ (x : ℕ). Q * x) d) in
         omega (arith, scale, mul-pos one one, mul-le-mul-right N small, ap (λ (x : ℕ). x * (N * q)) d)
 
+-- so 2 ^ -(q + 1) is less than p / q
 lt-two-pow : (q : ℕ) → q < 2 ^ q
 lt-two-pow zero = omega arith
 lt-two-pow (suc q) = omega (arith, lt-two-pow q)
