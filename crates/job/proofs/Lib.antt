@@ -4,3 +4,4 @@ pub mod RoundTrip
 pub mod Scan
 pub mod Cuts
 pub mod Reading
+pub mod Writing

@@ -1,13 +1,14 @@
 -- What the answers of the readers mean.
-use Prim.Native.Nat.{ℕ, _+_, _-_}
+use Prim.Native.Nat.{ℕ, _+_, _-_, _≤_}
 use mathlib.Core.Path.{_≡_}
 use mathlib.Core.Bool.{Bool, true, false, cond, _&&_}
 use mathlib.Core.Option.{Option, some, none}
 use mathlib.Core.List.{List, [], map}
 use lib.Dec.{leb, eqb}
 use lib.ListN.{length, getD, take, drop, set}
-use Rattle.job.specs.Numbers.{value, numeral}
+use Rattle.job.specs.Numbers.{value, numeral, decimal}
 use Rattle.job.specs.Forms.{field, Form, seeds, sigma, shot, noForm}
+use Rattle.job.specs.declared.print.Digits.{Digits}
 use Rattle.job.specs.declared.line.Cutting.{Cutting}
 use Rattle.job.specs.declared.line.Three.{Three}
 use Rattle.job.specs.declared.line.Line.{Line}
@@ -58,3 +59,9 @@ said line (Seeds s) = seeds (s .a0) (s .a1) (s .a2) (s .b0) (s .b1) (s .b2)
 said line (Sigma s) = sigma (s .distance) (s .bearing)
 said line (Shot s) = shot (partOf line (s .from)) (partOf line (s .to)) (s .distance) (s .bearing)
 said line NoForm = noForm
+
+-- the digits of n, from an index of ten bytes on
+pub record SpelledIn (n : ℕ) (r : Digits) : Type 0 where
+  pub digits : drop (r .from) (r .bytes) ≡ decimal n
+  pub most : r .from ≤ 10
+  pub size : length (r .bytes) ≡ 10

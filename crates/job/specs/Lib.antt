@@ -3,3 +3,4 @@ pub mod Numbers
 pub mod Forms
 pub mod Answers
 pub mod Lines
+pub mod Listing

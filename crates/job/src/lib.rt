@@ -1,3 +1,4 @@
 // Jobs and their listings (document 01, "A job and its listing").
 mod field;
 mod line;
+mod print;
