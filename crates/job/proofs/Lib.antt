@@ -5,3 +5,4 @@ pub mod Scan
 pub mod Cuts
 pub mod Reading
 pub mod Writing
+pub mod Sizes

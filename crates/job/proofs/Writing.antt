@@ -35,10 +35,10 @@ unfolding written
 written-append d at s t room =
     let h : at + length s ≤ length d = omega arith in
     let e : drop (at + length s + length t) (take at d ++ s ++ drop (at + length s) d) ≡ drop (at + length (s ++ t)) d =
-        sym (drop-drop (length t) (at + length s) (written d at s))
-        ∙ ap (λ (l : List ℕ). drop (length t) l) (written-drop d at s h)
-        ∙ drop-drop (length t) (at + length s) d
-        ∙ ap (λ (n : ℕ). drop n d) {x = at + length s + length t} {y = at + length (s ++ t)} (omega (arith, length-append s t)) in
+    sym (drop-drop (length t) (at + length s) (written d at s))
+    ∙ ap (λ (l : List ℕ). drop (length t) l) (written-drop d at s h)
+    ∙ drop-drop (length t) (at + length s) d
+    ∙ ap (λ (n : ℕ). drop n d) {x = at + length s + length t} {y = at + length (s ++ t)} (omega (arith, length-append s t)) in
     ap (λ (l : List ℕ). l ++ t ++ drop (at + length s + length t) (take at d ++ s ++ drop (at + length s) d)) (written-take d at s h)
     ∙ ap (λ (l : List ℕ). take at d ++ s ++ t ++ l) e
     ∙ ap (λ (l : List ℕ). l ++ drop (at + length (s ++ t)) d) (append-assoc (take at d) s t)
@@ -83,7 +83,7 @@ pub then : (d : List ℕ) (at : ℕ) (s : List ℕ) (e : List ℕ) (a : ℕ) (t 
 then d at s e a t f b room p q =
     record {
       buffer = q .buffer ∙ rw (p .buffer, p .place) (written-append d at s t room);
-      place = omega (arith, q .place, p .place, length-append s t)
+      place = omega (arith, q .place, p .place, length-append s t);
     }
 
 -- what `put_field` and `put_number` promise

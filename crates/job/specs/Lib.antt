@@ -4,3 +4,4 @@ pub mod Forms
 pub mod Answers
 pub mod Lines
 pub mod Listing
+pub mod Rounding

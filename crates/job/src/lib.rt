@@ -2,3 +2,4 @@
 mod field;
 mod line;
 mod print;
+mod rounding;

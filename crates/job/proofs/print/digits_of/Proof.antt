@@ -47,11 +47,10 @@ loop-less c = search needs
 
 -- src/print.rt:43:5
 loop-again : tie.Need-loop-again Inv-loop μ-loop
-loop-again c = 
+loop-again c =
     let at = c .before in
     let l = length-more (at .loop .rest) (c .loop-test .taken) in
-    let s = decimal-some (at .loop .rest / 10) in
-    (
+    let s = decimal-some (at .loop .rest / 10) in (
       omega arith,
       length-set (at .loop .bytes) _ _ ∙ at .loop .inv .1,
       omega arith,
@@ -76,13 +75,13 @@ array-write-bytes-2 c = search needs
 
 -- src/print.rt:37:1
 returns : tie.Need-returns Inv-loop μ-loop
-returns c = 
+returns c =
     let at = c .before in
     let s = decimal-some (at .loop .rest) in
     record {
       digits = digit-last _ (at .loop .rest) (at .loop .from) (at .loop .bytes) (at .loop .inv .1) (at .loop .inv .0) (at .loop .inv .3) (omega arith) (omega arith);
       most = omega arith;
-      size = length-set (at .loop .bytes) _ _ ∙ at .loop .inv .1
+      size = length-set (at .loop .bytes) _ _ ∙ at .loop .inv .1;
     }
 
 pub digits-of-spec : {M : Type 1} → statement M

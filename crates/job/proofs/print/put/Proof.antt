@@ -45,11 +45,10 @@ loop-less c = search needs
 
 -- src/print.rt:20:5
 loop-again : tie.Need-loop-again Inv-loop μ-loop
-loop-again c = 
+loop-again c =
     let at = c .before .before in
     let e = at .loop .inv .1 in
-    let h = c .before .loop-test .taken in
-    (
+    let h = c .before .loop-test .taken in (
       omega arith,
       rw (e, paste-suc (at .before .args .out .now) (at .before .args .at) (at .before .args .bytes .now) (at .loop .i) 0 (omega arith) h, add-one (at .loop .i)),
       length-set (at .loop .out) _ _ ∙ at .loop .inv .2,
@@ -65,7 +64,7 @@ same-length c = c .before .loop .inv .2
 
 -- src/print.rt:15:1
 returns : tie.Need-returns Inv-loop μ-loop
-returns c = 
+returns c =
     let e : c .before .loop .i ≡ length (c .before .before .args .bytes .now) = omega arith in
     (omega arith, c .before .loop .inv .1 ∙ rw (← written-paste _ _ _, e))
 

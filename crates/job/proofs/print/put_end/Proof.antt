@@ -29,14 +29,14 @@ same-length c = c .before .before .put-number .kept .0 ∙ c .before .before .be
 
 -- src/print.rt:84:1
 returns : tie.Need-returns
-returns c = 
+returns c =
     let at = c .before .before .before .before .before .before .before .before .before .before in
     let p = c .before .before .before .before .before .before .put-field in
     let q = c .before .before .put-number in
     let r =
-        put-end (at .args .out .now) (at .args .at) (at .args .count) (p .last .0) (q .last .0) (p .result) (q .result) (at .pre)
-        (put-ended _ _ (ascii "END") 32 _ _ (p .ensures .0) (p .ensures .1))
-        (put-ended _ _ (decimal (at .args .count)) 10 _ _ (q .ensures .0) (q .ensures .1)) in
+    put-end (at .args .out .now) (at .args .at) (at .args .count) (p .last .0) (q .last .0) (p .result) (q .result) (at .pre)
+    (put-ended _ _ (ascii "END") 32 _ _ (p .ensures .0) (p .ensures .1))
+    (put-ended _ _ (decimal (at .args .count)) 10 _ _ (q .ensures .0) (q .ensures .1)) in
     (r .place, r .buffer)
 
 pub put-end-spec : {M : Type 1} → statement M

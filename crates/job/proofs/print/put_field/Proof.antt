@@ -29,14 +29,13 @@ same-length c = search needs
 
 -- src/print.rt:28:1
 returns : tie.Need-returns
-returns c = 
+returns c =
     let at = c .before .before .before .before .before .before in
     let p = c .before .before .put in
-    let b : p .result < length (p .last .0) = omega (arith, p .ensures .0, p .kept .0, at .pre) in
-    (
+    let b : p .result < length (p .last .0) = omega (arith, p .ensures .0, p .kept .0, at .pre) in (
       omega (arith, p .ensures .0),
       written-byte (p .last .0) (p .result) (at .args .end) b
-      ∙ rw (p .ensures .1, p .ensures .0) (written-append (at .args .out .now) (at .args .at) (at .args .bytes .now) (at .args .end ∷ []) (omega (arith, at .pre))),
+          ∙ rw (p .ensures .1, p .ensures .0) (written-append (at .args .out .now) (at .args .at) (at .args .bytes .now) (at .args .end ∷ []) (omega (arith, at .pre))),
     )
 
 pub put-field-spec : {M : Type 1} → statement M

@@ -26,7 +26,7 @@ part-put-field-end c = omega (arith, c .before .before .before .digits-of .ensur
 
 -- src/print.rt:61:5
 put-field-requires : tie.Need-put-field-requires
-put-field-requires c κs = 
+put-field-requires c κs =
     let at = c .before .before .before .before .before .before in
     let d = c .before .before .before .before .digits-of in
     rw (digits-whole (at .args .n) (d .result) (d .ensures)) (at .pre)
@@ -37,7 +37,7 @@ same-length c = search needs
 
 -- src/print.rt:54:1
 returns : tie.Need-returns
-returns c = 
+returns c =
     let at = c .before .before .before .before .before .before .before .before .before in
     let d = c .before .before .before .before .before .before .before .digits-of in
     let e = digits-whole (at .args .n) (d .result) (d .ensures) in

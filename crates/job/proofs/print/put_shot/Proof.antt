@@ -32,19 +32,19 @@ same-length c = c .before .before .put-number2 .kept .0 ∙ c .before .before .b
 
 -- src/print.rt:66:1
 returns : tie.Need-returns
-returns c = 
+returns c =
     let at = c .before .before .before .before .before .before .before .before .before .before .before .before .before .before .before .before .before .before .before in
     let p = c .before .before .before .before .before .before .before .before .before .before .before .before .before .before .put-field in
     let q = c .before .before .before .before .before .before .before .before .before .before .put-field2 in
     let r = c .before .before .before .before .before .before .put-number in
     let s = c .before .before .put-number2 in
     let t =
-        put-row (at .args .out .now) (at .args .at) (at .args .from .now) (at .args .to .now) (at .args .mm) (at .args .step)
-        (p .last .0) (q .last .0) (r .last .0) (s .last .0) (p .result) (q .result) (r .result) (s .result) (at .pre)
-        (put-ended _ _ (at .args .from .now) 32 _ _ (p .ensures .0) (p .ensures .1))
-        (put-ended _ _ (at .args .to .now) 32 _ _ (q .ensures .0) (q .ensures .1))
-        (put-ended _ _ (decimal (at .args .mm)) 32 _ _ (r .ensures .0) (r .ensures .1))
-        (put-ended _ _ (decimal (at .args .step)) 10 _ _ (s .ensures .0) (s .ensures .1)) in
+    put-row (at .args .out .now) (at .args .at) (at .args .from .now) (at .args .to .now) (at .args .mm) (at .args .step)
+    (p .last .0) (q .last .0) (r .last .0) (s .last .0) (p .result) (q .result) (r .result) (s .result) (at .pre)
+    (put-ended _ _ (at .args .from .now) 32 _ _ (p .ensures .0) (p .ensures .1))
+    (put-ended _ _ (at .args .to .now) 32 _ _ (q .ensures .0) (q .ensures .1))
+    (put-ended _ _ (decimal (at .args .mm)) 32 _ _ (r .ensures .0) (r .ensures .1))
+    (put-ended _ _ (decimal (at .args .step)) 10 _ _ (s .ensures .0) (s .ensures .1)) in
     (t .place, t .buffer)
 
 pub put-shot-spec : {M : Type 1} → statement M
