@@ -6,3 +6,4 @@ pub mod Cuts
 pub mod Reading
 pub mod Writing
 pub mod Sizes
+pub mod Refused

@@ -5,3 +5,5 @@ pub mod Answers
 pub mod Lines
 pub mod Listing
 pub mod Rounding
+pub mod Refusals
+pub mod Turns

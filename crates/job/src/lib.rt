@@ -3,3 +3,4 @@ mod field;
 mod line;
 mod print;
 mod rounding;
+mod turn;

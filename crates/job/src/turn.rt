@@ -1,0 +1,112 @@
+// A job, line by line: what each line does to the state, or why it is refused.
+use crate::line::Seeds;
+use crate::line::Sigma;
+use streams::Generator;
+ghost use Prim.Native.Nat.{_<_};
+ghost use mathlib.Core.Path.{_≡_};
+ghost use mathlib.Core.Bool.{_||_};
+ghost use mathlib.Core.List.{[]};
+ghost use lib.Dec.{ltb};
+ghost use Rattle.streams.specs.Streams.{seedOf};
+ghost use Rattle.job.specs.Forms.{seeds, sigma};
+ghost use Rattle.job.specs.Refusals.{refusal, beyond};
+ghost use Rattle.job.specs.Turns.{turned};
+
+// What the shots to come are printed with: the generator record and the sigmas.
+pub struct Setting {
+    pub generator: Generator,
+    pub distance: u32,
+    pub bearing: u32,
+}
+
+// The number of the next line, the listing's length so far, and the setting.
+pub struct State {
+    pub line: u32,
+    pub used: usize,
+    pub setting: Setting,
+}
+
+// The number of a line, 0 where it is accepted, and the state after it.
+pub struct Turn {
+    pub number: u32,
+    pub next: State,
+}
+
+fn three_beyond(x: u64, y: u64, z: u64) -> bool
+    ensures { λ r. ⌜ r ≡ ltb 4294967295 x || ltb 4294967295 y || ltb 4294967295 z ⌝ }
+{
+    if 4294967295 < x {
+        return true;
+    }
+    if 4294967295 < y {
+        return true;
+    }
+    4294967295 < z
+}
+
+fn on_seeds(x: Seeds, s: State) -> Turn
+    ensures { λ r. ⌜ r ≡ turned s (refusal (s .line) (seeds (x .a0) (x .a1) (x .a2) (x .b0) (x .b1) (x .b2))) []
+        (record { generator = seedOf (x .a0) (x .a1) (x .a2) (x .b0) (x .b1) (x .b2) .next; distance = s .setting .distance; bearing = s .setting .bearing }) ⌝ }
+{
+    if s.line != 1 {
+        return Turn { number: 8, next: s };
+    }
+    if three_beyond(x.a0, x.a1, x.a2) {
+        return Turn { number: 7, next: s };
+    }
+    if three_beyond(x.b0, x.b1, x.b2) {
+        return Turn { number: 7, next: s };
+    }
+    let seeded = Generator::seed(
+        x.a0 as u32,
+        x.a1 as u32,
+        x.a2 as u32,
+        x.b0 as u32,
+        x.b1 as u32,
+        x.b2 as u32,
+    );
+    if seeded.number != 0 {
+        return Turn { number: 1, next: s };
+    }
+    let generator = seeded.next;
+    let old = s.setting;
+    let setting = Setting {
+        generator,
+        distance: old.distance,
+        bearing: old.bearing,
+    };
+    let next = State {
+        line: 2,
+        used: s.used,
+        setting,
+    };
+    Turn { number: 0, next }
+}
+
+fn on_sigma(x: Sigma, s: State) -> Turn
+    ensures { λ r. ⌜ r ≡ turned s (refusal (s .line) (sigma (x .distance) (x .bearing))) []
+        (record { generator = s .setting .generator; distance = x .distance; bearing = x .bearing }) ⌝ }
+{
+    if s.line != 2 {
+        return Turn { number: 8, next: s };
+    }
+    if 1000 < x.distance {
+        return Turn { number: 7, next: s };
+    }
+    if 1000 < x.bearing {
+        return Turn { number: 7, next: s };
+    }
+    let old = s.setting;
+    let generator = old.generator;
+    let setting = Setting {
+        generator,
+        distance: x.distance as u32,
+        bearing: x.bearing as u32,
+    };
+    let next = State {
+        line: 3,
+        used: s.used,
+        setting,
+    };
+    Turn { number: 0, next }
+}
