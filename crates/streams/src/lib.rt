@@ -81,7 +81,8 @@ impl Stream {
 }
 
 impl Generator {
-    fn is_accepted(self) -> bool
+    // Whether both streams are fit: a call on this record is accepted.
+    pub fn is_accepted(self) -> bool
         ensures { λ r. ⌜ r ≡ accepted self ⌝ }
     {
         let a = self.a;
