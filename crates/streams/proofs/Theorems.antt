@@ -8,7 +8,7 @@ use Prim.Native.Nat.{ℕ, zero, suc, _+_, _*_, _/_, _%_, _^_, _<_}
 use native.Mathlib.Nat.{zero-add, suc-add}
 use native.Mathlib.Numerals.{add-one}
 use native.Mathlib.Omega.{arith}
-use lib.Bits.{bitXor}
+use lib.Bits.{bitXor, xor-lt}
 use lib.Dec.{leb}
 use borrow.Author.Tests.{leb-true, le-leb}
 use Rattle.streams.specs.declared.Stream.{Stream}
@@ -183,7 +183,8 @@ call-moves draw-a g h = ap (λ (d : Drawn). d .next) (pick-true _ _ (sound-accep
 call-moves draw-b g h = ap (λ (d : Drawn). d .next) (pick-true _ _ (sound-accepted g h))
 call-moves numbers g h = ap (λ (d : Uniforms). d .next) (pick-true _ _ (sound-accepted g h))
 
-call-sound : (c : Call) (g : Generator) → Sound g → Sound (nextOf c g)
+-- What a call on an accepted record returns is accepted.
+pub call-sound : (c : Call) (g : Generator) → Sound g → Sound (nextOf c g)
 call-sound c g h = rw (call-moves c g h) (moved-sound (drawsA c) (drawsB c) g h)
 
 -- A record once accepted is accepted after any run of calls,
@@ -257,6 +258,18 @@ numbers-of-draws g ra rb = by-test (accepted g) refl
         rw (drawA, uniformsOf, e, drawB, later) (record { number-is = refl; k-is = refl; v-is = refl; next-is = refl })
     by-test false e =
         rw (drawA, uniformsOf, e, drawB, e) (record { number-is = refl; k-is = refl; v-is = refl; next-is = refl })
+
+-- The numbers of a pair have 48 and 16 bits.
+output-lt : (u : Stream) → InRange u → output u < 2 ^ 32
+unfolding output
+output-lt u h = xor-lt 32 (bitXor (u .s0) (u .s1)) (u .s2) (xor-lt 32 (u .s0) (u .s1) (h .s0-range) (h .s1-range)) (h .s2-range)
+
+pub numbers-bounded : (g : Generator) → Sound g → (uniformsOf g .k < 2 ^ 48) × (uniformsOf g .v < 65536)
+unfolding uniformsOf
+numbers-bounded g h =
+    let a : output (advance (g .a)) < 2 ^ 32 = output-lt (advance (g .a)) (advance-range (g .a) (h .range-a)) in
+    let b : output (advance (g .b)) < 2 ^ 32 = output-lt (advance (g .b)) (advance-range (g .b) (h .range-b)) in
+    rw (uniformsOf, sound-accepted g h) (omega arith)
 
 -- ---- The step runs backwards
 

@@ -1,0 +1,49 @@
+-- `draw_samples` leaves the samples of the pairs whose numbers it has drawn.
+use mathlib.Core.Path.{_≡_, sym, _∙_}
+use mathlib.Core.List.{List}
+use Prim.Native.Nat.{ℕ, _*_}
+use native.Mathlib.Omega.{arith}
+use lib.IntN.{ℤ}
+use lib.ListN.{length}
+use borrow.Author.Needs.{needs}
+use Rattle.noise.specs.Noise.{samples}
+use Rattle.noise.specs.Private.{numbers}
+use Rattle.streams.specs.declared.Generator.{Generator}
+use Rattle.streams.specs.Recurrence.{Sound}
+use Rattle.streams.proofs.Theorems.{sound}
+use Rattle.sample.specs.Sample.{filled}
+use Rattle.sample.specs.FillLaws.{filled-whole}
+use Rattle.noise.proofs.Laws.{length-numbers, samples-numbers}
+use Rattle.noise.proofs.draw_samples.Statement.{statement}
+use Rattle.noise.proofs.draw_samples.Tie as tie
+
+start-sound : (c : tie.Start) → Sound (c .args .g)
+start-sound c = sound (c .args .g) (omega arith) (omega arith) (c .pre .0)
+
+-- the slice has room for just the pairs, so it is filled with their samples
+whole : {zs : List ℕ} {out : List ℤ} (old : List ℤ) (n : ℕ) (g : Generator) → Sound g → zs ≡ numbers n g → length old ≡ 2 * n
+    → out ≡ filled zs old → out ≡ samples n g
+whole old n g h e l f =
+    f ∙ rw e (filled-whole (numbers n g) old (rw (length-numbers n g) l)) ∙ sym (samples-numbers n g h)
+
+draw-numbers-requires : tie.Need-draw-numbers-requires
+draw-numbers-requires c κs = search needs
+
+fill-requires : tie.Need-fill-requires
+fill-requires c κs = search needs
+
+same-length : tie.Need-same-length
+same-length c = search needs
+
+same-length-2 : tie.Need-same-length-2
+same-length-2 c = search needs
+
+returns : tie.Need-returns
+returns c =
+    let start = c .before .before .before .before .before .before .before .before .before in
+    let drawn = c .before .before .before .before .before .before .draw-numbers .ensures in
+    (drawn .0, whole (start .args .out .now) (length (start .args .z .now)) (start .args .g) (start-sound start) (drawn .1) (start .pre .1) (c .before .fill .ensures))
+
+pub draw-samples-spec : {M : Type 1} → statement M
+draw-samples-spec =
+    tie.close (tie.spec draw-numbers-requires fill-requires same-length same-length-2 returns)

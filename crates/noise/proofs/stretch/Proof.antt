@@ -1,0 +1,42 @@
+-- `stretch` lends as many numbers as its slice has pairs.
+use mathlib.Core.Path.{_≡_, refl, ap, _∙_}
+use mathlib.Core.List.{List}
+use Prim.Native.Nat.{ℕ, _-_, _/_, _≤_}
+use native.Mathlib.Omega.{arith}
+use lib.ListN.{length, take, length-take}
+use borrow.Author.Needs.{needs}
+use Rattle.noise.specs.Noise.{after, samples}
+use Rattle.noise.proofs.stretch.Statement.{statement}
+use Rattle.noise.proofs.stretch.Tie as tie
+
+-- as many numbers are lent as there are pairs
+size : (n : ℕ) (z : List ℕ) → length z ≡ 512 → n ≤ 512 → length (take (n - 0) z) ≡ n
+size n z e h = simp length-take (omega arith)
+
+sub-draw-samples : tie.Need-sub-draw-samples
+sub-draw-samples c = search needs
+
+part-z-start : tie.Need-part-z-start
+part-z-start c = search needs
+
+part-z-end : tie.Need-part-z-end
+part-z-end c = search needs
+
+draw-samples-requires : tie.Need-draw-samples-requires
+draw-samples-requires c κs = search needs
+
+same-length : tie.Need-same-length
+same-length c = search needs
+
+returns : tie.Need-returns
+returns c =
+    let g = c .before .before .before .before .before .args .g in
+    let drawn = c .before .before .draw-samples .ensures in
+    let room : length (c .before .before .before .before .before .args .out .now) / 2 ≤ 512
+    = omega (arith, c .before .before .before .before .before .pre .2) in
+    (drawn .0 ∙ ap (λ (n : ℕ). after n g) (size _ _ refl room), drawn .1 ∙ ap (λ (n : ℕ). samples n g) (size _ _ refl room))
+
+pub stretch-spec : {M : Type 1} → statement M
+stretch-spec =
+    tie.close
+    (tie.spec sub-draw-samples part-z-start part-z-end draw-samples-requires same-length returns)
