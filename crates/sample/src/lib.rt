@@ -2,7 +2,7 @@
 ghost use mathlib.Core.Path.{_≡_};
 ghost use Prim.Native.Nat.{_+_, _-_, _*_, _/_, _^_, _≤_, _<_, min};
 ghost use Rattle.tables.specs.Tables.{entryOf};
-ghost use Rattle.sample.specs.Steps.{numerator, topBit, mantissa, coarse, fine, correction, logarithm, wholeRoot, radius, sine, cosine, rounded};
+ghost use Rattle.sample.specs.Steps.{pick, numerator, topBit, mantissa, coarse, fine, correction, logarithm, wholeRoot, radius, sine, cosine, rounded};
 ghost use Rattle.sample.specs.Parts.{Rotations, Loaded, withSign, valueOf};
 ghost use Rattle.sample.specs.Sample.{firstAt, secondAt, samplesOf, nineSixteenths, filled};
 ghost use Rattle.exact.specs.Pair.{turn, Close};
@@ -170,43 +170,28 @@ struct Turned {
     cosine: Signed,
 }
 
-// The quarters of document 01, in its order.
+// a where the test holds, else b.
+fn chosen(test: bool, a: u64, b: u64) -> u64
+    ensures { λ r. ⌜ r ≡ pick test a b ⌝ }
+{
+    if test { a } else { b }
+}
+
+// The quarters of document 01: the two numbers change places in the odd ones, the first is negative in 2 and 3, the second in 1 and 2. There is no
+// jump here, since no processor can foresee q.
 fn turn(q: u64, sine: u64, cosine: u64) -> Turned
-    requires { ⌜ (sine ≤ 2 ^ 30) × (cosine ≤ 2 ^ 30) ⌝ }
+    requires { ⌜ (q < 4) × (sine ≤ 2 ^ 30) × (cosine ≤ 2 ^ 30) ⌝ }
     ensures { λ r. ⌜ ((valueOf (r .sine), valueOf (r .cosine)) ≡ turn negℤ q (pos sine, pos cosine)) × (r .sine .size ≤ 2 ^ 30) × (r .cosine .size ≤ 2 ^ 30) ⌝ }
 {
-    let plus_sine = Signed {
-        size: sine,
-        negative: false,
-    };
-    let plus_cosine = Signed {
-        size: cosine,
-        negative: false,
-    };
-    let minus_sine = Signed {
-        size: sine,
-        negative: true,
-    };
-    let minus_cosine = Signed {
-        size: cosine,
-        negative: true,
-    };
-    match q {
-        0 => Turned {
-            sine: plus_sine,
-            cosine: plus_cosine,
+    let odd = q % 2 == 1;
+    Turned {
+        sine: Signed {
+            size: chosen(odd, cosine, sine),
+            negative: q / 2 == 1,
         },
-        1 => Turned {
-            sine: plus_cosine,
-            cosine: minus_sine,
-        },
-        2 => Turned {
-            sine: minus_sine,
-            cosine: minus_cosine,
-        },
-        _ => Turned {
-            sine: minus_cosine,
-            cosine: plus_sine,
+        cosine: Signed {
+            size: chosen(odd, sine, cosine),
+            negative: (q + 1) / 2 == 1,
         },
     }
 }

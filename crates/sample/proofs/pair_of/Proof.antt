@@ -33,7 +33,7 @@ angle-of-requires c κs = loaded-rotations (c .before .before .before .before .b
 turn-requires : tie.Need-turn-requires
 turn-requires c κs =
     let tables = loaded-rotations (c .before .before .before .before .before .before .before .before .before .pre) in
-    (rw (c .angle-of .ensures .0) (sine-range tables _), rw (c .angle-of .ensures .1) (cosine-range tables _))
+    (omega arith, rw (c .angle-of .ensures .0) (sine-range tables _), rw (c .angle-of .ensures .1) (cosine-range tables _))
 
 -- F
 radius-is : (c : tie.After-radius) → c .radius .result ≡ radiusOf (c .before .before .before .before .before .before .before .before .args .z / 65536)

@@ -1,31 +1,43 @@
--- `sample::turn` meets its contract, one return for each quarter.
+-- `sample::turn` meets its contract: the tests on q give each of the four quarters.
 -- Assumes nothing.
 use mathlib.Core.Path.{_≡_, refl}
-use lib.IntN.{ℤ, negℤ}
+use Prim.Native.Nat.{ℕ, zero, suc, _+_, _/_, _%_, _^_, _≤_, _<_}
+use native.Mathlib.Omega.{arith}
+use borrow.Author.Needs.{needs}
+use lib.Dec.{eqb}
+use lib.IntN.{ℤ, pos, negℤ}
 use Rattle.exact.specs.Pair.{turn}
-use Prim.Native.Nat.{ℕ, zero, suc}
+use Rattle.sample.specs.Steps.{pick}
+use Rattle.sample.specs.Parts.{withSign}
 use Rattle.sample.proofs.turn.Statement.{statement}
 use Rattle.sample.proofs.turn.Tie as tie
 use Rattle.sample.proofs.turn.Reads as reads
 use Rattle.sample.proofs.turn.Lts as lts
 
-last : (q : ℕ) (p : ℤ × ℤ) → (q ≡ 0 → ⊥) → (q ≡ 1 → ⊥) → (q ≡ 2 → ⊥) → (negℤ (p .1), p .0) ≡ turn negℤ q p
-last zero p f g h = absurd (f refl)
-last (suc zero) p f g h = absurd (g refl)
-last (suc (suc zero)) p f g h = absurd (h refl)
-last (suc (suc (suc q))) p f g h = refl
+-- the two numbers, by the tests on q, and their sizes
+quarters : (q s c : ℕ) → q < 4 → s ≤ 2 ^ 30 → c ≤ 2 ^ 30 →
+    ((withSign (eqb (q / 2) 1) (pick (eqb (q % 2) 1) c s), withSign (eqb ((q + 1) / 2) 1) (pick (eqb (q % 2) 1) s c)) ≡ turn negℤ q (pos s, pos c))
+    × (pick (eqb (q % 2) 1) c s ≤ 2 ^ 30) × (pick (eqb (q % 2) 1) s c ≤ 2 ^ 30)
+quarters zero s c h g k = (refl, g, k)
+quarters (suc zero) s c h g k = (refl, k, g)
+quarters (suc (suc zero)) s c h g k = (refl, g, k)
+quarters (suc (suc (suc zero))) s c h g k = (refl, k, g)
+quarters (suc (suc (suc (suc q)))) s c h g k = absurd (omega arith)
+
+chosen-requires : tie.Need-chosen-requires
+chosen-requires c κs = search needs
+
+chosen-requires-2 : tie.Need-chosen-requires-2
+chosen-requires-2 c κs = search needs
+
+add-t10 : tie.Need-add-t10
+add-t10 c = search needs
 
 returns : tie.Need-returns
-returns c = (rw (c .match .keys1) refl, c .before .pre .0, c .before .pre .1)
-
-returns-2 : tie.Need-returns-2
-returns-2 c = (rw (c .match .keys2) refl, c .before .pre .1, c .before .pre .0)
-
-returns-3 : tie.Need-returns-3
-returns-3 c = (rw (c .match .keys3) refl, c .before .pre .0, c .before .pre .1)
-
-returns-4 : tie.Need-returns-4
-returns-4 c = (last _ _ (c .match .rest .0 .0 .1) (c .match .rest .0 .1) (c .match .rest .1), c .before .pre .1, c .before .pre .0)
+returns c =
+    let start = c .before .before in
+    rw (c .before .chosen .ensures, c .chosen2 .ensures)
+    (quarters (start .args .q) (start .args .sine) (start .args .cosine) (start .pre .0) (start .pre .1) (start .pre .2))
 
 pub turn-spec : {M : Type 1} → statement M
-turn-spec = tie.close (tie.spec returns returns-2 returns-3 returns-4)
+turn-spec = tie.close (tie.spec chosen-requires chosen-requires-2 add-t10 returns)
