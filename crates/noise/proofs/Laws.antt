@@ -26,6 +26,10 @@ pick-true x y h = rw h
 pick-false : {A : Type 0} {t : Bool} (x y : A) → t ≡ false → pick t x y ≡ y
 pick-false x y h = rw h
 
+pub pick-map : {A B : Type 0} (f : A → B) (t : Bool) (x y : A) → f (pick t x y) ≡ pick t (f x) (f y)
+pick-map f true x y = refl
+pick-map f false x y = refl
+
 -- ---- One pair
 
 -- The record after a pair is the one after its two draws, refused or not.

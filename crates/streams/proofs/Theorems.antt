@@ -212,8 +212,8 @@ run-moved (c ∷ l) g h =
 
 -- ---- Demand 2, of the calls: what a draw after any run of calls returns
 
--- the draw after n moves is draw n + 1
-next-draw : (n : ℕ) (u : Stream) → output (advance (repeat advance n u)) ≡ drawAt u (suc n)
+-- The draw after n moves is draw n + 1.
+pub next-draw : (n : ℕ) (u : Stream) → output (advance (repeat advance n u)) ≡ drawAt u (suc n)
 unfolding drawAt repeat
 next-draw n u = ap output (repeat-add advance n 1 u ∙ rw (add-one n))
 
@@ -264,12 +264,22 @@ output-lt : (u : Stream) → InRange u → output u < 2 ^ 32
 unfolding output
 output-lt u h = xor-lt 32 (bitXor (u .s0) (u .s1)) (u .s2) (xor-lt 32 (u .s0) (u .s1) (h .s0-range) (h .s1-range)) (h .s2-range)
 
-pub numbers-bounded : (g : Generator) → Sound g → (uniformsOf g .k < 2 ^ 48) × (uniformsOf g .v < 65536)
+pub uniforms-accepted : (g : Generator) → Sound g
+    → uniformsOf g
+    ≡ record {
+      number = 0;
+      k = output (advance (g .a)) * 65536 + output (advance (g .b)) / 65536;
+      v = output (advance (g .b)) % 65536;
+      next = record { a = advance (g .a); b = advance (g .b) };
+    }
 unfolding uniformsOf
+uniforms-accepted g h = pick-true _ _ (sound-accepted g h)
+
+pub numbers-bounded : (g : Generator) → Sound g → (uniformsOf g .k < 2 ^ 48) × (uniformsOf g .v < 65536)
 numbers-bounded g h =
     let a : output (advance (g .a)) < 2 ^ 32 = output-lt (advance (g .a)) (advance-range (g .a) (h .range-a)) in
     let b : output (advance (g .b)) < 2 ^ 32 = output-lt (advance (g .b)) (advance-range (g .b) (h .range-b)) in
-    rw (uniformsOf, sound-accepted g h) (omega arith)
+    rw (uniforms-accepted g h) (omega arith)
 
 -- ---- The step runs backwards
 
