@@ -34,6 +34,14 @@ uint32_t jabulghi_draw_b(uint32_t *registers, uint32_t *draw);
  * sixteenths of a unit from its member of the exact Box-Muller pair. Refused (2, 3), the samples are 0 0. samples: 2 elements. */
 uint32_t jabulghi_sample(uint64_t k, uint32_t v, int16_t *samples);
 
+/* One pair from a record: a draw from a, then one from b, and their two samples. Refused (1), the samples are 0 0 and the record
+ * stays. samples: 2 elements. */
+uint32_t jabulghi_pair(uint32_t *registers, int16_t *samples);
+
+/* A block of length elements: the samples of length / 2 pairs, first and second alternating. Refused (1, 4), block and record stay.
+ * Length 0 succeeds and moves nothing. */
+uint32_t jabulghi_block(uint32_t *registers, int16_t *block, size_t length);
+
 #ifdef __cplusplus
 }
 #endif

@@ -4,7 +4,9 @@ use Prim.Native.Nat.{ℕ}
 use mathlib.Core.Path.{_≡_, refl}
 use mathlib.Core.List.{List, [], _∷_}
 use lib.ListN.{getD}
+use lib.IntN.{ℤ}
 use Rattle.streams.specs.declared.Generator.{Generator}
+use Rattle.noise.specs.declared.PairAnswer.{PairAnswer}
 
 abbrev pub registersOf : Generator → List ℕ
 registersOf g = g .a .s0 ∷ g .a .s1 ∷ g .a .s2 ∷ g .b .s0 ∷ g .b .s1 ∷ g .b .s2 ∷ []
@@ -19,3 +21,7 @@ generatorOf l =
 -- What a call leaves in the six numbers is, to the next call, the record that it returned.
 pub kept : (g : Generator) → generatorOf (registersOf g) ≡ g
 kept g = refl
+
+-- A pair's two samples, first and second, as they stand in lent memory.
+abbrev pub samplesIn : PairAnswer → List ℤ
+samplesIn p = p .first ∷ p .second ∷ []

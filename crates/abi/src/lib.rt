@@ -2,10 +2,12 @@
 ghost use mathlib.Core.Path.{_≡_};
 ghost use Prim.Native.Nat.{_<_, _^_};
 ghost use mathlib.Core.List.{[], _∷_};
+ghost use lib.ListN.{length};
 ghost use Rattle.streams.specs.Streams.{seedOf, drawA, drawB};
 ghost use Rattle.sample.specs.Sample.{samplesOf, nineSixteenths};
 ghost use Rattle.exact.specs.Pair.{Close};
-ghost use Rattle.abi.specs.Registers.{registersOf, generatorOf};
+ghost use Rattle.noise.specs.Noise.{pairOf, blockOf, blockHolds};
+ghost use Rattle.abi.specs.Registers.{registersOf, generatorOf, samplesIn};
 use streams::Generator;
 use streams::Stream;
 
@@ -91,4 +93,33 @@ pub extern "C" fn jabulghi_sample(k: u64, v: u32, samples: &mut [i16; 2]) -> u32
     let s = sample::sample(k, v);
     *samples = [s.first, s.second];
     s.number
+}
+
+// One pair of samples from a record.
+#[no_mangle]
+pub extern "C" fn jabulghi_pair(registers: &mut [u32; 6], samples: &mut [i16; 2]) -> u32
+    ensures { λ r. ⌜ r ≡ pairOf (generatorOf (now (registers .entry))) .number ⌝ }
+    ensures { λ _. ⌜ now (samples .exit) ≡ samplesIn (pairOf (generatorOf (now (registers .entry)))) ⌝ }
+    ensures { λ _. ⌜ now (registers .exit) ≡ registersOf (pairOf (generatorOf (now (registers .entry))) .next) ⌝ }
+{
+    let g = unpacked(*registers);
+    let pair = noise::pair(g);
+    let next = pair.next;
+    *samples = [pair.first, pair.second];
+    *registers = packed(next);
+    pair.number
+}
+
+// A block of samples from a record, first and second alternating.
+#[no_mangle]
+pub extern "C" fn jabulghi_block(registers: &mut [u32; 6], block: &mut [i16]) -> u32
+    ensures { λ r. ⌜ r ≡ blockOf (generatorOf (now (registers .entry))) (length (now (block .entry))) .number ⌝ }
+    ensures { λ _. ⌜ now (block .exit) ≡ blockHolds (generatorOf (now (registers .entry))) (now (block .entry)) ⌝ }
+    ensures { λ _. ⌜ now (registers .exit) ≡ registersOf (blockOf (generatorOf (now (registers .entry))) (length (now (block .entry))) .next) ⌝ }
+{
+    let g = unpacked(*registers);
+    let filled = noise::block(g, block);
+    let next = filled.next;
+    *registers = packed(next);
+    filled.number
 }

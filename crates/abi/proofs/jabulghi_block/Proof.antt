@@ -1,0 +1,24 @@
+-- `abi::jabulghi_block` meets its contract: number, lent block and registers are those of the call below it.
+-- Assumes nothing.
+use borrow.Author.Needs.{needs}
+use Rattle.abi.proofs.jabulghi_block.Statement.{statement}
+use Rattle.abi.proofs.jabulghi_block.Tie as tie
+
+unpacked-requires : tie.Need-unpacked-requires
+unpacked-requires c κs = search needs
+
+block-requires : tie.Need-block-requires
+block-requires c κs = search needs
+
+packed-requires : tie.Need-packed-requires
+packed-requires c κs = search needs
+
+same-length : tie.Need-same-length
+same-length c = search needs
+
+returns : tie.Need-returns
+returns c = (cc, (cc, cc))
+
+pub jabulghi-block-spec : {M : Type 1} → statement M
+jabulghi-block-spec =
+    tie.close (tie.spec unpacked-requires block-requires packed-requires same-length returns)
