@@ -1,16 +1,14 @@
 // Runs the streams beside another implementation, whose output is stored: the minima, the first draws of 2, 8, 16, refusals, and
 // checksums over some thousands of draws on many seeds. Each line has a letter and decimal numbers.
 ghost use Prim.Native.Nat.{_≤_};
+use reports::blank;
+use reports::line_end;
+use reports::mixed;
 use streams::Generator;
 use streams::Stream;
 
 fn stream_of(s0: u32, s1: u32, s2: u32) -> Stream {
     Stream { s0, s1, s2 }
-}
-
-fn blank(n: u64) {
-    io::write_all(1, b" ");
-    io::print_decimal(1, n);
 }
 
 fn wide(n: u32) -> u64 {
@@ -27,7 +25,7 @@ fn show_record(g: Generator) {
     blank(wide(b.s0));
     blank(wide(b.s1));
     blank(wide(b.s2));
-    io::write_all(1, b"\n");
+    line_end();
 }
 
 // Every call on one record: seeding from its registers, a draw from a, one from b, and the numbers of a pair.
@@ -53,11 +51,6 @@ fn show_calls(a: Stream, b: Stream) {
     blank(both.k);
     blank(wide(both.v));
     show_record(both.next);
-}
-
-// A running checksum.
-fn mixed(sum: u64, word: u64) -> u64 {
-    (sum % 4294967296 * 1664525 + word % 281474976710656) % 4294967296
 }
 
 fn mixed_stream(sum: u64, u: Stream) -> u64 {
@@ -139,7 +132,7 @@ fn show_checksums(case: u64) {
     blank(case);
     blank(pairs(g, 200));
     blank(draws(g, 200));
-    io::write_all(1, b"\n");
+    line_end();
 }
 
 fn show_cases() {
@@ -151,7 +144,7 @@ fn show_cases() {
 fn show_long(g: Generator) {
     io::write_all(1, b"l");
     blank(pairs(g, 20000));
-    io::write_all(1, b"\n");
+    line_end();
 }
 
 // The first two draws of each stream.
@@ -168,7 +161,7 @@ fn show_two(g: Generator) {
     blank(wide(second.draw));
     blank(wide(third.draw));
     blank(wide(fourth.draw));
-    io::write_all(1, b"\n");
+    line_end();
 }
 
 fn main() {
