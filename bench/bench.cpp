@@ -1,0 +1,142 @@
+// Samples and draws per second of the static library beside plain C, GSL, Boost and the C++ library.
+#include "jabulghi.h"
+#include "plain.h"
+#include <algorithm>
+#include <chrono>
+#include <cstdio>
+#include <cstdlib>
+#include <cstring>
+#include <functional>
+#include <random>
+#include <string>
+#include <vector>
+#ifdef HAVE_GSL
+#include <gsl/gsl_randist.h>
+#include <gsl/gsl_rng.h>
+#endif
+#ifdef HAVE_BOOST
+#include <boost/random/normal_distribution.hpp>
+#include <boost/random/taus88.hpp>
+#endif
+
+static const size_t LENGTH = 4096;   // elements of a buffer
+static const int BUFFERS = 256;      // times that a run fills it
+static const int RUNS = 11;
+
+struct Row {
+    std::string name;
+    std::function<void()> fill;      // fills a buffer once
+    std::vector<double> seconds;
+};
+
+static void fail(const char *what) {
+    printf("DIFFERENT: %s\n", what);
+    exit(1);
+}
+
+// One run of each row in turn, RUNS times, after one that is not counted; then the medians, the first row being the measure.
+static void table(const char *what, std::vector<Row> &rows) {
+    for (int run = -1; run < RUNS; run++) {
+        for (Row &row : rows) {
+            auto start = std::chrono::steady_clock::now();
+            for (int j = 0; j < BUFFERS; j++) {
+                row.fill();
+            }
+            std::chrono::duration<double> took = std::chrono::steady_clock::now() - start;
+            if (run >= 0) {
+                row.seconds.push_back(took.count());
+            }
+        }
+    }
+    double ours = 0;
+    printf("\n  ratio   million/s      ns   %s\n", what);
+    for (Row &row : rows) {
+        std::sort(row.seconds.begin(), row.seconds.end());
+        double rate = LENGTH * BUFFERS / row.seconds[RUNS / 2];
+        ours = ours == 0 ? rate : ours;
+        printf("  %5.2f   %9.1f   %5.2f   %s\n", rate / ours, rate / 1e6, 1e9 / rate, row.name.c_str());
+    }
+}
+
+static const uint32_t SEEDS[6] = {123456789, 987654321, 192837465, 2, 8, 16};
+
+static void samples() {
+    static int16_t block[LENGTH];
+    static double doubles[LENGTH];
+    static uint32_t ours[6], plain[6], bits[6];
+    static int16_t expected[LENGTH];
+    for (uint32_t *r : {ours, plain, bits}) {
+        memcpy(r, SEEDS, sizeof SEEDS);
+    }
+    for (int j = 0; j < 50; j++) {
+        jabulghi_block(ours, expected, LENGTH);
+        plain_block(plain, block, LENGTH);
+        if (memcmp(block, expected, sizeof block) != 0) fail("samples of plain C");
+        plain_block_bits(bits, block, LENGTH);
+        if (memcmp(block, expected, sizeof block) != 0) fail("samples of plain C, root by bits");
+    }
+    std::vector<Row> rows;
+    rows.push_back({"jabulghi_block", [] { jabulghi_block(ours, block, LENGTH); }, {}});
+    rows.push_back({"the same steps in plain C, root by floating point", [] { plain_block(plain, block, LENGTH); }, {}});
+    rows.push_back({"the same steps in plain C, root bit by bit", [] { plain_block_bits(bits, block, LENGTH); }, {}});
+#ifdef HAVE_GSL
+    static gsl_rng *rng = gsl_rng_alloc(gsl_rng_taus);
+    rows.push_back({"GSL gsl_ran_gaussian over gsl_rng_taus", [] { for (double &x : doubles) x = gsl_ran_gaussian(rng, 1); }, {}});
+    rows.push_back({"GSL gsl_ran_gaussian_ziggurat over gsl_rng_taus",
+                    [] { for (double &x : doubles) x = gsl_ran_gaussian_ziggurat(rng, 1); }, {}});
+#endif
+#ifdef HAVE_BOOST
+    static boost::random::taus88 taus;
+    static boost::random::normal_distribution<double> boost_normal;
+    rows.push_back({"Boost normal_distribution over taus88", [] { for (double &x : doubles) x = boost_normal(taus); }, {}});
+#endif
+    static std::mt19937 twister;
+    static std::normal_distribution<double> normal;
+    rows.push_back({"C++ std::normal_distribution over std::mt19937", [] { for (double &x : doubles) x = normal(twister); }, {}});
+    table("samples", rows);
+}
+
+static void draws() {
+    static uint32_t words[LENGTH], expected[LENGTH], ours[6], plain[6];
+    memcpy(ours, SEEDS, sizeof SEEDS);
+    memcpy(plain, SEEDS, sizeof SEEDS);
+    for (uint32_t &x : expected) {
+        jabulghi_draw_a(ours, &x);
+    }
+    auto check = [](const char *what) {
+        if (memcmp(words, expected, sizeof words) != 0) fail(what);
+        printf("the first %zu draws of %s from the same registers are ours\n", LENGTH, what);
+    };
+    std::vector<Row> rows;
+    rows.push_back({"jabulghi_draw_a", [] { for (uint32_t &x : words) jabulghi_draw_a(ours, &x); }, {}});
+    rows.push_back({"the same steps in plain C", [] { for (uint32_t &x : words) plain_draw_a(plain, &x); }, {}});
+    rows[1].fill();
+    check("plain C");
+#ifdef HAVE_GSL
+    // the state of gsl_rng_taus is its three registers, each an unsigned long
+    static gsl_rng *rng = gsl_rng_alloc(gsl_rng_taus);
+    unsigned long registers[3] = {SEEDS[0], SEEDS[1], SEEDS[2]};
+    if (gsl_rng_size(rng) != sizeof registers) fail("the size of GSL's state");
+    memcpy(gsl_rng_state(rng), registers, sizeof registers);
+    rows.push_back({"GSL gsl_rng_taus", [] { for (uint32_t &x : words) x = (uint32_t)gsl_rng_get(rng); }, {}});
+    rows.back().fill();
+    check("GSL's gsl_rng_taus");
+#endif
+#ifdef HAVE_BOOST
+    static boost::random::taus88 taus;
+    const uint32_t *from = SEEDS;
+    taus.seed(from, SEEDS + 3);
+    rows.push_back({"Boost taus88", [] { for (uint32_t &x : words) x = taus(); }, {}});
+    rows.back().fill();
+    check("Boost's taus88");
+#endif
+    table("draws", rows);
+}
+
+int main() {
+    plain_tables();
+    draws();
+    samples();
+    printf("\nratio: speed over the library's. Each run fills %d times a buffer of %zu elements, which is not cleared before;\n", BUFFERS, LENGTH);
+    printf("the rows take turns, and each figure is the median of %d runs after one that is not counted.\n", RUNS);
+}

@@ -1,0 +1,110 @@
+/* The steps of document 01 in plain C: no contract, no proof, compiled with -O3. */
+#include "plain.h"
+#include <math.h>
+
+static uint64_t A[256], B[256], C[128], D[128], c[128], s[128], K;
+
+void plain_tables(void) {
+    const long double turn = 6.283185307179586476925286766559L;
+    K = (uint64_t)llroundl(logl(2) * 0x1p40L);
+    for (int j = 0; j < 256; j++) {
+        A[j] = (uint64_t)llroundl(logl((256 + j) / 256.0L) * 0x1p40L);
+        B[j] = (uint64_t)llroundl(log1pl(j / 65536.0L) * 0x1p40L);
+    }
+    for (int j = 0; j < 128; j++) {
+        C[j] = (uint64_t)llroundl(cosl(turn * j / 512) * 0x1p30L);
+        D[j] = (uint64_t)llroundl(sinl(turn * j / 512) * 0x1p30L);
+        c[j] = (uint64_t)llroundl(cosl(turn * j / 65536) * 0x1p30L);
+        s[j] = (uint64_t)llroundl(sinl(turn * j / 65536) * 0x1p30L);
+    }
+}
+
+static inline uint32_t step(uint32_t *r) {
+    r[0] = ((r[0] & 0xfffffffe) << 12) ^ (((r[0] << 13) ^ r[0]) >> 19);
+    r[1] = ((r[1] & 0xfffffff8) << 4) ^ (((r[1] << 2) ^ r[1]) >> 25);
+    r[2] = ((r[2] & 0xfffffff0) << 17) ^ (((r[2] << 3) ^ r[2]) >> 11);
+    return r[0] ^ r[1] ^ r[2];
+}
+
+static inline int accepted(const uint32_t *r) {
+    return r[0] >= 2 && r[1] >= 8 && r[2] >= 16 && r[3] >= 2 && r[4] >= 8 && r[5] >= 16;
+}
+
+uint32_t plain_draw_a(uint32_t *registers, uint32_t *draw) {
+    if (!accepted(registers)) {
+        *draw = 0;
+        return 1;
+    }
+    *draw = step(registers);
+    return 0;
+}
+
+static inline uint64_t root_double(uint64_t x) {
+    return (uint64_t)sqrt((double)x);
+}
+
+static inline uint64_t root_bits(uint64_t x) {
+    uint64_t root = 0;
+    for (uint64_t bit = (uint64_t)1 << 46; bit != 0; bit >>= 2) {
+        if (x >= root + bit) {
+            x -= root + bit;
+            root = (root >> 1) + bit;
+        } else {
+            root >>= 1;
+        }
+    }
+    return root;
+}
+
+static inline int16_t sample(uint64_t F, int64_t G) {
+    uint64_t size = (F * (uint64_t)(G < 0 ? -G : G) + ((uint64_t)1 << 38)) >> 39;
+    return (int16_t)(G < 0 ? -(int64_t)size : (int64_t)size);
+}
+
+static inline void pair(uint64_t k, uint32_t v, int16_t *out, uint64_t (*root)(uint64_t)) {
+    if (k == 0) {
+        k = 1;
+    }
+    int e = 63 - __builtin_clzll(k);
+    uint64_t M = k << (47 - e);
+    uint64_t h = M >> 39, d = M & (((uint64_t)1 << 39) - 1);
+    uint64_t i = d / (h << 23), r = d - i * (h << 23);
+    uint64_t S = (r << 17) / (h * (65536 + i));
+    int64_t Q = (int64_t)((uint64_t)(48 - e) * K - A[h - 256] - B[i] - S);
+    uint64_t F = root(2 * (uint64_t)(Q < 0 ? 0 : Q));
+    uint32_t q = v >> 14, w = v & 16383, a = w >> 7, b = w & 127;
+    int64_t cosine = (int64_t)((C[a] * c[b] - D[a] * s[b]) >> 30), sine = (int64_t)((D[a] * c[b] + C[a] * s[b]) >> 30);
+    int64_t first = q & 1 ? cosine : sine, second = q & 1 ? -sine : cosine;
+    out[0] = sample(F, q & 2 ? -first : first);
+    out[1] = sample(F, q & 2 ? -second : second);
+}
+
+static inline uint32_t block_by(uint32_t *registers, int16_t *block, size_t length, uint64_t (*root)(uint64_t)) {
+    if (!accepted(registers)) {
+        return 1;
+    }
+    if (length % 2 == 1) {
+        return 4;
+    }
+    uint32_t r[6];
+    for (int j = 0; j < 6; j++) {
+        r[j] = registers[j];
+    }
+    for (size_t at = 0; at < length; at += 2) {
+        uint64_t a = step(r);
+        uint32_t b = step(r + 3);
+        pair(a << 16 | b >> 16, b & 65535, block + at, root);
+    }
+    for (int j = 0; j < 6; j++) {
+        registers[j] = r[j];
+    }
+    return 0;
+}
+
+uint32_t plain_block(uint32_t *registers, int16_t *block, size_t length) {
+    return block_by(registers, block, length, root_double);
+}
+
+uint32_t plain_block_bits(uint32_t *registers, int16_t *block, size_t length) {
+    return block_by(registers, block, length, root_bits);
+}

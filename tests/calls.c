@@ -1,0 +1,62 @@
+/* Every call of include/jabulghi.h from C: one that is accepted and one for each refusal, on document 01's values. */
+#include "jabulghi.h"
+#include <inttypes.h>
+#include <stdio.h>
+
+static void show_record(const uint32_t *r) {
+    for (int j = 0; j < 6; j++) printf(" %" PRIu32, r[j]);
+    printf("\n");
+}
+
+static void seed(uint32_t *r, uint32_t a0) {
+    uint32_t number = jabulghi_seed(a0, 8, 16, 2, 8, 16, r);
+    printf("seed %" PRIu32 ":", number);
+    show_record(r);
+}
+
+static void draw(const char *name, uint32_t call(uint32_t *, uint32_t *), uint32_t *r) {
+    uint32_t word = 7, number = call(r, &word);
+    printf("draw %s %" PRIu32 ": 0x%08" PRIX32 ", record", name, number, word);
+    show_record(r);
+}
+
+static void sample(uint64_t k, uint32_t v) {
+    int16_t s[2] = {7, 7};
+    uint32_t number = jabulghi_sample(k, v, s);
+    printf("sample %" PRIu32 ": %d %d\n", number, s[0], s[1]);
+}
+
+static void pair(uint32_t *r) {
+    int16_t s[2] = {7, 7};
+    uint32_t number = jabulghi_pair(r, s);
+    printf("pair %" PRIu32 ": %d %d, record", number, s[0], s[1]);
+    show_record(r);
+}
+
+static void block(uint32_t *r, size_t length) {
+    int16_t s[6] = {7, 7, 7, 7, 7, 7};
+    uint32_t number = jabulghi_block(r, s, length);
+    printf("block %" PRIu32 ": %d %d %d %d %d %d, record", number, s[0], s[1], s[2], s[3], s[4], s[5]);
+    show_record(r);
+}
+
+int main(void) {
+    uint32_t r[6] = {7, 7, 7, 7, 7, 7}, unfit[6] = {2, 8, 16, 2, 8, 15};
+    seed(r, 1);
+    seed(r, 2);
+    draw("a", jabulghi_draw_a, r);
+    draw("a", jabulghi_draw_a, r);
+    draw("b", jabulghi_draw_b, r);
+    draw("a", jabulghi_draw_a, unfit);
+    draw("b", jabulghi_draw_b, unfit);
+    sample(1, 49152);
+    sample((uint64_t)1 << 40, 24576);
+    sample((uint64_t)1 << 48, 65536);
+    sample(0, 65536);
+    pair(r);
+    pair(unfit);
+    block(r, 0);
+    block(r, 4);
+    block(r, 5);
+    block(unfit, 5);
+}

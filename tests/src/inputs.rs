@@ -1,0 +1,47 @@
+//! Seeds and pairs of numbers, the places where something changes among them.
+use crate::random::Random;
+use crate::stream::Record;
+
+/// Seeds of every kind: mostly accepted, with small and sparse registers among them.
+pub fn seeds(random: &mut Random) -> Record {
+    let mut record = [0; 6];
+    for (j, register) in record.iter_mut().enumerate() {
+        let least = [2, 8, 16][j % 3];
+        *register = match random.below(40) {
+            0 => random.below(20) as u32,
+            1 => least - 1,
+            2 => least,
+            3 => u32::MAX,
+            _ => (random.number(32) as u32).max(least),
+        };
+    }
+    record
+}
+
+/// k's cells are those of the logarithm tables: k at the start of a cell (h, i), or just beside it, at any scale.
+fn at_a_cell(random: &mut Random) -> u64 {
+    let (h, i) = (256 + random.below(256) as u64, random.below(257) as u64);
+    let m = ((h << 39) + i * (h << 23) + random.below(5) as u64).saturating_sub(2);
+    (m >> random.below(40)).min((1 << 48) - 1)
+}
+
+/// A first number, sometimes too large.
+pub fn k(random: &mut Random) -> u64 {
+    match random.below(100) {
+        0 => random.number(64),
+        1 => (1 << 48) - 50 + random.below(100) as u64,
+        2..=30 => at_a_cell(random),
+        _ => random.number(48),
+    }
+}
+
+/// A second number, sometimes too large.
+pub fn v(random: &mut Random) -> u32 {
+    match random.below(100) {
+        0 => random.number(32) as u32,
+        1 => 65500 + random.below(100) as u32,
+        2..=4 => 16384 * random.below(4) as u32,
+        5..=20 => (random.below(513) as u32 * 128 + random.below(3) as u32).saturating_sub(1) % 65536,
+        _ => random.below(65536) as u32,
+    }
+}

@@ -1,0 +1,124 @@
+//! The static library's functions as include/jabulghi.h declares them, called on marked memory.
+use crate::stream::{Record, A};
+use std::fmt;
+
+extern "C" {
+    fn jabulghi_seed(a0: u32, a1: u32, a2: u32, b0: u32, b1: u32, b2: u32, registers: *mut u32) -> u32;
+    fn jabulghi_draw_a(registers: *mut u32, draw: *mut u32) -> u32;
+    fn jabulghi_draw_b(registers: *mut u32, draw: *mut u32) -> u32;
+    fn jabulghi_sample(k: u64, v: u32, samples: *mut i16) -> u32;
+    fn jabulghi_pair(registers: *mut u32, samples: *mut i16) -> u32;
+    fn jabulghi_block(registers: *mut u32, block: *mut i16, length: usize) -> u32;
+}
+
+/// Elements on either side of lent memory that a call must leave alone.
+const MARGIN: usize = 8;
+
+pub trait Mark: Copy + PartialEq + fmt::Debug {
+    fn mark(place: usize) -> Self;
+    fn show(elements: &[Self]) -> String {
+        format!("{elements:?}")
+    }
+}
+impl Mark for i16 {
+    fn mark(place: usize) -> i16 {
+        (place * 30011 + 0x5AA5) as i16
+    }
+}
+impl Mark for u32 {
+    fn mark(place: usize) -> u32 {
+        (place as u32 + 1).wrapping_mul(0x9E3779B1)
+    }
+}
+/// Lent memory, with a marked margin on either side. Two are equal where elements and margins are.
+#[derive(Clone, PartialEq)]
+pub struct Lent<T>(Vec<T>);
+
+impl<T: Mark> Lent<T> {
+    pub fn holding(elements: &[T]) -> Lent<T> {
+        let mut cells = Vec::with_capacity(elements.len() + 2 * MARGIN);
+        cells.extend((0..MARGIN).map(T::mark));
+        cells.extend_from_slice(elements);
+        cells.extend((0..MARGIN).map(|j| T::mark(MARGIN + j)));
+        Lent(cells)
+    }
+
+    /// Lent memory of marks alone, what a call finds where it is to write.
+    pub fn marked(length: usize) -> Lent<T> {
+        Lent::holding(&(0..length).map(|j| T::mark(2 * MARGIN + j)).collect::<Vec<_>>())
+    }
+
+    pub fn elements(&self) -> &[T] {
+        &self.0[MARGIN..self.0.len() - MARGIN]
+    }
+
+    pub fn elements_mut(&mut self) -> &mut [T] {
+        let end = self.0.len() - MARGIN;
+        &mut self.0[MARGIN..end]
+    }
+
+    pub fn pointer(&mut self) -> *mut T {
+        // of the whole vector, so that a stray store into a margin is seen and not undefined
+        self.0[..].as_mut_ptr().wrapping_add(MARGIN)
+    }
+}
+
+impl<T: Mark> fmt::Debug for Lent<T> {
+    fn fmt(&self, f: &mut fmt::Formatter) -> fmt::Result {
+        if *self != Lent::holding(self.elements()) {
+            write!(f, "(MARGINS OVERWRITTEN) ")?;
+        }
+        write!(f, "{}", T::show(self.elements()))
+    }
+}
+
+fn record_of(registers: &Lent<u32>) -> Record {
+    registers.elements().try_into().unwrap()
+}
+
+pub type Seeded = (u32, Lent<u32>);
+pub type Drawn = (u32, Lent<u32>, Lent<u32>);
+pub type Sampled = (u32, Lent<i16>);
+pub type Paired = (u32, Lent<u32>, Lent<i16>);
+
+pub fn seed(s: &Record) -> Seeded {
+    let mut registers = Lent::marked(6);
+    let number = unsafe { jabulghi_seed(s[0], s[1], s[2], s[3], s[4], s[5], registers.pointer()) };
+    (number, registers)
+}
+
+pub fn draw(record: &Record, stream: usize) -> Drawn {
+    let (mut registers, mut draw) = (Lent::holding(record), Lent::marked(1));
+    let call = if stream == A { jabulghi_draw_a } else { jabulghi_draw_b };
+    let number = unsafe { call(registers.pointer(), draw.pointer()) };
+    (number, registers, draw)
+}
+
+pub fn sample(k: u64, v: u32) -> Sampled {
+    let mut samples = Lent::marked(2);
+    let number = unsafe { jabulghi_sample(k, v, samples.pointer()) };
+    (number, samples)
+}
+
+pub fn pair(record: &Record) -> Paired {
+    let (mut registers, mut samples) = (Lent::holding(record), Lent::marked(2));
+    let number = unsafe { jabulghi_pair(registers.pointer(), samples.pointer()) };
+    (number, registers, samples)
+}
+
+pub fn block(record: &Record, length: usize) -> Paired {
+    let (mut registers, mut block) = (Lent::holding(record), Lent::marked(length));
+    let number = unsafe { jabulghi_block(registers.pointer(), block.pointer(), length) };
+    (number, registers, block)
+}
+
+/// `count` draws in turn from a and b, from seeding on.
+pub fn draws(seeds: &Record, count: usize) -> Vec<[u32; 2]> {
+    let mut record = record_of(&seed(seeds).1);
+    let mut one = |stream| {
+        let (_, registers, drawn) = draw(&record, stream);
+        record = record_of(&registers);
+        drawn.elements()[0]
+    };
+    (0..count).map(|_| [one(A), one(crate::stream::B)]).collect()
+}

@@ -1,0 +1,95 @@
+//! Runs the static library beside another implementation of document 01, written from the document alone.
+//! JABULGHI_SEED gives the generated inputs another seed.
+mod cases;
+mod fixed;
+mod inputs;
+mod job;
+mod library;
+mod random;
+mod readings;
+mod sample;
+mod stream;
+
+use cases::{same, Block, Draw, History, Pair, Sample, Seed};
+use random::Random;
+use sample::Tables;
+use std::time::Instant;
+use stream::{A, B};
+
+fn main() {
+    let seed = std::env::var("JABULGHI_SEED").map_or(1996, |s| s.parse().expect("JABULGHI_SEED is a number"));
+    let tables = Tables::new();
+    readings::check(&tables);
+    println!("the other implementation gives document 01's readings and example; inputs from seed {seed}");
+    type Group = fn(&Tables, &mut Random) -> String;
+    let groups: [Group; 5] = [draws, histories, samples, pairs, blocks];
+    for (j, group) in groups.into_iter().enumerate() {
+        let start = Instant::now();
+        let said = group(&tables, &mut Random(seed ^ (j as u64) << 56));
+        println!("{said}, all equal ({:.1} s)", start.elapsed().as_secs_f64());
+    }
+}
+
+fn draws(tables: &Tables, random: &mut Random) -> String {
+    let count = 500_000;
+    for _ in 0..count {
+        let record = inputs::seeds(random);
+        same(tables, &Seed(record));
+        same(tables, &Draw(record, A));
+        same(tables, &Draw(record, B));
+    }
+    format!("{count} records seeded and drawn from")
+}
+
+fn histories(tables: &Tables, random: &mut Random) -> String {
+    let (count, length) = (400, 2000);
+    for _ in 0..count {
+        let record = inputs::seeds(random);
+        if stream::accepted(&record) {
+            same(tables, &History(record, length));
+        }
+    }
+    format!("up to {count} seeds, {length} draws from each stream against the recurrence on single bits")
+}
+
+fn samples(tables: &Tables, random: &mut Random) -> String {
+    let (count, mut refused) = (6_000_000, 0);
+    for v in 0..65536 {
+        same(tables, &Sample(0, v));
+        same(tables, &Sample((1 << 48) - 1 - u64::from(v), v));
+    }
+    for _ in 0..count {
+        let (k, v) = (inputs::k(random), inputs::v(random));
+        refused += u32::from(same(tables, &Sample(k, v)).0 != 0);
+    }
+    format!("{} samples of k and v, {refused} calls refused", 2 * count + 4 * 65536)
+}
+
+fn pairs(tables: &Tables, random: &mut Random) -> String {
+    let count = 1_000_000;
+    for _ in 0..count {
+        same(tables, &Pair(inputs::seeds(random)));
+    }
+    format!("{count} pairs")
+}
+
+/// Runs of blocks, each from the record that the one before left.
+fn blocks(tables: &Tables, random: &mut Random) -> String {
+    let (mut count, mut samples) = (0, 0);
+    while samples < 10_000_000 {
+        let mut record = inputs::seeds(random);
+        for _ in 0..20 {
+            let length = match random.below(20) {
+                0 => random.below(20_000),
+                1..=4 => 2 * random.below(2000),
+                5..=8 => (2 << random.below(12)) + random.below(5) - 2,
+                _ => random.below(70),
+            };
+            let (number, registers, _) = same(tables, &Block(record, length));
+            record = registers.elements().try_into().unwrap();
+            count += 1;
+            samples += if number == 0 { length } else { 0 };
+        }
+    }
+    format!("{count} blocks, {samples} samples")
+}

@@ -1,0 +1,97 @@
+//! Document 01, "Radius" and "Angle and sample", step by step in wide whole numbers.
+use crate::fixed::{cosine_and_sine, ln};
+
+/// The tables, each entry the nearest whole number to its value times 2^40 or 2^30.
+pub struct Tables {
+    /// A, from h = 256 on
+    a: Vec<i128>,
+    /// B
+    b: Vec<i128>,
+    /// K
+    k: i128,
+    /// C and D, at a/512 of a turn
+    coarse: Vec<(i128, i128)>,
+    /// c and s, at b/65536 of a turn
+    fine: Vec<(i128, i128)>,
+}
+
+impl Tables {
+    pub fn new() -> Tables {
+        let log = |n: u32, d: u32| i128::from(ln(n, d).nearest(40));
+        let rotation = |n: u32| {
+            let (cosine, sine) = cosine_and_sine(n);
+            (i128::from(cosine.nearest(30)), i128::from(sine.nearest(30)))
+        };
+        Tables {
+            a: (256..512).map(|h| log(h, 256)).collect(),
+            b: (0..256).map(|i| log(65536 + i, 65536)).collect(),
+            k: log(2, 1),
+            coarse: (0..128).map(|a| rotation(128 * a)).collect(),
+            fine: (0..128).map(rotation).collect(),
+        }
+    }
+
+    pub fn ln_two(&self) -> i128 {
+        self.k
+    }
+
+    /// F, the radius times 2^20, of a k from 0 to 2^48 - 1.
+    fn radius(&self, k: u64) -> i128 {
+        let k = i128::from(if k == 0 { 1 } else { k });
+        let e = (0..48).rfind(|&bit| k >= 1 << bit).unwrap();
+        let m = k << (47 - e);
+        let (h, d) = (m >> 39, m & ((1 << 39) - 1));
+        let i = d / (h << 23);
+        let r = d - i * (h << 23);
+        let s = (r << 17) / (h * (65536 + i));
+        let q = (48 - e) * self.k - self.a[h as usize - 256] - self.b[i as usize] - s;
+        root(2 * q.max(0))
+    }
+
+    /// Sine and cosine at 2^30 of v/65536 of a turn, v at most 65535.
+    fn rotation(&self, v: u32) -> (i128, i128) {
+        let (quarter, w) = (v / 16384, v % 16384);
+        let (big_c, big_d) = self.coarse[w as usize / 128];
+        let (c, s) = self.fine[w as usize % 128];
+        let cos = (big_c * c - big_d * s).div_euclid(1 << 30);
+        let sin = (big_d * c + big_c * s).div_euclid(1 << 30);
+        match quarter {
+            0 => (sin, cos),
+            1 => (cos, -sin),
+            2 => (-sin, -cos),
+            _ => (-cos, sin),
+        }
+    }
+
+    /// The answer of the call from k and v: number, first sample, second sample.
+    pub fn sample(&self, k: u64, v: u32) -> (u32, i16, i16) {
+        if k >= 1 << 48 {
+            return (2, 0, 0);
+        }
+        if v > 65535 {
+            return (3, 0, 0);
+        }
+        let f = self.radius(k);
+        let (first, second) = self.rotation(v);
+        (0, scaled(f, first), scaled(f, second))
+    }
+}
+
+fn scaled(f: i128, g: i128) -> i16 {
+    let size = (f * g.abs() + (1 << 38)) >> 39;
+    i16::try_from(g.signum() * size).unwrap()
+}
+
+/// The whole part of the square root, by bits from the top.
+fn root(x: i128) -> i128 {
+    let mut out = 0i64;
+    let x = x as i64;
+    for bit in (0..25).rev() {
+        let more = out | 1 << bit;
+        if more * more <= x {
+            out = more;
+        }
+    }
+    assert!(out * out <= x && x < (out + 1) * (out + 1));
+    i128::from(out)
+}

@@ -1,0 +1,93 @@
+//! Document 01, "The two streams".
+use crate::sample::Tables;
+
+/// What is cleared at the bottom, the two left shifts and the right shift, for each register.
+const STEPS: [(u32, u32, u32, u32); 3] = [(1, 12, 13, 19), (3, 4, 2, 25), (4, 17, 3, 11)];
+const MINIMA: [u32; 3] = [2, 8, 16];
+
+/// Streams a and b, registers s0, s1, s2 each.
+pub type Record = [u32; 6];
+pub const A: usize = 0;
+pub const B: usize = 3;
+
+pub fn accepted(record: &Record) -> bool {
+    (0..6).all(|j| record[j] >= MINIMA[j % 3])
+}
+
+pub fn seed(seeds: &Record) -> (u32, Record) {
+    if accepted(seeds) {
+        (0, *seeds)
+    } else {
+        (1, [0; 6])
+    }
+}
+
+/// One draw from the stream whose registers begin at `stream`.
+pub fn step(record: &mut Record, stream: usize) -> u32 {
+    let mut draw = 0;
+    for (register, (clear, left, mix, right)) in record[stream..stream + 3].iter_mut().zip(STEPS) {
+        let s = *register;
+        *register = ((s >> clear << clear) << left) ^ (((s << mix) ^ s) >> right);
+        draw ^= *register;
+    }
+    draw
+}
+
+/// A draw as a public call: number, draw and the next record.
+pub fn draw(record: &Record, stream: usize) -> (u32, u32, Record) {
+    let mut next = *record;
+    if !accepted(record) {
+        return (1, 0, next);
+    }
+    let number = step(&mut next, stream);
+    (0, number, next)
+}
+
+/// The pair's two samples.
+fn step_pair(tables: &Tables, record: &mut Record) -> (i16, i16) {
+    let a = u64::from(step(record, A));
+    let b = step(record, B);
+    let (number, first, second) = tables.sample(a * 65536 + u64::from(b / 65536), b % 65536);
+    assert_eq!(number, 0);
+    (first, second)
+}
+
+pub fn pair(tables: &Tables, record: &Record) -> (u32, i16, i16, Record) {
+    let mut next = *record;
+    if !accepted(record) {
+        return (1, 0, 0, next);
+    }
+    let (first, second) = step_pair(tables, &mut next);
+    (0, first, second, next)
+}
+
+pub fn block(tables: &Tables, record: &Record, out: &mut [i16]) -> (u32, Record) {
+    let mut next = *record;
+    if !accepted(record) {
+        return (1, next);
+    }
+    if out.len() % 2 == 1 {
+        return (4, next);
+    }
+    for two in out.chunks_mut(2) {
+        (two[0], two[1]) = step_pair(tables, &mut next);
+    }
+    (0, next)
+}
+
+/// The first `count` draws of a stream by L'Ecuyer's recurrence on bits, x(m+k) = x(m+q) xor x(m):
+/// register j starts with its top k bits, and draw t takes 32 bits from s t on.
+pub fn recurrence(registers: [u32; 3], count: usize) -> Vec<u32> {
+    let mut draws = vec![0; count];
+    for (register, (k, q, s)) in registers.into_iter().zip([(31, 13, 12), (29, 2, 4), (28, 3, 17)]) {
+        let mut x: Vec<u32> = (0..k).map(|m| register >> (31 - m) & 1).collect();
+        for m in 0..s * count + 32 {
+            let bit = x[m + q] ^ x[m];
+            x.push(bit);
+        }
+        for (t, draw) in draws.iter_mut().enumerate() {
+            *draw ^= x[s * (t + 1)..][..32].iter().fold(0, |word, bit| word << 1 | bit);
+        }
+    }
+    draws
+}
