@@ -117,4 +117,5 @@ def main():
     line('l', pairs(least, least, 20000))
 
 
-main()
+if __name__ == '__main__':
+    main()

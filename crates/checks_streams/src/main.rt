@@ -1,31 +1,16 @@
 // Runs the streams beside another implementation, whose output is stored: the minima, the first draws of 2, 8, 16, refusals, and
 // checksums over some thousands of draws on many seeds. Each line has a letter and decimal numbers.
-ghost use Prim.Native.Nat.{_≤_};
 use reports::blank;
 use reports::line_end;
 use reports::mixed;
+use reports::record_of;
+use reports::show_record;
+use reports::stream_of;
 use streams::Generator;
 use streams::Stream;
 
-fn stream_of(s0: u32, s1: u32, s2: u32) -> Stream {
-    Stream { s0, s1, s2 }
-}
-
 fn wide(n: u32) -> u64 {
     n as u64
-}
-
-// The six registers, and the end of the line.
-fn show_record(g: Generator) {
-    let a = g.a;
-    let b = g.b;
-    blank(wide(a.s0));
-    blank(wide(a.s1));
-    blank(wide(a.s2));
-    blank(wide(b.s0));
-    blank(wide(b.s1));
-    blank(wide(b.s2));
-    line_end();
 }
 
 // Every call on one record: seeding from its registers, a draw from a, one from b, and the numbers of a pair.
@@ -92,42 +77,8 @@ fn draws(g: Generator, count: usize) -> u64 {
     mixed_stream(mixed_stream(sum, a), b)
 }
 
-// The minimum of the register at a place of the record.
-fn least_at(place: u64) -> u64
-    ensures { λ r. ⌜ r ≤ 16 ⌝ }
-{
-    let n = place % 3;
-    match n {
-        0 => 2,
-        1 => 8,
-        _ => 16,
-    }
-}
-
-// The register at a place of record number case: the extreme ones first, then scattered ones.
-fn register(case: u64, place: u64) -> u32 {
-    let least = least_at(place);
-    let scattered = mixed(mixed(12345, case), place);
-    let n = match case {
-        0 => least,
-        1 => 4294967295,
-        2 => 2147483648,
-        3 => 2147483647,
-        4 => 2 * least + 4294967295,
-        5 => 1431655765,
-        6 => 2863311530,
-        7 => 4294967296 - least,
-        8 => 2 * least,
-        9 => 65536,
-        _ => scattered,
-    };
-    (n % 4294967296) as u32
-}
-
 fn show_checksums(case: u64) {
-    let a = stream_of(register(case, 0), register(case, 1), register(case, 2));
-    let b = stream_of(register(case, 3), register(case, 4), register(case, 5));
-    let g = Generator { a, b };
+    let g = record_of(case);
     io::write_all(1, b"c");
     blank(case);
     blank(pairs(g, 200));

@@ -1,7 +1,9 @@
-// What the check programs print: numbers, samples and running checksums, on standard output.
+// What the check programs print: numbers, records, samples and running checksums, on standard output.
 ghost use Prim.Native.Nat.{_≤_};
 ghost use mathlib.Core.Path.{_≡_};
 ghost use lib.IntN.{natAbs};
+use streams::Generator;
+use streams::Stream;
 
 // A blank and a number.
 pub fn blank(n: u64) {
@@ -11,6 +13,23 @@ pub fn blank(n: u64) {
 
 pub fn line_end() {
     io::write_all(1, b"\n");
+}
+
+pub fn stream_of(s0: u32, s1: u32, s2: u32) -> Stream {
+    Stream { s0, s1, s2 }
+}
+
+// The six registers, and the end of the line.
+pub fn show_record(g: Generator) {
+    let a = g.a;
+    let b = g.b;
+    blank(a.s0 as u64);
+    blank(a.s1 as u64);
+    blank(a.s2 as u64);
+    blank(b.s0 as u64);
+    blank(b.s1 as u64);
+    blank(b.s2 as u64);
+    line_end();
 }
 
 // The size of a sample.
@@ -57,4 +76,43 @@ pub fn mixed_slice(sum: u64, samples: &[i16]) -> u64 {
         all = mixed_sample(all, x);
     }
     all
+}
+
+// The minimum of the register at a place of the record.
+fn least_at(place: u64) -> u64
+    ensures { λ r. ⌜ r ≤ 16 ⌝ }
+{
+    let n = place % 3;
+    match n {
+        0 => 2,
+        1 => 8,
+        _ => 16,
+    }
+}
+
+// The register at a place of record number case: the extreme ones first, then scattered ones.
+fn register(case: u64, place: u64) -> u32 {
+    let least = least_at(place);
+    let scattered = mixed(mixed(12345, case), place);
+    let n = match case {
+        0 => least,
+        1 => 4294967295,
+        2 => 2147483648,
+        3 => 2147483647,
+        4 => 2 * least + 4294967295,
+        5 => 1431655765,
+        6 => 2863311530,
+        7 => 4294967296 - least,
+        8 => 2 * least,
+        9 => 65536,
+        _ => scattered,
+    };
+    (n % 4294967296) as u32
+}
+
+// Record number case.
+pub fn record_of(case: u64) -> Generator {
+    let a = stream_of(register(case, 0), register(case, 1), register(case, 2));
+    let b = stream_of(register(case, 3), register(case, 4), register(case, 5));
+    Generator { a, b }
 }
