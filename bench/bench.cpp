@@ -2,10 +2,10 @@
 #include "jabulghi.h"
 #include "plain.h"
 #include <algorithm>
-#include <chrono>
 #include <cstdio>
 #include <cstdlib>
 #include <cstring>
+#include <ctime>
 #include <functional>
 #include <random>
 #include <string>
@@ -34,17 +34,23 @@ static void fail(const char *what) {
     exit(1);
 }
 
+// Time of this process alone, so that others on the machine weigh less.
+static double processor_seconds() {
+    timespec now;
+    clock_gettime(CLOCK_PROCESS_CPUTIME_ID, &now);
+    return now.tv_sec + now.tv_nsec * 1e-9;
+}
+
 // One run of each row in turn, RUNS times, after one that is not counted; then the medians, the first row being the measure.
 static void table(const char *what, std::vector<Row> &rows) {
     for (int run = -1; run < RUNS; run++) {
         for (Row &row : rows) {
-            auto start = std::chrono::steady_clock::now();
+            double start = processor_seconds();
             for (int j = 0; j < BUFFERS; j++) {
                 row.fill();
             }
-            std::chrono::duration<double> took = std::chrono::steady_clock::now() - start;
             if (run >= 0) {
-                row.seconds.push_back(took.count());
+                row.seconds.push_back(processor_seconds() - start);
             }
         }
     }
@@ -138,5 +144,5 @@ int main() {
     draws();
     samples();
     printf("\nratio: speed over the library's. Each run fills %d times a buffer of %zu elements, which is not cleared before;\n", BUFFERS, LENGTH);
-    printf("the rows take turns, and each figure is the median of %d runs after one that is not counted.\n", RUNS);
+    printf("the rows take turns, and each figure is the median of %d runs, in processor time, after one that is not counted.\n", RUNS);
 }
