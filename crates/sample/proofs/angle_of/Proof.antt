@@ -7,9 +7,6 @@ use Rattle.sample.specs.Steps.{sine, cosine}
 use borrow.Author.Needs.{needs}
 use Rattle.sample.proofs.angle_of.Statement.{statement}
 use Rattle.sample.proofs.angle_of.Tie as tie
-use Rattle.sample.proofs.angle_of.Reads as reads
-use Rattle.sample.proofs.angle_of.Lts as lts
-use Rattle.tables.proofs.entry.Reads as entry-reads
 
 entry-requires : tie.Need-entry-requires
 entry-requires c κs = search needs

@@ -9,9 +9,6 @@ use Rattle.sample.specs.Steps.{mantissa, coarse, rest, fine, remainder, 
 use Rattle.sample.specs.StepLaws.{coarse-range, fine-range, divisor-pos, divisor-range}
 use Rattle.sample.proofs.cell_of.Statement.{statement}
 use Rattle.sample.proofs.cell_of.Tie as tie
-use Rattle.sample.proofs.cell_of.Reads as reads
-use Rattle.sample.proofs.cell_of.Lts as lts
-use Rattle.sample.proofs.mantissa.Reads as mantissa-reads
 
 mantissa-requires : tie.Need-mantissa-requires
 mantissa-requires c κs = search needs

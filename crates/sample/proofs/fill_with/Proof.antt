@@ -12,10 +12,6 @@ use Rattle.sample.specs.Sample.{filled}
 use Rattle.sample.specs.FillLaws.{length-filled, filled-all, filled-step}
 use Rattle.sample.proofs.fill_with.Statement.{statement}
 use Rattle.sample.proofs.fill_with.Tie as tie
-use Rattle.sample.proofs.fill_with.Reads as reads
-use Rattle.sample.proofs.fill_with.Lts as lts
-use Rattle.sample.proofs.pair_of.Reads as pair-of-reads
-use Rattle.sample.proofs.pairs.Reads as pairs-reads
 
 abbrev Inv-loop : tie.InvT-loop
 Inv-loop lc lf ln2 cc sc cf sf z out₀ n i₀ out i = (i ≤ n) × (length out ≡ length out₀) × (out ≡ filled (take i z) out₀)

@@ -8,12 +8,6 @@ use Rattle.sample.specs.StepLaws.{top-below}
 use borrow.Author.Needs.{needs}
 use Rattle.sample.proofs.logarithm.Statement.{statement}
 use Rattle.sample.proofs.logarithm.Tie as tie
-use Rattle.sample.proofs.logarithm.Reads as reads
-use Rattle.sample.proofs.logarithm.Lts as lts
-use Rattle.sample.proofs.cell_of.Reads as cell-of-reads
-use Rattle.sample.proofs.cut.Reads as cut-reads
-use Rattle.sample.proofs.top_bit.Reads as top-bit-reads
-use Rattle.tables.proofs.entry.Reads as entry-reads
 
 -- src/lib.rt:66:13
 top-bit-requires : tie.Need-top-bit-requires

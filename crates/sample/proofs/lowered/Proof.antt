@@ -7,8 +7,6 @@ use Rattle.sample.proofs.Squares.{square-pos}
 use borrow.Author.Needs.{needs}
 use Rattle.sample.proofs.lowered.Statement.{statement}
 use Rattle.sample.proofs.lowered.Tie as tie
-use Rattle.sample.proofs.lowered.Reads as reads
-use Rattle.sample.proofs.lowered.Lts as lts
 
 abbrev Inv-loop : tie.InvT-loop
 Inv-loop x guess r₀ r = r < 2 ^ 24

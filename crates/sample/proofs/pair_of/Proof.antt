@@ -14,8 +14,6 @@ use Rattle.sample.specs.Sample.{radiusOf, rotationOf, firstOf, secondOf}
 use Rattle.sample.proofs.Ranges.{ln-two-range, radius-range, loaded-rotations, sine-range, cosine-range}
 use Rattle.sample.proofs.pair_of.Statement.{statement}
 use Rattle.sample.proofs.pair_of.Tie as tie
-use Rattle.sample.proofs.pair_of.Reads as reads
-use Rattle.sample.proofs.pair_of.Lts as lts
 
 numerator-requires : tie.Need-numerator-requires
 numerator-requires c κs = search needs

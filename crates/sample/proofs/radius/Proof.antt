@@ -7,8 +7,6 @@ use Rattle.sample.specs.Steps.{radius}
 use Rattle.sample.specs.StepLaws.{logarithm-range}
 use Rattle.sample.proofs.radius.Statement.{statement}
 use Rattle.sample.proofs.radius.Tie as tie
-use Rattle.sample.proofs.radius.Reads as reads
-use Rattle.sample.proofs.radius.Lts as lts
 
 logarithm-requires : tie.Need-logarithm-requires
 logarithm-requires c κs = search needs

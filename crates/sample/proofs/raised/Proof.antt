@@ -8,8 +8,6 @@ use Rattle.sample.proofs.Squares.{square-small}
 use borrow.Author.Needs.{needs}
 use Rattle.sample.proofs.raised.Statement.{statement}
 use Rattle.sample.proofs.raised.Tie as tie
-use Rattle.sample.proofs.raised.Reads as reads
-use Rattle.sample.proofs.raised.Lts as lts
 
 abbrev Inv-loop : tie.InvT-loop
 Inv-loop x low r₀ r = (r * r ≤ x) × (r < 2 ^ 24)

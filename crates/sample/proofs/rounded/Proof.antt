@@ -11,8 +11,6 @@ use Rattle.sample.specs.StepLaws.{size-range}
 use Rattle.sample.proofs.Signs.{rounded-apart, minus-fits, minus-reads}
 use Rattle.sample.proofs.rounded.Statement.{statement}
 use Rattle.sample.proofs.rounded.Tie as tie
-use Rattle.sample.proofs.rounded.Reads as reads
-use Rattle.sample.proofs.rounded.Lts as lts
 
 product : (c : tie.Start) → c .args .radius * c .args .size ≤ 8553728 * 2 ^ 30
 product c = mul-le-mul (le-of-lt (c .pre .0)) (c .pre .1)

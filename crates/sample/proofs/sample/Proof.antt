@@ -12,16 +12,6 @@ use Rattle.sample.proofs.Closeness.{answer-close}
 use borrow.Author.Needs.{needs}
 use Rattle.sample.proofs.sample.Statement.{statement}
 use Rattle.sample.proofs.sample.Tie as tie
-use Rattle.sample.proofs.sample.Reads as reads
-use Rattle.sample.proofs.sample.Lts as lts
-use Rattle.sample.proofs.pair_of.Reads as pair-of-reads
-use Rattle.tables.proofs.cos_coarse.Reads as cos-coarse-reads
-use Rattle.tables.proofs.cos_fine.Reads as cos-fine-reads
-use Rattle.tables.proofs.ln_two.Reads as ln-two-reads
-use Rattle.tables.proofs.log_coarse.Reads as log-coarse-reads
-use Rattle.tables.proofs.log_fine.Reads as log-fine-reads
-use Rattle.tables.proofs.sin_coarse.Reads as sin-coarse-reads
-use Rattle.tables.proofs.sin_fine.Reads as sin-fine-reads
 
 returns : tie.Need-returns
 unfolding samplesOf

@@ -11,8 +11,6 @@ use Rattle.sample.specs.Steps.{pick}
 use Rattle.sample.specs.Parts.{withSign}
 use Rattle.sample.proofs.turn.Statement.{statement}
 use Rattle.sample.proofs.turn.Tie as tie
-use Rattle.sample.proofs.turn.Reads as reads
-use Rattle.sample.proofs.turn.Lts as lts
 
 -- the two numbers, by the tests on q, and their sizes
 quarters : (q s c : ℕ) → q < 4 → s ≤ 2 ^ 30 → c ≤ 2 ^ 30 →

@@ -1,0 +1,2 @@
+-- What the proof of `size` uses.
+mod Signs
