@@ -7,3 +7,4 @@ pub mod Reading
 pub mod Writing
 pub mod Sizes
 pub mod Refused
+pub mod Split

@@ -127,3 +127,10 @@ put-row d at f t m s e₁ e₂ e₃ e₄ a b c z room p q r u =
     let pqr = then d at _ e₂ b (decimal m ++ (32 ∷ [])) e₃ c (omega arith) pq r in
     let l₆ = length-append (f ++ (32 ∷ []) ++ (t ++ (32 ∷ []))) (decimal m ++ (32 ∷ [])) in
     rw (← row-parts f t m s) (then d at _ e₃ c (decimal s ++ (10 ∷ [])) e₄ z (omega arith) pqr u)
+
+-- a row of a listing is at most 40 bytes long
+pub row-bound : (f t : List ℕ) (m s : ℕ) → length f ≤ 12 → length t ≤ 12 → m ≤ 1016000 → s ≤ 65535 → length (shotRow f t m s) ≤ 40
+row-bound f t m s a b c d =
+    let p = decimal-length 6 m (omega arith) in
+    let q = decimal-length 4 s (omega arith) in
+    rw (row-length f t m s) (omega arith)

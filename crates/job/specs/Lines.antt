@@ -13,3 +13,8 @@ before x (l ∷ ls) = (x ∷ l) ∷ ls
 unfoldable pub lines : List ℕ → List (List ℕ)
 lines [] = []
 lines (x ∷ xs) = cond (eqb x 10) ((x ∷ []) ∷ lines xs) (before x (lines xs))
+
+-- the first of them
+unfoldable pub firstLine : List ℕ → List ℕ
+firstLine [] = []
+firstLine (x ∷ xs) = cond (eqb x 10) (x ∷ []) (x ∷ firstLine xs)

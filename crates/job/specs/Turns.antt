@@ -1,9 +1,13 @@
 -- What a line does to the state of a job.
-use Prim.Native.Nat.{ℕ, _+_}
+use Prim.Native.Nat.{ℕ, _+_, _≤_}
 use mathlib.Core.Bool.{cond}
 use mathlib.Core.List.{List}
 use lib.Dec.{eqb}
 use lib.ListN.{length}
+use Rattle.job.specs.Answers.{partOf}
+use Rattle.job.specs.Rounding.{noisyRow}
+use Rattle.job.specs.declared.line.Shot.{Shot}
+use Rattle.job.specs.declared.shot.Noise.{Noise}
 use Rattle.job.specs.declared.turn.Setting.{Setting}
 use Rattle.job.specs.declared.turn.State.{State}
 use Rattle.job.specs.declared.turn.Turn.{Turn}
@@ -14,3 +18,16 @@ turned s number bytes setting =
     cond (eqb number 0)
     (record { number = 0; next = record { line = s .line + 1; used = s .used + length bytes; setting = setting } })
     (record { number = number; next = s })
+
+-- the row of a shot of a line, with its noise
+abbrev pub rowOf : List ℕ → Shot → Noise → List ℕ
+rowOf line x n = noisyRow (n .distance) (n .bearing) (partOf line (x .from)) (partOf line (x .to)) (x .distance) (x .bearing) (n .first) (n .second)
+
+-- a shot and sigmas within their ranges
+pub record Fit (line : List ℕ) (x : Shot) (n : Noise) : Type 0 where
+  pub from : length (partOf line (x .from)) ≤ 12
+  pub to : length (partOf line (x .to)) ≤ 12
+  pub distance : x .distance ≤ 1000000
+  pub bearing : x .bearing ≤ 65535
+  pub sigma-distance : n .distance ≤ 1000
+  pub sigma-bearing : n .bearing ≤ 1000

@@ -3,4 +3,6 @@ mod field;
 mod line;
 mod print;
 mod rounding;
+mod shot;
+mod text;
 mod turn;

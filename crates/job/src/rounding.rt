@@ -26,7 +26,7 @@ fn noise_size(sigma: u32, size: u32) -> u32
 
 pub fn noisy_distance(sigma: u32, distance: u32, sample: i16) -> u32
     requires { ⌜ (sigma ≤ 1000) × (distance ≤ 1000000) ⌝ }
-    ensures { λ r. ⌜ r ≡ noisyDistance sigma distance sample ⌝ }
+    ensures { λ r. ⌜ (r ≡ noisyDistance sigma distance sample) × (r ≤ 1016000) ⌝ }
 {
     let noise = noise_size(sigma, size(sample));
     if 0 <= sample {
@@ -40,7 +40,7 @@ pub fn noisy_distance(sigma: u32, distance: u32, sample: i16) -> u32
 
 pub fn noisy_bearing(sigma: u32, bearing: u32, sample: i16) -> u32
     requires { ⌜ (sigma ≤ 1000) × (bearing ≤ 65535) ⌝ }
-    ensures { λ r. ⌜ r ≡ noisyBearing sigma bearing sample ⌝ }
+    ensures { λ r. ⌜ (r ≡ noisyBearing sigma bearing sample) × (r ≤ 65535) ⌝ }
 {
     let noise = noise_size(sigma, size(sample));
     if 0 <= sample {

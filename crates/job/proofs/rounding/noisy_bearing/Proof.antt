@@ -31,7 +31,7 @@ unfolding Plus
 returns c =
     let at = c .before .before .before in
     let n = c .before .noise-size .ensures .0 ∙ ap (λ (m : ℕ). noiseSize (at .args .sigma) m) (c .before .before .size .ensures .0 ∙ ap natAbs (toZ-ofZ (at .fits .sample))) in
-    rw (plus (at .args .sigma) (at .args .bearing) (at .args .sample) (at .fits .sample) (c .if1 .taken) .1, n)
+    (rw (plus (at .args .sigma) (at .args .bearing) (at .args .sample) (at .fits .sample) (c .if1 .taken) .1, n), omega arith)
 
 -- src/rounding.rt:49:17
 sub-result : tie.Need-sub-result
@@ -47,7 +47,7 @@ unfolding Minus
 returns-2 c =
     let at = c .before .before .before in
     let n = c .before .noise-size .ensures .0 ∙ ap (λ (m : ℕ). noiseSize (at .args .sigma) m) (c .before .before .size .ensures .0 ∙ ap natAbs (toZ-ofZ (at .fits .sample))) in
-    rw (minus (at .args .sigma) (at .args .bearing) (at .args .sample) (at .fits .sample) (c .if1 .left) .1, ← n) (omega (arith, c .before .noise-size .ensures .1))
+    (rw (minus (at .args .sigma) (at .args .bearing) (at .args .sample) (at .fits .sample) (c .if1 .left) .1, ← n) (omega (arith, c .before .noise-size .ensures .1)), omega arith)
 
 pub noisy-bearing-spec : {M : Type 1} → statement M
 noisy-bearing-spec =

@@ -31,7 +31,7 @@ unfolding Plus
 returns c =
     let at = c .before .before .before in
     let n = c .before .noise-size .ensures .0 ∙ ap (λ (m : ℕ). noiseSize (at .args .sigma) m) (c .before .before .size .ensures .0 ∙ ap natAbs (toZ-ofZ (at .fits .sample))) in
-    rw (plus (at .args .sigma) (at .args .distance) (at .args .sample) (at .fits .sample) (c .if1 .taken) .0, n)
+    (rw (plus (at .args .sigma) (at .args .distance) (at .args .sample) (at .fits .sample) (c .if1 .taken) .0, n), omega (arith, c .before .noise-size .ensures .1, at .pre .1))
 
 -- src/rounding.rt:36:9
 returns-2 : tie.Need-returns-2
@@ -39,7 +39,7 @@ unfolding Minus
 returns-2 c =
     let at = c .before .before .before .before in
     let n = c .before .before .noise-size .ensures .0 ∙ ap (λ (m : ℕ). noiseSize (at .args .sigma) m) (c .before .before .before .size .ensures .0 ∙ ap natAbs (toZ-ofZ (at .fits .sample))) in
-    rw (minus (at .args .sigma) (at .args .distance) (at .args .sample) (at .fits .sample) (c .before .if1 .left) .0, ← n) (omega arith)
+    (rw (minus (at .args .sigma) (at .args .distance) (at .args .sample) (at .fits .sample) (c .before .if1 .left) .0, ← n) (omega arith), omega (arith, c .before .before .noise-size .ensures .1, at .pre .1))
 
 -- src/rounding.rt:27:1
 returns-3 : tie.Need-returns-3
@@ -47,7 +47,7 @@ unfolding Minus
 returns-3 c =
     let at = c .before .before .before .before in
     let n = c .before .before .noise-size .ensures .0 ∙ ap (λ (m : ℕ). noiseSize (at .args .sigma) m) (c .before .before .before .size .ensures .0 ∙ ap natAbs (toZ-ofZ (at .fits .sample))) in
-    rw (minus (at .args .sigma) (at .args .distance) (at .args .sample) (at .fits .sample) (c .before .if1 .left) .0, n)
+    (rw (minus (at .args .sigma) (at .args .distance) (at .args .sample) (at .fits .sample) (c .before .if1 .left) .0, n), omega (arith, c .before .before .noise-size .ensures .1, at .pre .1))
 
 pub noisy-distance-spec : {M : Type 1} → statement M
 noisy-distance-spec =

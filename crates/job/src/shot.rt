@@ -1,0 +1,32 @@
+// The row of a shot with its noise.
+use crate::field::part;
+use crate::line::Shot;
+use crate::print::put_shot;
+use crate::rounding::noisy_bearing;
+use crate::rounding::noisy_distance;
+ghost use Prim.Native.Nat.{_+_, _≤_};
+ghost use mathlib.Core.Path.{_≡_};
+ghost use lib.ListN.{length};
+ghost use Rattle.job.specs.Answers.{partOf};
+ghost use Rattle.job.specs.Listing.{written};
+ghost use Rattle.job.specs.Turns.{Fit, rowOf};
+
+// What the row of a shot is made of: the sigmas and the samples of one pair.
+pub struct Noise {
+    pub distance: u32,
+    pub bearing: u32,
+    pub first: i16,
+    pub second: i16,
+}
+
+pub fn print_shot(line: &[u8], x: Shot, n: Noise, out: &mut [u8], at: usize) -> usize
+    requires { ⌜ Fit (now line) x n ⌝ }
+    requires { ⌜ at + 40 ≤ length (now out) ⌝ }
+    ensures { λ r. ⌜ (r ≡ at + length (rowOf (now (line .entry)) x n)) × (now (out .exit) ≡ written (now (out .entry)) at (rowOf (now (line .entry)) x n)) ⌝ }
+{
+    let mm = noisy_distance(n.distance, x.distance as u32, n.first);
+    let step = noisy_bearing(n.bearing, x.bearing as u32, n.second);
+    let from = x.from;
+    let to = x.to;
+    put_shot(out, at, part(line, from), part(line, to), mm, step)
+}
