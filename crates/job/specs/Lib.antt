@@ -6,4 +6,5 @@ pub mod Lines
 pub mod Listing
 pub mod Rounding
 pub mod Refusals
+pub mod Job
 pub mod Turns

@@ -6,3 +6,10 @@ mod rounding;
 mod shot;
 mod text;
 mod turn;
+
+// The number, 0 where the job is accepted; the line, 0 where no line is at fault; and the listing's length.
+pub struct JobAnswer {
+    pub number: u32,
+    pub line: u32,
+    pub length: usize,
+}

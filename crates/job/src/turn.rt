@@ -1,16 +1,22 @@
 // A job, line by line: what each line does to the state, or why it is refused.
 use crate::line::Seeds;
+use crate::line::Shot;
 use crate::line::Sigma;
+use crate::shot::Noise;
+use crate::shot::print_shot;
 use streams::Generator;
-ghost use Prim.Native.Nat.{_<_};
+ghost use Prim.Native.Nat.{_≤_};
 ghost use mathlib.Core.Path.{_≡_};
 ghost use mathlib.Core.Bool.{_||_};
 ghost use mathlib.Core.List.{[]};
 ghost use lib.Dec.{ltb};
+ghost use lib.ListN.{length};
 ghost use Rattle.streams.specs.Streams.{seedOf};
 ghost use Rattle.job.specs.Forms.{seeds, sigma};
 ghost use Rattle.job.specs.Refusals.{refusal, beyond};
-ghost use Rattle.job.specs.Turns.{turned};
+ghost use Rattle.job.specs.Listing.{written};
+ghost use Rattle.job.specs.Job.{printed, settingAfter};
+ghost use Rattle.job.specs.Turns.{turned, turnOf, bufferOf, shotIn, Ready};
 
 // What the shots to come are printed with: the generator record and the sigmas.
 pub struct Setting {
@@ -109,4 +115,54 @@ fn on_sigma(x: Sigma, s: State) -> Turn
         setting,
     };
     Turn { number: 0, next }
+}
+
+// A shot in its place and within its ranges: its row is printed, and one pair is drawn.
+fn listed_shot(line: &[u8], x: Shot, s: State, out: &mut [u8]) -> Turn
+    requires { ⌜ Ready (now line) x s (length (now out)) ⌝ }
+    requires { ⌜ (s .line ≤ 502) × (x .distance ≤ 1000000) × (x .bearing ≤ 65535) ⌝ }
+    ensures { λ r. ⌜ (r ≡ turned s 0 (printed (shotIn (now (line .entry)) x) (s .setting)) (settingAfter (shotIn (now (line .entry)) x) (s .setting)))
+        × (now (out .exit) ≡ written (now (out .entry)) (s .used) (printed (shotIn (now (line .entry)) x) (s .setting))) ⌝ }
+{
+    let old = s.setting;
+    let generator = old.generator;
+    let pair = noise::pair(generator);
+    let n = Noise {
+        distance: old.distance,
+        bearing: old.bearing,
+        first: pair.first,
+        second: pair.second,
+    };
+    let used = print_shot(line, x, n, out, s.used);
+    let moved = pair.next;
+    let setting = Setting {
+        generator: moved,
+        distance: old.distance,
+        bearing: old.bearing,
+    };
+    let next = State {
+        line: s.line + 1,
+        used,
+        setting,
+    };
+    Turn { number: 0, next }
+}
+
+fn on_shot(line: &[u8], x: Shot, s: State, out: &mut [u8]) -> Turn
+    requires { ⌜ Ready (now line) x s (length (now out)) ⌝ }
+    ensures { λ r. ⌜ (r ≡ turnOf s (shotIn (now (line .entry)) x)) × (now (out .exit) ≡ bufferOf s (shotIn (now (line .entry)) x) (now (out .entry))) ⌝ }
+{
+    if s.line < 3 {
+        return Turn { number: 8, next: s };
+    }
+    if 502 < s.line {
+        return Turn { number: 9, next: s };
+    }
+    if 1000000 < x.distance {
+        return Turn { number: 7, next: s };
+    }
+    if 65535 < x.bearing {
+        return Turn { number: 7, next: s };
+    }
+    listed_shot(line, x, s, out)
 }

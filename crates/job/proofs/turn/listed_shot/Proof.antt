@@ -1,0 +1,45 @@
+use mir.Syntax.{w16}
+use mir.Val.{SFits}
+use mir.Facts.{toZ-ofZ}
+use mathlib.Core.Path.{refl}
+use Rattle.job.specs.Turns.{turned}
+use Rattle.job.specs.Job.{printed, settingAfter}
+use borrow.Author.Needs.{needs}
+use Rattle.job.proofs.turn.listed_shot.Statement.{statement}
+use Rattle.job.proofs.turn.listed_shot.Tie as tie
+use Rattle.job.proofs.turn.listed_shot.Reads as reads
+use Rattle.job.proofs.turn.listed_shot.Lts as lts
+use Rattle.job.proofs.shot.print_shot.Reads as print-shot-reads
+use Rattle.noise.proofs.pair.Reads as pair-reads
+
+-- src/turn.rt:129:9
+pair-requires : tie.Need-pair-requires
+pair-requires c κs = search needs
+
+-- src/turn.rt:136:9
+print-shot-requires : tie.Need-print-shot-requires
+print-shot-requires c κs = search needs
+
+-- src/turn.rt:144:15
+add-t15 : tie.Need-add-t15
+add-t15 c = search needs
+
+-- src/turn.rt:121:1
+same-length : tie.Need-same-length
+same-length c = search needs
+
+-- src/turn.rt:121:1
+returns : tie.Need-returns
+unfolding turned printed settingAfter
+returns c = 
+    let e = c .before .before .before .before .before .before .before .pair .ensures in
+    let r = c .before .before .before .before .before .before .before .pair .result in
+    let told = c .before .before .before .before .before .before .struct-told .given in
+    let first : SFits w16 (r .first) = record { sfits = told .1 .0 .1 } in
+    let second : SFits w16 (r .second) = record { sfits = told .1 .1 .0 .1 } in
+    let p = rw (toZ-ofZ first, toZ-ofZ second) at (c .before .before .before .before .print-shot .ensures) in
+    rw (← e, p .0) (refl, p .1)
+
+pub listed-shot-spec : {M : Type 1} → statement M
+listed-shot-spec =
+    tie.close (tie.spec pair-requires print-shot-requires add-t15 same-length returns)

@@ -1,0 +1,69 @@
+-- A job's answer, from its bytes (document 01, "A job and its listing" and the table of causes).
+use Prim.Native.Nat.{ℕ, _+_, _-_}
+use mathlib.Core.Bool.{cond}
+use mathlib.Core.List.{List, [], _∷_, _++_}
+use lib.Dec.{leb, ltb, eqb}
+use lib.ListN.{length, drop}
+use Rattle.streams.specs.Streams.{seedOf}
+use Rattle.noise.specs.Noise.{pairOf}
+use Rattle.job.specs.Lines.{lines}
+use Rattle.job.specs.Forms.{Form, seeds, sigma, shot, noForm, readLine}
+use Rattle.job.specs.Listing.{header, endRow}
+use Rattle.job.specs.Rounding.{noisyRow}
+use Rattle.job.specs.Refusals.{refusal}
+use Rattle.job.specs.declared.turn.Setting.{Setting}
+use Rattle.job.specs.declared.JobAnswer.{JobAnswer}
+
+-- What a line leaves for those after it: the seeds give the record, the sigmas are kept, "each shot takes one pair"
+unfoldable pub settingAfter : Form → Setting → Setting
+settingAfter (seeds a0 a1 a2 b0 b1 b2) s =
+    record { generator = seedOf a0 a1 a2 b0 b1 b2 .next; distance = s .distance; bearing = s .bearing }
+settingAfter (sigma d b) s = record { generator = s .generator; distance = d; bearing = b }
+settingAfter (shot from to d b) s = record { generator = pairOf (s .generator) .next; distance = s .distance; bearing = s .bearing }
+settingAfter noForm s = s
+
+-- What a line prints: "First sample to distance, second to bearing" of the one pair
+unfoldable pub printed : Form → Setting → List ℕ
+printed (seeds a0 a1 a2 b0 b1 b2) s = []
+printed (sigma d b) s = []
+printed (shot from to d b) s =
+    noisyRow (s .distance) (s .bearing) from to d b (pairOf (s .generator) .first) (pairOf (s .generator) .second)
+printed noForm s = []
+
+-- A job is refused with a number and a line, or listed
+pub data Outcome : Type 0 where
+  refused : ℕ → ℕ → Outcome
+  listed : List ℕ → Outcome
+
+abbrev pub onto : List ℕ → Outcome → Outcome
+onto bytes (refused number line) = refused number line
+onto bytes (listed rest) = listed (bytes ++ rest)
+
+-- The lines from line k on. At the end the text lacks line 1 or 2 (8), or the count of shots follows: all lines but those two
+unfoldable pub outcome : ℕ → Setting → List (List ℕ) → Outcome
+outcome k s [] = cond (ltb k 3) (refused 8 k) (listed (endRow (k - 3)))
+outcome k s (l ∷ ls) =
+    cond (eqb (refusal k (readLine l)) 0)
+    (onto (printed (readLine l) s) (outcome (k + 1) (settingAfter (readLine l) s) ls))
+    (refused (refusal k (readLine l)) k)
+
+-- before line 1 there is no record and no sigma; no accepted job prints with these
+unfoldable pub start : Setting
+start = record { generator = seedOf 0 0 0 0 0 0 .next; distance = 0; bearing = 0 }
+
+-- "job over 60,000 bytes" first, then line by line
+unfoldable pub jobOf : List ℕ → Outcome
+jobOf text = cond (ltb 60000 (length text)) (refused 5 0) (onto header (outcome 1 start (lines text)))
+
+-- The call's answer with a buffer of a given length: "listing longer than the buffer lent" last
+unfoldable pub answerOf : Outcome → ℕ → JobAnswer
+answerOf (refused number line) room = record { number = number; line = line; length = 0 }
+answerOf (listed bytes) room =
+    cond (leb (length bytes) room)
+    (record { number = 0; line = 0; length = length bytes })
+    (record { number = 10; line = 0; length = 0 })
+
+-- What the buffer then holds: "bytes beyond the listing's length keep their contents"; refused, what it held
+unfoldable pub bufferAfter : Outcome → List ℕ → List ℕ
+bufferAfter (refused number line) out = out
+bufferAfter (listed bytes) out = cond (leb (length bytes) (length out)) (bytes ++ drop (length bytes) out) out
