@@ -8,3 +8,4 @@ pub mod Writing
 pub mod Sizes
 pub mod Refused
 pub mod Split
+pub mod Taken

@@ -54,3 +54,9 @@ turnOf s x = turned s (refusal (s .line) x) (printed x (s .setting)) (settingAft
 
 unfoldable pub bufferOf : State → Form → List ℕ → List ℕ
 bufferOf s x out = cond (eqb (refusal (s .line) x) 0) (written out (s .used) (printed x (s .setting))) out
+
+-- sigmas within their range, and room for a row
+pub record Steady (s : State) (room : ℕ) : Type 0 where
+  pub sigma-distance : s .setting .distance ≤ 1000
+  pub sigma-bearing : s .setting .bearing ≤ 1000
+  pub space : s .used + 40 ≤ room

@@ -1,7 +1,9 @@
 // A job, line by line: what each line does to the state, or why it is refused.
+use crate::line::Line;
 use crate::line::Seeds;
 use crate::line::Shot;
 use crate::line::Sigma;
+use crate::line::read_line;
 use crate::shot::Noise;
 use crate::shot::print_shot;
 use streams::Generator;
@@ -12,11 +14,11 @@ ghost use mathlib.Core.List.{[]};
 ghost use lib.Dec.{ltb};
 ghost use lib.ListN.{length};
 ghost use Rattle.streams.specs.Streams.{seedOf};
-ghost use Rattle.job.specs.Forms.{seeds, sigma};
+ghost use Rattle.job.specs.Forms.{seeds, sigma, readLine};
 ghost use Rattle.job.specs.Refusals.{refusal, beyond};
 ghost use Rattle.job.specs.Listing.{written};
 ghost use Rattle.job.specs.Job.{printed, settingAfter};
-ghost use Rattle.job.specs.Turns.{turned, turnOf, bufferOf, shotIn, Ready};
+ghost use Rattle.job.specs.Turns.{turned, turnOf, bufferOf, shotIn, Ready, Steady};
 
 // What the shots to come are printed with: the generator record and the sigmas.
 pub struct Setting {
@@ -165,4 +167,18 @@ fn on_shot(line: &[u8], x: Shot, s: State, out: &mut [u8]) -> Turn
         return Turn { number: 7, next: s };
     }
     listed_shot(line, x, s, out)
+}
+
+// One line of a job: the state after it, and its row in the buffer.
+pub fn take_line(line: &[u8], s: State, out: &mut [u8]) -> Turn
+    requires { ⌜ Steady s (length (now out)) ⌝ }
+    ensures { λ r. ⌜ (r ≡ turnOf s (readLine (now (line .entry)))) × (now (out .exit) ≡ bufferOf s (readLine (now (line .entry))) (now (out .entry))) ⌝ }
+{
+    let said = read_line(line);
+    match said {
+        Line::Seeds(x) => on_seeds(x, s),
+        Line::Sigma(x) => on_sigma(x, s),
+        Line::Shot(x) => on_shot(line, x, s, out),
+        Line::NoForm => Turn { number: 6, next: s },
+    }
 }
