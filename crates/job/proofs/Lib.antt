@@ -9,3 +9,5 @@ pub mod Sizes
 pub mod Refused
 pub mod Split
 pub mod Taken
+pub mod Bounds
+pub mod Going

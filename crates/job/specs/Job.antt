@@ -51,9 +51,13 @@ outcome k s (l ∷ ls) =
 unfoldable pub start : Setting
 start = record { generator = seedOf 0 0 0 0 0 0 .next; distance = 0; bearing = 0 }
 
--- "job over 60,000 bytes" first, then line by line
+-- the header, and then line by line
+unfoldable pub listingOf : List ℕ → Outcome
+listingOf text = onto header (outcome 1 start (lines text))
+
+-- "job over 60,000 bytes" first
 unfoldable pub jobOf : List ℕ → Outcome
-jobOf text = cond (ltb 60000 (length text)) (refused 5 0) (onto header (outcome 1 start (lines text)))
+jobOf text = cond (ltb 60000 (length text)) (refused 5 0) (listingOf text)
 
 -- The call's answer with a buffer of a given length: "listing longer than the buffer lent" last
 unfoldable pub answerOf : Outcome → ℕ → JobAnswer
