@@ -6,18 +6,19 @@ use mathlib.Core.Bool.{Bool, true, false, cond}
 use mathlib.Core.List.{List, [], _∷_, _++_, append-assoc}
 use lib.Dec.{ltb, eqb}
 use lib.ListN.{length, take, drop, length-append, drop-of-length-le}
-use borrow.Author.Tests.{eq-eqb, ne-eqb, lt-ltb, le-ltb}
+use borrow.Author.Tests.{eq-eqb, ne-eqb, eqb-true, lt-ltb, le-ltb}
 use Rattle.job.specs.Forms.{Form, readLine}
 use Rattle.job.specs.Lines.{lines, firstLine}
 use Rattle.job.specs.Listing.{header, endRow, written}
 use Rattle.job.specs.Refusals.{refusal}
 use Rattle.job.specs.Job.{Outcome, refused, listed, onto, outcome, start, listingOf, settingAfter, printed}
 use Rattle.job.specs.Turns.{turned, turnOf, bufferOf, Steady}
+use Rattle.job.specs.Walks.{Going, Ended, Wrote}
 use Rattle.job.specs.declared.turn.Setting.{Setting}
 use Rattle.job.specs.declared.turn.State.{State}
 use Rattle.job.specs.declared.turn.Turn.{Turn}
 use Rattle.job.proofs.Bounds.{Steps, steps}
-use Rattle.job.proofs.Split.{lines-from, end-within}
+use Rattle.job.proofs.Split.{lines-from, end-within, part-line}
 use Rattle.job.proofs.Writing.{written-length, written-take, end-length}
 
 pub onto-onto : (a b : List ℕ) (o : Outcome) → onto a (onto b o) ≡ onto (a ++ b) o
@@ -33,16 +34,6 @@ module _ (k : ℕ) (s : Setting) (l : List ℕ) (ls : List (List ℕ)) where
   pub outcome-no : (refusal k (readLine l) ≡ 0 → ⊥) → outcome k s (l ∷ ls) ≡ refused (refusal k (readLine l)) k
   unfolding outcome
   outcome-no h = rw (ne-eqb (refusal k (readLine l)) 0 h, outcome)
-
--- the lines before `at` are taken
-pub record Going (text out : List ℕ) (s : State) (at : ℕ) : Type 0 where
-  pub place : at ≤ length text
-  pub room : length out ≡ 20480
-  pub line : s .line ≤ 503
-  pub distance : s .setting .distance ≤ 1000
-  pub bearing : s .setting .bearing ≤ 1000
-  pub used : s .used + 24 ≤ 40 * s .line
-  pub so-far : listingOf text ≡ onto (take (s .used) out) (outcome (s .line) (s .setting) (lines (drop at text)))
 
 module _ (text out : List ℕ) (s : State) (at : ℕ) (g : Going text out s at) where
   pub steady : Steady s (length out)
@@ -93,3 +84,38 @@ module _ (text out : List ℕ) (s : State) (at : ℕ) (g : Going text out s at) 
 
     pub complete : 3 ≤ s .line → listingOf text ≡ listed (take (s .used) out ++ endRow (s .line - 3))
     complete e = ended ∙ rw (le-ltb (s .line) 3 e)
+
+-- the number of a turn is the line's
+turn-number : (s : State) (x : Form) → turnOf s x .number ≡ refusal (s .line) x
+unfolding turnOf turned
+turn-number s x = go (refusal (s .line) x) (eqb (refusal (s .line) x) 0) refl
+  where
+    go : (n : ℕ) (b : Bool) → eqb n 0 ≡ b
+        → _≡_ {A = ℕ} (cond {A = Turn} b (record { number = 0; next = record { line = s .line + 1; used = s .used + length (printed x (s .setting)); setting = settingAfter x (s .setting) } }) (record { number = n; next = s }) .number) n
+    go n true e = sym (eqb-true n 0 e)
+    go n false e = refl
+
+-- one turn of the loop, on the part of the text from a line's start to its end
+module _ (text out : List ℕ) (s : State) (at end : ℕ) (r : Turn) (out′ : List ℕ)
+    (g : Going text out s at) (h : at < length text) (e : end ≡ at + length (firstLine (drop at text)))
+    (er : r ≡ turnOf s (readLine (take (end - at) (drop at text)))) (eo : out′ ≡ bufferOf s (readLine (take (end - at) (drop at text))) out) where
+  whole-line : take (end - at) (drop at text) ≡ firstLine (drop at text)
+  whole-line = rw e (part-line text at h)
+
+  number : r .number ≡ refusal (s .line) (readLine (firstLine (drop at text)))
+  number = ap (λ (t : Turn). t .number) er ∙ turn-number s _ ∙ ap (λ (l : List ℕ). refusal (s .line) (readLine l)) whole-line
+
+  pub turn-on : r .number ≡ 0 → Going text out′ (r .next) end
+  turn-on z = rw (er, eo, whole-line, e) (going-on text out s at g h (sym number ∙ z))
+
+  pub turn-off : (r .number ≡ 0 → ⊥) → Ended text out′ (record { number = r .number; state = s })
+  turn-off z =
+      record {
+        yes = λ t. absurd (z t);
+        no = λ t. stopped text out s at g h (λ u. z (number ∙ u)) ∙ ap (λ (n : ℕ). refused n (s .line)) (sym number)
+      }
+
+pub all-taken : (text out : List ℕ) (s : State) (at : ℕ) → Going text out s at → length text ≤ at → Ended text out (record { number = 0; state = s })
+all-taken text out s at g h =
+    let e : at ≡ length text = omega (arith, g .place) in
+    record { yes = λ t. subst (λ (n : ℕ). Going text out s n) e g; no = λ t. absurd (t refl) }

@@ -8,3 +8,4 @@ pub mod Rounding
 pub mod Refusals
 pub mod Job
 pub mod Turns
+pub mod Walks

@@ -6,6 +6,7 @@ mod rounding;
 mod shot;
 mod text;
 mod turn;
+mod walk;
 
 // The number, 0 where the job is accepted; the line, 0 where no line is at fault; and the listing's length.
 pub struct JobAnswer {

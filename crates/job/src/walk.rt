@@ -1,0 +1,92 @@
+// A whole job: every line in turn, and the listing in a buffer that has room for any.
+use crate::JobAnswer;
+use crate::print::put_end;
+use crate::print::put_header;
+use crate::text::line_end;
+use crate::turn::Setting;
+use crate::turn::State;
+use crate::turn::take_line;
+use streams::Generator;
+ghost use mathlib.Core.Path.{_≡_};
+ghost use lib.ListN.{length};
+ghost use Rattle.job.specs.Job.{start, listingOf};
+ghost use Rattle.job.specs.Walks.{Going, Ended, Wrote};
+
+// The number of the first line that is refused and the state before it; or 0 and the state after the last line.
+pub struct Walked {
+    pub number: u32,
+    pub state: State,
+}
+
+// Before line 1, with a header of that length.
+fn first_state(used: usize) -> State
+    ensures { λ r. ⌜ r ≡ record { line = 1; used = used; setting = start } ⌝ }
+{
+    let seeded = Generator::seed(0, 0, 0, 0, 0, 0);
+    let generator = seeded.next;
+    let setting = Setting {
+        generator,
+        distance: 0,
+        bearing: 0,
+    };
+    State {
+        line: 1,
+        used,
+        setting,
+    }
+}
+
+fn walk(text: &[u8], out: &mut [u8], first: State) -> Walked
+    requires { ⌜ Going (now text) (now out) first 0 ⌝ }
+    ensures { λ r. ⌜ Ended (now (text .entry)) (now (out .exit)) r ⌝ }
+{
+    let mut s = first;
+    let mut at = 0;
+    while at < text.len() {
+        let end = line_end(text, at);
+        let t = take_line(&text[at..end], s, out);
+        let number = t.number;
+        if number != 0 {
+            return Walked { number, state: s };
+        }
+        s = t.next;
+        at = end;
+    }
+    Walked {
+        number: 0,
+        state: s,
+    }
+}
+
+// The listing, or the refusal of a line.
+pub fn write_listing(text: &[u8], out: &mut [u8]) -> JobAnswer
+    requires { ⌜ length (now out) ≡ 20480 ⌝ }
+    ensures { λ r. ⌜ Wrote (listingOf (now (text .entry))) r (now (out .exit)) ⌝ }
+{
+    let used = put_header(out);
+    let first = first_state(used);
+    let walked = walk(text, out, first);
+    let number = walked.number;
+    let s = walked.state;
+    let line = s.line;
+    if number != 0 {
+        return JobAnswer {
+            number,
+            line,
+            length: 0,
+        };
+    }
+    if line < 3 {
+        return JobAnswer {
+            number: 8,
+            line,
+            length: 0,
+        };
+    }
+    let length = put_end(out, s.used, line - 3);
+    JobAnswer {
+        number: 0,
+        line: 0,
+        length,
+    }
+}
