@@ -6,6 +6,7 @@ use mathlib.Core.Bool.{Bool, true, false, cond}
 use mathlib.Core.List.{List, [], _∷_, _++_, append-assoc}
 use lib.Dec.{ltb, eqb}
 use lib.ListN.{length, take, drop, length-append, drop-of-length-le}
+use lib.Seq.{length-take-le}
 use borrow.Author.Tests.{eq-eqb, ne-eqb, eqb-true, lt-ltb, le-ltb}
 use Rattle.job.specs.Forms.{Form, readLine}
 use Rattle.job.specs.Lines.{lines, firstLine}
@@ -17,6 +18,8 @@ use Rattle.job.specs.Walks.{Going, Ended, Wrote}
 use Rattle.job.specs.declared.turn.Setting.{Setting}
 use Rattle.job.specs.declared.turn.State.{State}
 use Rattle.job.specs.declared.turn.Turn.{Turn}
+use Rattle.job.specs.declared.walk.Walked.{Walked}
+use Rattle.job.proofs.Decimal.{decimal-length}
 use Rattle.job.proofs.Bounds.{Steps, steps}
 use Rattle.job.proofs.Split.{lines-from, end-within, part-line}
 use Rattle.job.proofs.Writing.{written-length, written-take, end-length}
@@ -119,3 +122,56 @@ pub all-taken : (text out : List ℕ) (s : State) (at : ℕ) → Going text out 
 all-taken text out s at g h =
     let e : at ≡ length text = omega (arith, g .place) in
     record { yes = λ t. subst (λ (n : ℕ). Going text out s n) e g; no = λ t. absurd (t refl) }
+
+-- the start: the header is in the buffer
+header-length : length header ≡ 16
+unfolding header
+header-length = refl
+
+pub going-start : (text out out′ : List ℕ) (s : State) (used : ℕ) → length out ≡ 20480 → out′ ≡ written out 0 header → used ≡ 16
+    → s ≡ record { line = 1; used = used; setting = start } → Going text out′ s 0
+unfolding start listingOf
+going-start text out out′ s used room e u f =
+    let r : 0 + length header ≤ length out = omega (arith, header-length) in
+    let k : used ≡ 0 + length header = omega (arith, u, header-length) in
+    let t : take used (written out 0 header) ≡ header = ap (λ (n : ℕ). take n (written out 0 header)) k ∙ written-take out 0 header r in
+    rw (e, f)
+    (record {
+      place = omega arith;
+      room = written-length out 0 header r ∙ room;
+      line = omega arith;
+      distance = omega arith;
+      bearing = omega arith;
+      used = omega (arith, u);
+      so-far = ap (λ (l : List ℕ). onto l (outcome 1 start (lines text))) (sym t)
+    })
+
+module _ (text out : List ℕ) (s : State) (g : Going text out s (length text)) where
+  pub end-room : s .used + length (endRow (s .line - 3)) ≤ length out
+  end-room =
+      let d = decimal-length 2 (s .line - 3) (omega (arith, g .line)) in
+      omega (arith, end-length (s .line - 3), g .used, g .line, g .room)
+
+  pub wrote-missing : s .line < 3 → Wrote (listingOf text) (record { number = 8; line = s .line; length = 0 }) out
+  wrote-missing h = rw (missing text out s (length text) g (omega arith) h) (refl, omega arith)
+
+  pub wrote-listed : (out′ : List ℕ) (n : ℕ) → 3 ≤ s .line → n ≡ s .used + length (endRow (s .line - 3)) → out′ ≡ written out (s .used) (endRow (s .line - 3))
+      → Wrote (listingOf text) (record { number = 0; line = 0; length = n }) out′
+  wrote-listed out′ n h e f =
+      let w = written-take out (s .used) (endRow (s .line - 3)) end-room in
+      let t : length (take (s .used) out) ≡ s .used = length-take-le (s .used) out (omega (arith, end-room)) in
+      let k : n ≡ length (take (s .used) out ++ endRow (s .line - 3)) = omega (arith, e, t, length-append (take (s .used) out) (endRow (s .line - 3))) in
+      rw (complete text out s (length text) g (omega arith) h)
+      (
+        ap (λ (m : ℕ). record { number = 0; line = 0; length = m }) k,
+        rw (← k, e, f) w,
+        rw (← k, e, f, written-length out (s .used) (endRow (s .line - 3)) end-room) end-room,
+      )
+
+pub wrote-refused : (text out : List ℕ) (r : Walked) → Ended text out r → (r .number ≡ 0 → ⊥)
+    → Wrote (listingOf text) (record { number = r .number; line = r .state .line; length = 0 }) out
+wrote-refused text out r e h = rw (e .no h) (refl, positive (r .number) h)
+  where
+    positive : (n : ℕ) → (n ≡ 0 → ⊥) → 0 < n
+    positive zero h = absurd (h refl)
+    positive (suc n) h = omega arith
