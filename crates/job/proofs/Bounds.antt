@@ -39,7 +39,7 @@ pair-small g = go (accepted g)
           number = 0;
           first = samplesOf (uniformsOf g .k) (uniformsOf g .v) .first;
           second = samplesOf (uniformsOf g .k) (uniformsOf g .v) .second;
-          next = uniformsOf g .next
+          next = uniformsOf g .next;
         })
         (record { number = 1; first = pos 0; second = pos 0; next = g }))
     go true = let s = theorems .sizes (uniformsOf g .k) (uniformsOf g .v) in (omega (arith, s .0), omega (arith, s .1))
@@ -113,6 +113,6 @@ steps k l s sd sb h = go (readLine l) refl (accepted-line k (readLine l) h)
           bearing = sb;
           row =
               row-bound from to _ _ (n .0) (n .1) (distance-bound (s .distance) d (pairOf (s .generator) .first) sd (ltb-false 1000000 d (r .0)) (p .0))
-              (bearing-bound (s .bearing) b (pairOf (s .generator) .second))
+              (bearing-bound (s .bearing) b (pairOf (s .generator) .second));
         }
     go noForm e a = absurd (true≢false (a .formed))

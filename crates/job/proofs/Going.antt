@@ -70,7 +70,7 @@ module _ (text out : List ℕ) (s : State) (at : ℕ) (g : Going text out s at) 
           so-far =
               g .so-far
               ∙ rw (lines-from text at h, outcome-yes (s .line) (s .setting) l (lines (drop next text)) e, onto-onto)
-              (rw (written-take out (s .used) (printed (readLine l) (s .setting)) r))
+              (rw (written-take out (s .used) (printed (readLine l) (s .setting)) r));
         })
 
     pub stopped : (refusal (s .line) (readLine l) ≡ 0 → ⊥) → listingOf text ≡ refused (refusal (s .line) (readLine l)) (s .line)
@@ -115,7 +115,7 @@ module _ (text out : List ℕ) (s : State) (at end : ℕ) (r : Turn) (out′ : L
   turn-off z =
       record {
         yes = λ t. absurd (z t);
-        no = λ t. stopped text out s at g h (λ u. z (number ∙ u)) ∙ ap (λ (n : ℕ). refused n (s .line)) (sym number)
+        no = λ t. stopped text out s at g h (λ u. z (number ∙ u)) ∙ ap (λ (n : ℕ). refused n (s .line)) (sym number);
       }
 
 pub all-taken : (text out : List ℕ) (s : State) (at : ℕ) → Going text out s at → length text ≤ at → Ended text out (record { number = 0; state = s })
@@ -143,7 +143,7 @@ going-start text out out′ s used room e u f =
       distance = omega arith;
       bearing = omega arith;
       used = omega (arith, u);
-      so-far = ap (λ (l : List ℕ). onto l (outcome 1 start (lines text))) (sym t)
+      so-far = ap (λ (l : List ℕ). onto l (outcome 1 start (lines text))) (sym t);
     })
 
 module _ (text out : List ℕ) (s : State) (g : Going text out s (length text)) where
@@ -161,8 +161,7 @@ module _ (text out : List ℕ) (s : State) (g : Going text out s (length text)) 
       let w = written-take out (s .used) (endRow (s .line - 3)) end-room in
       let t : length (take (s .used) out) ≡ s .used = length-take-le (s .used) out (omega (arith, end-room)) in
       let k : n ≡ length (take (s .used) out ++ endRow (s .line - 3)) = omega (arith, e, t, length-append (take (s .used) out) (endRow (s .line - 3))) in
-      rw (complete text out s (length text) g (omega arith) h)
-      (
+      rw (complete text out s (length text) g (omega arith) h) (
         ap (λ (m : ℕ). record { number = 0; line = 0; length = m }) k,
         rw (← k, e, f) w,
         rw (← k, e, f, written-length out (s .used) (endRow (s .line - 3)) end-room) end-room,

@@ -11,3 +11,4 @@ pub mod Split
 pub mod Taken
 pub mod Bounds
 pub mod Going
+pub mod Answered

@@ -8,9 +8,44 @@ mod text;
 mod turn;
 mod walk;
 
+use crate::print::put;
+use crate::walk::write_listing;
+ghost use mathlib.Core.Path.{_≡_};
+ghost use lib.ListN.{length};
+ghost use Rattle.job.specs.Job.{jobOf, answerOf, bufferAfter};
+
 // The number, 0 where the job is accepted; the line, 0 where no line is at fault; and the listing's length.
 pub struct JobAnswer {
     pub number: u32,
     pub line: u32,
     pub length: usize,
+}
+
+// Lists a job. The listing is written to a local buffer, which has room for any, and measured there before a byte goes to the buffer lent.
+pub fn list(text: &[u8], out: &mut [u8]) -> JobAnswer
+    ensures { λ r. ⌜ r ≡ answerOf (jobOf (now (text .entry))) (length (now (out .entry))) ⌝ }
+    ensures { λ _. ⌜ now (out .exit) ≡ bufferAfter (jobOf (now (text .entry))) (now (out .entry)) ⌝ }
+{
+    if 60000 < text.len() {
+        return JobAnswer {
+            number: 5,
+            line: 0,
+            length: 0,
+        };
+    }
+    let mut listing = [0u8; 20480];
+    let answer = write_listing(text, &mut listing);
+    if answer.number != 0 {
+        return answer;
+    }
+    let n = answer.length;
+    if out.len() < n {
+        return JobAnswer {
+            number: 10,
+            line: 0,
+            length: 0,
+        };
+    }
+    put(out, 0, &listing[0..n]);
+    answer
 }

@@ -13,7 +13,7 @@ pub struct Digits {
     pub bytes: [u8; 10],
 }
 
-fn put(out: &mut [u8], at: usize, bytes: &[u8]) -> usize
+pub fn put(out: &mut [u8], at: usize, bytes: &[u8]) -> usize
     requires { ⌜ at + length (now bytes) ≤ length (now out) ⌝ }
     ensures { λ r. ⌜ (r ≡ at + length (now (bytes .entry))) × (now (out .exit) ≡ written (now (out .entry)) at (now (bytes .entry))) ⌝ }
 {

@@ -31,7 +31,7 @@ same-length c = search needs
 -- src/turn.rt:121:1
 returns : tie.Need-returns
 unfolding turned printed settingAfter
-returns c = 
+returns c =
     let e = c .before .before .before .before .before .before .before .pair .ensures in
     let r = c .before .before .before .before .before .before .before .pair .result in
     let told = c .before .before .before .before .before .before .struct-told .given in

@@ -22,14 +22,14 @@ returns-2 c = let at = c .before .before .before .before .before .before in rw (
 -- src/turn.rt:162:9
 returns-3 : tie.Need-returns-3
 unfolding turnOf bufferOf turned
-returns-3 c = 
+returns-3 c =
     let at = c .before .before .before .before .before .before .before .before in
     rw (shot-7 (at .args .s .line) (at .args .x .distance) (at .args .x .bearing) _ _ (c .before .before .before .before .if1 .left) (c .before .before .if2 .left) (rw (lt-ltb 1000000 (at .args .x .distance) (c .if3 .taken)))) (refl, refl)
 
 -- src/turn.rt:165:9
 returns-4 : tie.Need-returns-4
 unfolding turnOf bufferOf turned
-returns-4 c = 
+returns-4 c =
     let at = c .before .before .before .before .before .before .before .before .before .before in
     let d = le-ltb 1000000 (at .args .x .distance) (c .before .before .if3 .left) in
     rw (shot-7 (at .args .s .line) (at .args .x .distance) (at .args .x .bearing) _ _ (c .before .before .before .before .before .before .if1 .left) (c .before .before .before .before .if2 .left) (rw (d, lt-ltb 65535 (at .args .x .bearing) (c .if4 .taken)))) (refl, refl)
@@ -45,7 +45,7 @@ same-length c = search needs
 -- src/turn.rt:151:1
 returns-5 : tie.Need-returns-5
 unfolding turnOf bufferOf
-returns-5 c = 
+returns-5 c =
     let at = c .before .before .before .before .before .before .before .before .before .before .before .before .before .before in
     rw (shot-0 (at .args .s .line) (at .args .x .distance) (at .args .x .bearing) _ _ (c .before .before .before .before .before .before .before .before .before .before .if1 .left) (c .before .before .before .before .before .before .before .before .if2 .left) (c .before .before .before .before .before .before .if3 .left) (c .before .before .before .before .if4 .left)) (c .before .before .listed-shot .ensures)
 

@@ -40,7 +40,7 @@ enum-known-said-3 c = search needs
 
 -- src/turn.rt:181:26
 on-shot-requires : tie.Need-on-shot-requires
-on-shot-requires c κs = 
+on-shot-requires c κs =
     let at = c .before .before .before .before .before .before .before in
     let e = sym (c .before .before .before .before .read-line .ensures) ∙ ap (said (at .args .line .now)) (c .before .before .said3 .given .1) in
     let n = names-short _ _ _ _ _ e in
@@ -49,7 +49,7 @@ on-shot-requires c κs =
       to = n .1;
       sigma-distance = at .pre .sigma-distance;
       sigma-bearing = at .pre .sigma-bearing;
-      space = at .pre .space
+      space = at .pre .space;
     }
 
 -- src/turn.rt:182:25
@@ -59,7 +59,7 @@ enum-told c = search needs
 -- src/turn.rt:173:1
 returns : tie.Need-returns
 unfolding turnOf printed settingAfter
-returns c = 
+returns c =
     let at = c .before .before .before .before .before .before .before in
     let e = sym (c .before .before .before .before .read-line .ensures) ∙ ap (said (at .args .line .now)) (c .before .before .said .given .1) in
     rw e (c .on-seeds .ensures, buffer-same (at .args .s) _ (at .args .out .now) refl)
@@ -67,7 +67,7 @@ returns c =
 -- src/turn.rt:173:1
 returns-2 : tie.Need-returns-2
 unfolding turnOf printed settingAfter
-returns-2 c = 
+returns-2 c =
     let at = c .before .before .before .before .before .before .before in
     let e = sym (c .before .before .before .before .read-line .ensures) ∙ ap (said (at .args .line .now)) (c .before .before .said2 .given .1) in
     rw e (c .on-sigma .ensures, buffer-same (at .args .s) _ (at .args .out .now) refl)
@@ -78,7 +78,7 @@ same-length c = search needs
 
 -- src/turn.rt:173:1
 returns-3 : tie.Need-returns-3
-returns-3 c = 
+returns-3 c =
     let at = c .before .before .before .before .before .before .before .before .before .before in
     let e = sym (c .before .before .before .before .before .before .before .read-line .ensures) ∙ ap (said (at .args .line .now)) (c .before .before .before .before .before .said3 .given .1) in
     rw e (c .before .before .on-shot .ensures)
@@ -86,7 +86,7 @@ returns-3 c =
 -- src/turn.rt:173:1
 returns-4 : tie.Need-returns-4
 unfolding turnOf printed settingAfter bufferOf turned
-returns-4 c = 
+returns-4 c =
     let at = c .before .before .before .before .before in
     let e = sym (c .before .before .read-line .ensures) ∙ ap (said (at .args .line .now)) (c .enum-told .given .1) in
     rw (e, none-6 (at .args .s .line)) (refl, refl)

@@ -49,7 +49,7 @@ same-length c = c .before .before .before .take-line .kept .1 .1 .0 ∙ c .befor
 
 -- src/walk.rt:50:13
 returns : tie.Need-returns Inv-loop μ-loop
-returns c = 
+returns c =
     let at = c .before .before .before .before .before .before .before .before in
     let go = turn-off _ (at .loop .out) (at .loop .s) (at .loop .at) (c .before .before .before .before .before .before .line-end .result) (c .before .before .before .take-line .result) (c .before .before .before .take-line .last .1 .1 .0) (at .loop .inv) (c .before .before .before .before .before .before .before .loop-test .taken) (c .before .before .before .before .before .before .line-end .ensures) (c .before .before .before .take-line .ensures .0) (c .before .before .before .take-line .ensures .1) in
     go (c .if1 .taken)
@@ -60,7 +60,7 @@ loop-less c = omega (arith, c .before .before .before .before .before .before .b
 
 -- src/walk.rt:45:5
 loop-again : tie.Need-loop-again Inv-loop μ-loop
-loop-again c = 
+loop-again c =
     let at = c .before .before .before .before .before .before .before .before .before in
     let go = turn-on _ (at .loop .out) (at .loop .s) (at .loop .at) (c .before .before .before .before .before .before .before .line-end .result) (c .before .before .before .before .take-line .result) (c .before .before .before .before .take-line .last .1 .1 .0) (at .loop .inv) (c .before .before .before .before .before .before .before .before .loop-test .taken) (c .before .before .before .before .before .before .before .line-end .ensures) (c .before .before .before .before .take-line .ensures .0) (c .before .before .before .before .take-line .ensures .1) in
     go (c .before .if1 .left)

@@ -39,7 +39,7 @@ returns-2 c = wrote-missing _ _ _ (c .before .before .before .before .before .wa
 
 -- src/walk.rt:86:9
 put-end-requires : tie.Need-put-end-requires
-put-end-requires c κs = 
+put-end-requires c κs =
     let g = c .before .before .before .before .before .before .walk .ensures .yes (c .before .before .if1 .left) in
     end-room _ _ _ g
 
@@ -49,7 +49,7 @@ same-length-3 c = search needs
 
 -- src/walk.rt:62:1
 returns-3 : tie.Need-returns-3
-returns-3 c = 
+returns-3 c =
     let g = c .before .before .before .before .before .before .before .before .before .walk .ensures .yes (c .before .before .before .before .before .if1 .left) in
     wrote-listed _ _ _ g _ _ (c .before .before .before .before .if2 .left) (c .before .before .put-end .ensures .0) (c .before .before .put-end .ensures .1)
 
