@@ -2,11 +2,11 @@
 ghost use mathlib.Core.Path.{_≡_};
 ghost use Prim.Native.Nat.{_+_, _-_, _*_, _/_, _^_, _≤_, _<_, min};
 ghost use Rattle.tables.specs.Tables.{entryOf};
-ghost use Rattle.sample.specs.Steps.{pick, numerator, topBit, mantissa, coarse, fine, correction, logarithm, wholeRoot, radius, sine, cosine, rounded};
-ghost use Rattle.sample.specs.Parts.{Rotations, Loaded, withSign, valueOf};
+ghost use Rattle.sample.specs.Steps.{pick, numerator, topBit, mantissa, coarse, fine, correction, logarithm};
+ghost use Rattle.sample.specs.Steps.{wholeRoot, radius, rounded};
+ghost use Rattle.sample.specs.Parts.{Rotations, Loaded, AngleIn, TurnedBy, withSign};
 ghost use Rattle.sample.specs.Sample.{firstAt, secondAt, samplesOf, nineSixteenths, filled};
-ghost use Rattle.exact.specs.Pair.{turn, Close};
-ghost use lib.IntN.{pos, negℤ};
+ghost use Rattle.exact.specs.Pair.{Close};
 
 pub struct Samples {
     pub number: u32,
@@ -145,7 +145,7 @@ struct Angle {
 
 fn angle_of(cc: &[u64], sc: &[u64], cf: &[u64], sf: &[u64], w: u64) -> Angle
     requires { ⌜ Rotations (now cc) (now sc) (now cf) (now sf) ⌝ }
-    ensures { λ r. ⌜ (r .sine ≡ sine (entryOf (now (cc .entry)) 0) (entryOf (now (sc .entry)) 0) (entryOf (now (cf .entry)) 0) (entryOf (now (sf .entry)) 0) w) × (r .cosine ≡ cosine (entryOf (now (cc .entry)) 0) (entryOf (now (sc .entry)) 0) (entryOf (now (cf .entry)) 0) (entryOf (now (sf .entry)) 0) w) ⌝ }
+    ensures { λ r. ⌜ AngleIn (now (cc .entry)) (now (sc .entry)) (now (cf .entry)) (now (sf .entry)) w (r .sine) (r .cosine) ⌝ }
 {
     let a = (w / 128) as usize;
     let b = (w % 128) as usize;
@@ -181,7 +181,7 @@ fn chosen(test: bool, a: u64, b: u64) -> u64
 // jump here, since no processor can foresee q.
 fn turn(q: u64, sine: u64, cosine: u64) -> Turned
     requires { ⌜ (q < 4) × (sine ≤ 2 ^ 30) × (cosine ≤ 2 ^ 30) ⌝ }
-    ensures { λ r. ⌜ ((valueOf (r .sine), valueOf (r .cosine)) ≡ turn negℤ q (pos sine, pos cosine)) × (r .sine .size ≤ 2 ^ 30) × (r .cosine .size ≤ 2 ^ 30) ⌝ }
+    ensures { λ r. ⌜ TurnedBy q sine cosine r ⌝ }
 {
     let odd = q % 2 == 1;
     Turned {
@@ -211,11 +211,13 @@ struct Pair {
     second: i16,
 }
 
-// The number under the logarithm: k = 0 is read as 1.
+// The number under the logarithm: k = 0 is read as 1. The quotient is 1 for k = 0 alone. (Where the compiler can see that the number is not 0, it
+// takes the leading zeros by an instruction that waits for the pair before, and a pair takes nearly twice the time.)
 fn numerator(k: u64) -> u64
+    requires { ⌜ k < 2 ^ 48 ⌝ }
     ensures { λ r. ⌜ r ≡ numerator k ⌝ }
 {
-    if k == 0 { 1 } else { k }
+    k + (0x1_0000_0000_0000 - k) / 0x1_0000_0000_0000
 }
 
 // The two samples of z = 65536 k + v, from the lent tables A and B, K, C, D, c and s.
@@ -233,11 +235,11 @@ fn pair_of(
     ensures { λ r. ⌜ (r .first ≡ firstAt z) × (r .second ≡ secondAt z) ⌝ }
 {
     let v = z % 65536;
-    let f = radius(lc, lf, ln2, numerator(z / 65536));
     let angle = angle_of(cc, sc, cf, sf, v % 16384);
     let t = turn(v / 16384, angle.sine, angle.cosine);
     let sine = t.sine;
     let cosine = t.cosine;
+    let f = radius(lc, lf, ln2, numerator(z / 65536));
     Pair {
         first: rounded(f, sine.size, sine.negative),
         second: rounded(f, cosine.size, cosine.negative),

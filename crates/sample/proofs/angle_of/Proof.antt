@@ -58,7 +58,7 @@ sub-t18 c = cosine-bound c
 
 returns : tie.Need-returns
 unfolding sine cosine
-returns c = (cc, cc)
+returns c = record { sine-is = cc; cosine-is = cc }
 
 pub angle-of-spec : {M : Type 1} → statement M
 angle-of-spec =

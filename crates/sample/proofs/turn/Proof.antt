@@ -8,18 +8,19 @@ use lib.Dec.{eqb}
 use lib.IntN.{ℤ, pos, negℤ}
 use Rattle.exact.specs.Pair.{turn}
 use Rattle.sample.specs.Steps.{pick}
-use Rattle.sample.specs.Parts.{withSign}
+use Rattle.sample.specs.Parts.{TurnedBy}
 use Rattle.sample.proofs.turn.Statement.{statement}
 use Rattle.sample.proofs.turn.Tie as tie
 
--- the two numbers, by the tests on q, and their sizes
-quarters : (q s c : ℕ) → q < 4 → s ≤ 2 ^ 30 → c ≤ 2 ^ 30 →
-    ((withSign (eqb (q / 2) 1) (pick (eqb (q % 2) 1) c s), withSign (eqb ((q + 1) / 2) 1) (pick (eqb (q % 2) 1) s c)) ≡ turn negℤ q (pos s, pos c))
-    × (pick (eqb (q % 2) 1) c s ≤ 2 ^ 30) × (pick (eqb (q % 2) 1) s c ≤ 2 ^ 30)
-quarters zero s c h g k = (refl, g, k)
-quarters (suc zero) s c h g k = (refl, k, g)
-quarters (suc (suc zero)) s c h g k = (refl, g, k)
-quarters (suc (suc (suc zero))) s c h g k = (refl, k, g)
+-- the two numbers by the tests on q
+quarters : (q s c : ℕ) → q < 4 → s ≤ 2 ^ 30 → c ≤ 2 ^ 30 → TurnedBy q s c (record {
+  sine = record { size = pick (eqb (q % 2) 1) c s; negative = eqb (q / 2) 1 };
+  cosine = record { size = pick (eqb (q % 2) 1) s c; negative = eqb ((q + 1) / 2) 1 };
+})
+quarters zero s c h g k = record { pair-is = refl; first-small = g; second-small = k }
+quarters (suc zero) s c h g k = record { pair-is = refl; first-small = k; second-small = g }
+quarters (suc (suc zero)) s c h g k = record { pair-is = refl; first-small = g; second-small = k }
+quarters (suc (suc (suc zero))) s c h g k = record { pair-is = refl; first-small = k; second-small = g }
 quarters (suc (suc (suc (suc q)))) s c h g k = absurd (omega arith)
 
 chosen-requires : tie.Need-chosen-requires
