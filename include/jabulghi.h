@@ -42,6 +42,11 @@ uint32_t jabulghi_pair(uint32_t *registers, int16_t *samples);
  * Length 0 succeeds and moves nothing. */
 uint32_t jabulghi_block(uint32_t *registers, int16_t *block, size_t length);
 
+/* The listing of a job's text, its line and its length. Accepted, line is 0 and the first length bytes of listing are the listing;
+ * the bytes beyond it keep their contents. Refused (1, 5 to 10), length is 0, line is the bad line, or 0 for 5 and 10, and listing
+ * stays. A listing has at most 20,024 bytes. */
+uint32_t jabulghi_list(const uint8_t *text, size_t text_length, uint8_t *listing, size_t listing_length, uint32_t *line, size_t *length);
+
 #ifdef __cplusplus
 }
 #endif

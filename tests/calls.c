@@ -2,6 +2,7 @@
 #include "jabulghi.h"
 #include <inttypes.h>
 #include <stdio.h>
+#include <string.h>
 
 static void show_record(const uint32_t *r) {
     for (int j = 0; j < 6; j++) printf(" %" PRIu32, r[j]);
@@ -40,6 +41,35 @@ static void block(uint32_t *r, size_t length) {
     show_record(r);
 }
 
+static char text[60002];
+
+static void list(size_t length, size_t room) {
+    static uint8_t listing[20480];
+    memset(listing, '-', sizeof listing);
+    uint32_t line = 7;
+    size_t written = 7;
+    uint32_t number = jabulghi_list((const uint8_t *)text, length, listing, room, &line, &written);
+    printf("list %" PRIu32 ": line %" PRIu32 ", length %zu, listing '%.*s'\n", number, line, written, (int)written + 3, (char *)listing);
+}
+
+static void list_text(const char *lines, size_t room) {
+    strcpy(text, lines);
+    list(strlen(text), room);
+}
+
+static void list_shots(int shots) {
+    char *end = text + sprintf(text, "(seeds (a 2 8 16) (b 2 8 16))\n(sigma 0 0)\n");
+    for (int j = 0; j < shots; j++) end += sprintf(end, "(shot A B %d %d)\n", j, j);
+    uint32_t line = 7;
+    size_t written = 7;
+    static uint8_t listing[20480];
+    uint32_t number = jabulghi_list((const uint8_t *)text, (size_t)(end - text), listing, sizeof listing, &line, &written);
+    printf("%d shots %" PRIu32 ": line %" PRIu32 ", length %zu\n", shots, number, line, written);
+}
+
+#define SEEDS "(seeds (a 2 8 16) (b 2 8 16))\n"
+#define EXAMPLE SEEDS "(sigma 4 10)\n(shot A1 A2 12345 4500)\n(shot A2 A3 9000 65530)\n"
+
 int main(void) {
     uint32_t r[6] = {7, 7, 7, 7, 7, 7}, unfit[6] = {2, 8, 16, 2, 8, 15};
     seed(r, 1);
@@ -59,4 +89,17 @@ int main(void) {
     block(r, 4);
     block(r, 5);
     block(unfit, 5);
+    list_text(EXAMPLE, 20480);
+    list_text(EXAMPLE, 51);
+    list_text(SEEDS "(sigma 4 10)\n", 24);
+    list_text(SEEDS "(sigma 4 10)", 20480);
+    list_text(SEEDS "(sigma 4 1001)\n", 20480);
+    list_text(SEEDS SEEDS, 20480);
+    list_text(SEEDS, 20480);
+    list_text("(seeds (a 1 8 16) (b 2 8 16))\n(sigma 4 10)\n", 20480);
+    list_shots(500);
+    list_shots(501);
+    memset(text, '\n', 60001);
+    list(60000, 20480);
+    list(60001, 20480);
 }

@@ -5,10 +5,12 @@ mod fixed;
 mod inputs;
 mod job;
 mod library;
+mod listings;
 mod random;
 mod readings;
 mod sample;
 mod stream;
+mod texts;
 
 use cases::{same, Block, Draw, History, Pair, Sample, Seed};
 use random::Random;
@@ -22,7 +24,7 @@ fn main() {
     readings::check(&tables);
     println!("the other implementation gives document 01's readings and example; inputs from seed {seed}");
     type Group = fn(&Tables, &mut Random) -> String;
-    let groups: [Group; 5] = [draws, histories, samples, pairs, blocks];
+    let groups: [Group; 6] = [draws, histories, samples, pairs, blocks, listings::jobs];
     for (j, group) in groups.into_iter().enumerate() {
         let start = Instant::now();
         let said = group(&tables, &mut Random(seed ^ (j as u64) << 56));

@@ -7,6 +7,7 @@ ghost use Rattle.streams.specs.Streams.{seedOf, drawA, drawB};
 ghost use Rattle.sample.specs.Sample.{samplesOf, nineSixteenths};
 ghost use Rattle.exact.specs.Pair.{Close};
 ghost use Rattle.noise.specs.Noise.{pairOf, blockOf, blockHolds};
+ghost use Rattle.job.specs.Job.{jobOf, answerOf, bufferAfter};
 ghost use Rattle.abi.specs.Registers.{registersOf, generatorOf, samplesIn};
 use streams::Generator;
 use streams::Stream;
@@ -122,4 +123,23 @@ pub extern "C" fn jabulghi_block(registers: &mut [u32; 6], block: &mut [i16]) ->
     let next = filled.next;
     *registers = packed(next);
     filled.number
+}
+
+// The listing of a job, and the line and the listing's length besides.
+#[no_mangle]
+pub extern "C" fn jabulghi_list(
+    text: &[u8],
+    listing: &mut [u8],
+    line: &mut u32,
+    written: &mut usize,
+) -> u32
+    ensures { λ r. ⌜ r ≡ answerOf (jobOf (now (text .entry))) (length (now (listing .entry))) .number ⌝ }
+    ensures { λ _. ⌜ now (line .exit) ≡ answerOf (jobOf (now (text .entry))) (length (now (listing .entry))) .line ⌝ }
+    ensures { λ _. ⌜ now (written .exit) ≡ answerOf (jobOf (now (text .entry))) (length (now (listing .entry))) .length ⌝ }
+    ensures { λ _. ⌜ now (listing .exit) ≡ bufferAfter (jobOf (now (text .entry))) (now (listing .entry)) ⌝ }
+{
+    let answer = job::list(text, listing);
+    *line = answer.line;
+    *written = answer.length;
+    answer.number
 }

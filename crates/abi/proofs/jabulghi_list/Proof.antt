@@ -1,0 +1,17 @@
+-- `abi::jabulghi_list` meets its contract: number, line, length and listing are those of the call below it.
+-- Assumes nothing.
+use borrow.Author.Needs.{needs}
+use Rattle.abi.proofs.jabulghi_list.Statement.{statement}
+use Rattle.abi.proofs.jabulghi_list.Tie as tie
+
+list-requires : tie.Need-list-requires
+list-requires c κs = search needs
+
+same-length : tie.Need-same-length
+same-length c = search needs
+
+returns : tie.Need-returns
+returns c = (cc, (cc, (cc, cc)))
+
+pub jabulghi-list-spec : {M : Type 1} → statement M
+jabulghi-list-spec = tie.close (tie.spec list-requires same-length returns)
