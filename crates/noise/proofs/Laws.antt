@@ -55,8 +55,7 @@ after-add (suc m) n g = rw (suc-add m n) (after-add m n (pairOf g .next))
 pub samples-add : (m n : ℕ) (g : Generator) → samples (m + n) g ≡ samples m g ++ samples n (after m g)
 unfolding after samples
 samples-add zero n g = rw (zero-add n)
-samples-add (suc m) n g =
-    rw (suc-add m n) (ap (λ (l : List ℤ). pairOf g .first ∷ pairOf g .second ∷ l) (samples-add m n (pairOf g .next)))
+samples-add (suc m) n g = rw (suc-add m n, samples-add m n (pairOf g .next))
 
 pub length-samples : (n : ℕ) (g : Generator) → length (samples n g) ≡ 2 * n
 unfolding samples
@@ -73,10 +72,7 @@ after-sound (suc n) g h = after-sound n (pairOf g .next) (next-sound g h)
 pub numbers-add : (m n : ℕ) (g : Generator) → numbers (m + n) g ≡ numbers m g ++ numbers n (after m g)
 unfolding after numbers
 numbers-add zero n g = rw (zero-add n)
-numbers-add (suc m) n g =
-    rw (suc-add m n)
-    (ap (λ (l : List ℕ). (uniformsOf g .k * 65536 + uniformsOf g .v) ∷ l)
-    (numbers-add m n (uniformsOf g .next) ∙ rw (pair-next g)))
+numbers-add (suc m) n g = rw (suc-add m n, numbers-add m n (uniformsOf g .next), pair-next g)
 
 pub length-numbers : (n : ℕ) (g : Generator) → length (numbers n g) ≡ n
 unfolding numbers
