@@ -69,12 +69,14 @@ block-only-for-length l g n h = block-refused (runAll l g) n ∙ rw (sound-accep
 -- ---- Blocks
 
 -- A block of even length on an accepted record holds the samples of half as many pairs, whatever it held before,
-pub block-holds : (g : Generator) (old : List ℤ) → accepted g ≡ true → length old % 2 ≡ 0 → blockHolds g old ≡ samples (length old / 2) g
+pub block-holds : (g : Generator) (old : List ℤ) → accepted g ≡ true → length old % 2 ≡ 0
+    → blockHolds g old ≡ samples (length old / 2) g
 unfolding blockHolds
 block-holds g old h e = rw (blockHolds, h, eq-eqb _ _ e)
 
 -- and returns the record as many pairs on.
-pub block-next : (g : Generator) (n : ℕ) → accepted g ≡ true → n % 2 ≡ 0 → blockOf g n ≡ record { number = 0; next = after (n / 2) g }
+pub block-next : (g : Generator) (n : ℕ) → accepted g ≡ true → n % 2 ≡ 0
+    → blockOf g n ≡ record { number = 0; next = after (n / 2) g }
 unfolding blockOf
 block-next g n h e = rw (blockOf, h, eq-eqb _ _ e)
 
@@ -158,7 +160,8 @@ pub pair-numbers : (n : ℕ) (g : Generator) → Sound g
     → (uniformsOf (after n g) .k ≡ drawAt (g .a) (suc n) * 65536 + drawAt (g .b) (suc n) / 65536)
     × (uniformsOf (after n g) .v ≡ drawAt (g .b) (suc n) % 65536)
 pair-numbers n g h =
-    rw (after-moved n g h, uniforms-accepted (moved n n g) (moved-sound n n g h), next-draw n (g .a), next-draw n (g .b)) (refl, refl)
+    let drawn = uniforms-accepted (moved n n g) (moved-sound n n g h) in
+    rw (after-moved n g h, drawn, next-draw n (g .a), next-draw n (g .b)) (refl, refl)
 
 -- ---- The twelve readings of document 01: (k, v) to samples, and the first two draws of the registers 2, 8, 16
 pub twelve-readings : (map (λ (r : Reading). samplesOf (r .k) (r .v)) readings

@@ -30,7 +30,7 @@ unfoldable pub samples : ℕ → Generator → List ℤ
 samples zero g = []
 samples (suc n) g = pairOf g .first ∷ pairOf g .second ∷ samples n (pairOf g .next)
 
--- A block of a given length: refused 1 for its record, then 4 for an odd length; else the record as many pairs on as it has room for.
+-- A block of n elements: refused 1 for its record, then 4 for an odd length; else the record n / 2 pairs on.
 unfoldable pub blockOf : Generator → ℕ → BlockAnswer
 blockOf g n =
     pick (accepted g)

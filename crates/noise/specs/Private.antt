@@ -1,10 +1,17 @@
--- What the private functions leave in lent memory. Assumes nothing.
+-- What the private functions return and leave in lent memory. Assumes nothing.
 use mathlib.Core.List.{List, [], _∷_}
+use mathlib.Core.Path.{_≡_}
 use Prim.Native.Nat.{ℕ, zero, suc, _+_, _*_}
+use lib.IntN.{ℤ}
 use Rattle.streams.specs.declared.Generator.{Generator}
 use Rattle.streams.specs.Streams.{uniformsOf}
+use Rattle.noise.specs.Noise.{after, samples}
 
 -- The numbers 65536 k + v of n pairs.
 unfoldable pub numbers : ℕ → Generator → List ℕ
 numbers zero g = []
 numbers (suc n) g = (uniformsOf g .k * 65536 + uniformsOf g .v) ∷ numbers n (uniformsOf g .next)
+
+-- n pairs are drawn: the record returned is n pairs on, and the memory holds their samples.
+abbrev pub PairsDrawn : ℕ → Generator → Generator → List ℤ → Type 0
+PairsDrawn n g next out = (next ≡ after n g) × (out ≡ samples n g)

@@ -3,11 +3,9 @@ ghost use mathlib.Core.Path.{_≡_};
 ghost use mathlib.Core.Bool.{true};
 ghost use Prim.Native.Nat.{_+_, _*_, _/_, _%_, _≤_, min};
 ghost use lib.ListN.{length};
-ghost use Rattle.streams.specs.Streams.{accepted, uniformsOf};
-ghost use Rattle.sample.specs.Sample.{nineSixteenths};
-ghost use Rattle.exact.specs.Pair.{Close};
-ghost use Rattle.noise.specs.Noise.{pairOf, after, samples, blockOf, blockHolds};
-ghost use Rattle.noise.specs.Private.{numbers};
+ghost use Rattle.streams.specs.Streams.{accepted};
+ghost use Rattle.noise.specs.Noise.{pairOf, after, blockOf, blockHolds};
+ghost use Rattle.noise.specs.Private.{numbers, PairsDrawn};
 use streams::Generator;
 
 pub struct PairAnswer {
@@ -64,7 +62,7 @@ fn draw_numbers(g: Generator, z: &mut [u64]) -> Generator
 // The samples of as many pairs as z has elements, by way of their numbers in z.
 fn draw_samples(g: Generator, z: &mut [u64], out: &mut [i16]) -> Generator
     requires { ⌜ (accepted g ≡ true) × (length (now out) ≡ 2 * length (now z)) ⌝ }
-    ensures { λ r. ⌜ (r ≡ after (length (now (z .entry))) g) × (now (out .exit) ≡ samples (length (now (z .entry))) g) ⌝ }
+    ensures { λ r. ⌜ PairsDrawn (length (now (z .entry))) g r (now (out .exit)) ⌝ }
 {
     let next = draw_numbers(g, z);
     sample::fill(z, out);
@@ -74,7 +72,7 @@ fn draw_samples(g: Generator, z: &mut [u64], out: &mut [i16]) -> Generator
 // A stretch of at most 1024 samples: the tables are loaded once for all of them.
 fn stretch(g: Generator, out: &mut [i16]) -> Generator
     requires { ⌜ (accepted g ≡ true) × (length (now out) % 2 ≡ 0) × (length (now out) ≤ 1024) ⌝ }
-    ensures { λ r. ⌜ (r ≡ after (length (now (out .entry)) / 2) g) × (now (out .exit) ≡ samples (length (now (out .entry)) / 2) g) ⌝ }
+    ensures { λ r. ⌜ PairsDrawn (length (now (out .entry)) / 2) g r (now (out .exit)) ⌝ }
 {
     let mut z = [0u64; 512];
     let count = out.len() / 2;
@@ -92,7 +90,7 @@ fn stretch_end(at: usize, n: usize) -> usize
 // A block of even length on an accepted record, stretch by stretch.
 fn stretches(g: Generator, out: &mut [i16]) -> Generator
     requires { ⌜ (accepted g ≡ true) × (length (now out) % 2 ≡ 0) ⌝ }
-    ensures { λ r. ⌜ (r ≡ after (length (now (out .entry)) / 2) g) × (now (out .exit) ≡ samples (length (now (out .entry)) / 2) g) ⌝ }
+    ensures { λ r. ⌜ PairsDrawn (length (now (out .entry)) / 2) g r (now (out .exit)) ⌝ }
 {
     let mut state = g;
     let mut at = 0;

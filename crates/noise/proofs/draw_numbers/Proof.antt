@@ -39,10 +39,12 @@ bounded : (c : tie.After-uniforms Inv-loop μ-loop) → (c .uniforms .result .k 
 bounded c =
     let inv = c .before .before .loop .inv in
     let start = c .before .before .before .before in
-    rw (c .uniforms .ensures, inv .at) (numbers-bounded _ (after-sound (c .before .before .loop .i) (start .args .g) (start-sound start)))
+    let reached = after-sound (c .before .before .loop .i) (start .args .g) (start-sound start) in
+    rw (c .uniforms .ensures, inv .at) (numbers-bounded _ reached)
 
 -- one pair more
-again : {z₀ z : List ℕ} {g state : Generator} {i : ℕ} {d : Uniforms} → Reached z₀ g z state i → d ≡ uniformsOf state → i < length z
+again : {z₀ z : List ℕ} {g state : Generator} {i : ℕ} {d : Uniforms} → Reached z₀ g z state i
+    → d ≡ uniformsOf state → i < length z
     → Reached z₀ g (set z i (d .k * 65536 + d .v)) (d .next) (i + 1)
 unfolding after numbers
 again {z₀} {z} {g} {state} {i} {d} r e h =
@@ -96,7 +98,8 @@ returns : tie.Need-returns Inv-loop μ-loop
 returns c =
     let inv = c .before .loop .inv in
     let z = c .before .loop .z in
-    let whole : c .before .loop .i ≡ length (c .before .before .before .args .z .now) = omega (arith, inv .within, inv .kept, c .loop-test .left) in
+    let whole : c .before .loop .i ≡ length (c .before .before .before .args .z .now)
+    = omega (arith, inv .within, inv .kept, c .loop-test .left) in
     let all : take (c .before .loop .i) z ≡ z = take-all (c .before .loop .i) z (c .loop-test .left) in
     (inv .at ∙ rw whole, sym all ∙ inv .done ∙ rw whole)
 

@@ -42,7 +42,9 @@ returns : tie.Need-returns
 returns c =
     let start = c .before .before .before .before .before .before .before .before .before in
     let drawn = c .before .before .before .before .before .before .draw-numbers .ensures in
-    (drawn .0, whole (start .args .out .now) (length (start .args .z .now)) (start .args .g) (start-sound start) (drawn .1) (start .pre .1) (c .before .fill .ensures))
+    let n = length (start .args .z .now) in
+    let filled-by = c .before .fill .ensures in
+    (drawn .0, whole (start .args .out .now) n (start .args .g) (start-sound start) (drawn .1) (start .pre .1) filled-by)
 
 pub draw-samples-spec : {M : Type 1} → statement M
 draw-samples-spec =

@@ -21,7 +21,8 @@ returns c =
     let told = c .struct-told .given in
     let first = toZ-ofZ {w = w16} {z = c .before .before .sample .result .first} (record { sfits = told .1 .0 .1 }) in
     let second = toZ-ofZ {w = w16} {z = c .before .before .sample .result .second} (record { sfits = told .1 .1 .0 .1 }) in
-    rw (first, second, ← c .before .before .before .before .before .is-accepted .ensures, c .before .before .before .before .if1 .taken) (cc)
+    let test = c .before .before .before .before .before .is-accepted .ensures in
+    rw (first, second, ← test, c .before .before .before .before .if1 .taken) (cc)
 
 returns-2 : tie.Need-returns-2
 unfolding pairOf

@@ -101,7 +101,8 @@ stretch-requires c κs =
     let more = c .before .before .loop-test .taken in
     let end-is = c .before .stretch-end .ensures in
     let even₀ = start .pre .1 in
-    let size = part-size at (c .before .stretch-end .result) (c .before .before .before .loop .out) (omega (arith, inv .kept, end-is)) in (
+    let out = c .before .before .before .loop .out in
+    let size = part-size at (c .before .stretch-end .result) out (omega (arith, inv .kept, end-is)) in (
       rw (inv .now-at) (sound-accepted _ (after-sound (at / 2) (start .args .g) (start-sound start))),
       rw size (omega (arith, inv .even, end-is, even₀, more)),
       rw size (omega (arith, end-is)),

@@ -33,7 +33,9 @@ add-k c = search needs
 
 returns : tie.Need-returns
 unfolding uniformsOf
-returns c = rw (← c .before .before .before .before .before .is-accepted .ensures, c .before .before .before .before .if1 .taken) (cc)
+returns c =
+    let test = c .before .before .before .before .before .is-accepted .ensures in
+    rw (← test, c .before .before .before .before .if1 .taken) (cc)
 
 returns-2 : tie.Need-returns-2
 unfolding uniformsOf
