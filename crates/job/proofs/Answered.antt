@@ -6,7 +6,8 @@ use mathlib.Core.Path.{_≡_, refl, sym, ap, _∙_}
 use mathlib.Core.Bool.{Bool, true, false, cond}
 use mathlib.Core.List.{List, [], _∷_, _++_}
 use lib.ListN.{length, take, drop}
-use borrow.Author.Tests.{lt-ltb, le-ltb, le-leb, lt-leb}
+use lib.Dec.{leb}
+use borrow.Author.Tests.{lt-ltb, le-ltb, le-leb, lt-leb, leb-true}
 use Rattle.job.specs.Listing.{written}
 use Rattle.job.specs.Job.{Outcome, refused, listed, listingOf, jobOf, answerOf, bufferAfter}
 use Rattle.job.specs.Walks.{Wrote}
@@ -52,3 +53,17 @@ module _ (r : JobAnswer) (buf out : List ℕ) where
       let t : take (r .length - 0) (drop 0 buf) ≡ bytes = ap (λ (m : ℕ). take m buf) n ∙ w .1 in
       rw (le-leb (length bytes) (length out) (omega (arith, ap size (w .0))))
       (w .0, e ∙ rw (t, zero-add (length bytes)))
+
+-- an answer's length is within the buffer
+pub answer-fits : (o : Outcome) (room : ℕ) → answerOf o room .length ≤ room
+unfolding answerOf
+answer-fits (refused n k) room = omega arith
+answer-fits (listed bytes) room = go (leb (length bytes) room) refl
+  where
+    go : (b : Bool) → leb (length bytes) room ≡ b
+        → cond {A = JobAnswer} b (record { number = 0; line = 0; length = length bytes }) (record { number = 10; line = 0; length = 0 }) .length ≤ room
+    go true e = leb-true (length bytes) room e
+    go false e = omega arith
+
+pub answer-within : (o : Outcome) (room : ℕ) (r : JobAnswer) → r ≡ answerOf o room → r .length ≤ room
+answer-within o room r e = omega (arith, ap size e, answer-fits o room)

@@ -124,7 +124,7 @@ all-taken text out s at g h =
     record { yes = λ t. subst (λ (n : ℕ). Going text out s n) e g; no = λ t. absurd (t refl) }
 
 -- the start: the header is in the buffer
-header-length : length header ≡ 16
+pub header-length : length header ≡ 16
 unfolding header
 header-length = refl
 

@@ -12,3 +12,5 @@ pub mod Taken
 pub mod Bounds
 pub mod Going
 pub mod Answered
+pub mod Jobs
+pub mod Theorems

@@ -12,23 +12,16 @@ use lib.ListN.{length, getD, drop, drop-of-length-le}
 use lib.Seq.{drop-cons}
 use borrow.Author.Tests.{ne-eqb, leb-true}
 use Rattle.job.specs.Numbers.{all, digit, letter, letterOrDigit, name, numeral, value, decimal}
-use Rattle.job.specs.Forms.{Form, seeds, sigma, shot, noForm, seedsForm, sigmaForm, shotForm, fill, marks, separator, cut, startsWith, field, isEmpty, seedsOf, sigmaOf, shotOf, orElse, readLine, printLine}
+use Rattle.job.specs.Forms.{Form, seeds, sigma, shot, noForm, seedsForm, sigmaForm, shotForm, fill, marks, separator, cut, startsWith, field, isEmpty, seedsOf, sigmaOf, shotOf, orElse, readLine, printLine, Printable}
 use Rattle.job.proofs.Decimal.{numeral-decimal, value-decimal, decimal-value, decimal-digits, numeral-is, digit-range}
 use Rattle.job.proofs.Fields.{plain, allPlain, formed, startsSeparate, cut-byte, fill-byte, starts-same, starts-other, cut-fill, fill-cut, cut-count}
-
--- what can be printed: names that are names, numbers of at most 10 digits
-unfoldable pub Printable : Form → Type 0
-Printable (seeds a0 a1 a2 b0 b1 b2) = (a0 < 10 ^ 10) × (a1 < 10 ^ 10) × (a2 < 10 ^ 10) × (b0 < 10 ^ 10) × (b1 < 10 ^ 10) × (b2 < 10 ^ 10)
-Printable (sigma d b) = (d < 10 ^ 10) × (b < 10 ^ 10)
-Printable (shot from to d b) = (name from ≡ true) × (name to ≡ true) × (d < 10 ^ 10) × (b < 10 ^ 10)
-Printable noForm = ⊥
 
 -- letters and digits are no separators
 above : (x : ℕ) → 48 ≤ x → not (separator x) ≡ true
 unfolding separator
 above x h = rw (ne-eqb x 10 (λ e. omega (arith, e)), ne-eqb x 32 (λ e. omega (arith, e)), ne-eqb x 40 (λ e. omega (arith, e)), ne-eqb x 41 (λ e. omega (arith, e)))
 
-all-weaker : (p q : ℕ → Bool) → ((x : ℕ) → p x ≡ true → q x ≡ true) → (l : List ℕ) → all p l ≡ true → all q l ≡ true
+pub all-weaker : (p q : ℕ → Bool) → ((x : ℕ) → p x ≡ true → q x ≡ true) → (l : List ℕ) → all p l ≡ true → all q l ≡ true
 unfolding all
 all-weaker p q f [] h = refl
 all-weaker p q f (x ∷ l) h =
@@ -56,13 +49,13 @@ digits-plain : (v : List ℕ) → all digit v ≡ true → plain v ≡ true
 unfolding plain
 digits-plain v h = all-weaker digit (λ b. not (separator b)) (λ x t. above x (digit-range x t .0)) v h
 
-name-plain : (v : List ℕ) → name v ≡ true → plain v ≡ true
+pub name-plain : (v : List ℕ) → name v ≡ true → plain v ≡ true
 unfolding plain name
 name-plain v h =
     let t = and-eq-true-iff (ltb 0 (length v) && leb (length v) 12) (all letterOrDigit v) .0 h in
     all-weaker letterOrDigit (λ b. not (separator b)) (λ x t. above x (letter-above x t)) v (t .1)
 
-decimal-plain : (n : ℕ) → plain (decimal n) ≡ true
+pub decimal-plain : (n : ℕ) → plain (decimal n) ≡ true
 decimal-plain n = digits-plain (decimal n) (decimal-digits n)
 
 -- how a line is read, once it is known which form cuts it
@@ -83,11 +76,11 @@ module _ (l : List ℕ) where
   unfolding readLine
   read-none p q e = rw (p, q, e, readLine)
 
-plains : (v : List ℕ) (vs : List (List ℕ)) → plain v ≡ true → allPlain vs ≡ true → allPlain (v ∷ vs) ≡ true
+pub plains : (v : List ℕ) (vs : List (List ℕ)) → plain v ≡ true → allPlain vs ≡ true → allPlain (v ∷ vs) ≡ true
 unfolding allPlain
 plains v vs p q = and-eq-true-iff (plain v) (allPlain vs) .1 (p, q)
 
-no-plains : allPlain [] ≡ true
+pub no-plains : allPlain [] ≡ true
 unfolding allPlain
 no-plains = refl
 

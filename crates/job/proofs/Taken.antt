@@ -9,13 +9,13 @@ use lib.Dec.{leb, ltb, eqb}
 use lib.ListN.{length, take, drop, take-append-drop}
 use borrow.Author.Tests.{leb-true}
 use Rattle.job.specs.Numbers.{all, letterOrDigit, name}
-use Rattle.job.specs.Forms.{Form, shot, noForm, readLine}
+use Rattle.job.specs.Forms.{Form, shot, noForm, readLine, Printable}
 use Rattle.job.specs.Listing.{written}
 use Rattle.job.specs.Refusals.{refusal}
 use Rattle.job.specs.Job.{printed}
 use Rattle.job.specs.Turns.{bufferOf}
 use Rattle.job.specs.declared.turn.State.{State}
-use Rattle.job.proofs.RoundTrip.{Printable, printed-read}
+use Rattle.job.proofs.RoundTrip.{printed-read}
 
 written-none : (out : List ℕ) (at : ℕ) → out ≡ written out at []
 unfolding written

@@ -1,5 +1,6 @@
 -- The three forms of a line (document 01, "A job and its listing"): the printer and the reader of each.
-use Prim.Native.Nat.{ℕ, zero, suc, _+_}
+use Prim.Native.Nat.{ℕ, zero, suc, _+_, _^_, _<_}
+use mathlib.Core.Path.{_≡_}
 use mathlib.Core.Bool.{Bool, true, false, cond, not, _&&_, _||_}
 use mathlib.Core.List.{List, [], _∷_, _++_}
 use mathlib.Core.Option.{Option, some, none}
@@ -113,3 +114,11 @@ printLine (seeds a0 a1 a2 b0 b1 b2) =
 printLine (sigma d b) = fill sigmaForm (decimal d ∷ decimal b ∷ [])
 printLine (shot from to d b) = fill shotForm (from ∷ to ∷ decimal d ∷ decimal b ∷ [])
 printLine noForm = []
+
+-- What has a line: names that are names, and numbers of at most 10 digits
+unfoldable pub Printable : Form → Type 0
+Printable (seeds a0 a1 a2 b0 b1 b2) =
+    (a0 < 10 ^ 10) × (a1 < 10 ^ 10) × (a2 < 10 ^ 10) × (b0 < 10 ^ 10) × (b1 < 10 ^ 10) × (b2 < 10 ^ 10)
+Printable (sigma d b) = (d < 10 ^ 10) × (b < 10 ^ 10)
+Printable (shot from to d b) = (name from ≡ true) × (name to ≡ true) × (d < 10 ^ 10) × (b < 10 ^ 10)
+Printable noForm = ⊥

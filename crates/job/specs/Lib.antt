@@ -9,3 +9,4 @@ pub mod Refusals
 pub mod Job
 pub mod Turns
 pub mod Walks
+pub mod Theorems
