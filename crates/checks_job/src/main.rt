@@ -4,7 +4,6 @@
 use libc::STDIN_FILENO;
 use libc::STDOUT_FILENO;
 ghost use Prim.Native.Nat.{_≤_};
-ghost use mathlib.Core.Path.{_≡_};
 ghost use lib.ListN.{length};
 
 fn least(a: usize, b: usize) -> usize
@@ -57,6 +56,13 @@ fn show(n: usize, end: u8) {
     io::write_all(STDOUT_FILENO, &last);
 }
 
+// Reads that many bytes, or as many as there are.
+fn read_text(text: &mut [u8], size: usize) -> usize
+    requires { ⌜ size ≤ length (now text) ⌝ }
+{
+    io::read_full(STDIN_FILENO, &mut text[0..size])
+}
+
 // One case: false where no further case is there.
 fn run_case(text: &mut [u8], out: &mut [u8]) -> bool {
     let mut head = [0u8; 12];
@@ -65,8 +71,7 @@ fn run_case(text: &mut [u8], out: &mut [u8]) -> bool {
     }
     let size = least(five(head, 0), text.len());
     let room = least(five(head, 6), out.len());
-    let got = io::read_full(STDIN_FILENO, &mut text[0..size]);
-    let n = least(got, text.len());
+    let n = least(read_text(text, size), text.len());
     fill(out);
     let answer = job::list(&text[0..n], &mut out[0..room]);
     let length = answer.length;
@@ -82,7 +87,7 @@ fn run_case(text: &mut [u8], out: &mut [u8]) -> bool {
 fn main() {
     let mut text = [0u8; 60001];
     let mut out = [0u8; 20480];
-    let mut left = 1000;
+    let mut left: usize = 1000;
     while 0 < left {
         if !run_case(&mut text, &mut out) {
             return;
