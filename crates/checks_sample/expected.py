@@ -1,5 +1,6 @@
 #!/usr/bin/env python3
-"""Writes what checks_sample has to print. The tables are worked out here, with decimal fractions of 60 digits; the steps are document 01's."""
+"""Writes what checks_sample has to print. The tables are worked out here, with decimal fractions of 60 digits; the steps are
+document 01's."""
 from decimal import Decimal, getcontext
 from math import isqrt
 

@@ -1,5 +1,5 @@
-// Runs the samples beside another implementation, whose output is stored: the refusals, the readings, every cell's edges, and checksums over many k and
-// v. Each line has a letter and decimal numbers; a negative number has its sign before it.
+// Runs the samples beside another implementation, whose output is stored: the refusals, the readings, every cell's edges, and
+// checksums over many k and v. Each line has a letter and decimal numbers; a negative number has its sign before it.
 ghost use Prim.Native.Nat.{_≤_};
 ghost use lib.ListN.{length};
 use sample::Samples;

@@ -1,11 +1,11 @@
 -- The ranges of the radius and of the rotation at the tables, from the tables' bounds.
 -- Assumes nothing.
-use mathlib.Core.Path.{_≡_, refl, sym}
+use mathlib.Core.Path.{refl}
 use mathlib.Core.List.{List}
-use Prim.Native.Nat.{ℕ, _+_, _-_, _*_, _/_, _^_, _≤_, _<_}
-use native.Mathlib.Nat.{le-trans, lt-of-not-le, not-le-of-lt, mul-le-mul}
+use Prim.Native.Nat.{ℕ, _*_, _^_, _≤_, _<_}
+use native.Mathlib.Nat.{lt-of-not-le, mul-le-mul}
 use native.Mathlib.Omega.{arith}
-use Rattle.tables.specs.Tables.{entryOf, logCoarse, logFine, cosCoarse, sinCoarse, cosFine, sinFine, lnTwo}
+use Rattle.tables.specs.Tables.{entryOf, cosCoarse, sinCoarse, cosFine, sinFine, lnTwo}
 use Rattle.tables.proofs.Bounds.{bounds}
 use Rattle.sample.specs.Steps.{logarithm, radius, coarseAngle, fineAngle, sine, cosine}
 use Rattle.sample.specs.StepLaws.{logarithm-range, whole-root}
@@ -25,7 +25,12 @@ radius-range A B m =
     omega (arith, square, root .0, log, bounds .ln-two)
 
 pub rotations : Rotations cosCoarse sinCoarse cosFine sinFine
-rotations = record { small-coarse = bounds .cos-coarse; small-fine = bounds .cos-fine; cosine = bounds .cosine; sine = bounds .sine }
+rotations = record {
+  small-coarse = bounds .cos-coarse;
+  small-fine = bounds .cos-fine;
+  cosine = bounds .cosine;
+  sine = bounds .sine;
+}
 
 -- what was loaded has the tables' bounds
 pub loaded-rotations : {A B C D c s : List ℕ} {K : ℕ} → Loaded A B K C D c s → Rotations C D c s

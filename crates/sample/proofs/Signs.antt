@@ -1,10 +1,10 @@
 -- A size with its sign apart, as a signed number of the machine.
 -- Assumes nothing.
-use mathlib.Core.Path.{_≡_, refl, sym, ap, _∙_}
+use mathlib.Core.Path.{_≡_, refl}
 use mathlib.Core.Bool.{Bool, true, false}
 use Prim.Native.Nat.{ℕ, zero, suc, _^_, _≤_, _<_}
 use native.Mathlib.Nat.{le-suc, lt-of-le-of-lt}
-use lib.IntN.{ℤ, pos, negsuc, negℤ, _-ℤ_, +ℤ-idl}
+use lib.IntN.{pos, negℤ, _-ℤ_, +ℤ-idl}
 use mir.Syntax.{Width}
 use mir.Val.{SFits, hbits, toZ, ofZ}
 use mir.Facts.{toZ-pos, toZ-ofZ}
@@ -13,7 +13,8 @@ use Rattle.sample.specs.StepLaws.{rounded-neg}
 use Rattle.sample.specs.Parts.{withSign}
 
 -- the sample of a number with its sign apart is the size with that sign
-pub rounded-apart : (f F : ℕ) → f ≤ 49 → (negative : Bool) (g : ℕ) → rounded f F (withSign negative g) ≡ withSign negative (size f F g)
+pub rounded-apart : (f F : ℕ) → f ≤ 49 → (negative : Bool) (g : ℕ) →
+    rounded f F (withSign negative g) ≡ withSign negative (size f F g)
 rounded-apart f F h true g = rounded-neg f F h (pos g)
 rounded-apart f F h false g = refl
 

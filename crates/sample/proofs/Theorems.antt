@@ -11,7 +11,7 @@ use Rattle.sample.specs.declared.Samples.{Samples}
 use lib.IntN.{ℤ, pos, negsuc, negℤ, natAbs, negℤ-negℤ}
 use borrow.Author.Tests.{le-ltb}
 use Rattle.exact.specs.Pair.{turn}
-use Rattle.sample.specs.Steps.{pick, quarter, within, sine, cosine, rotation, size, rounded}
+use Rattle.sample.specs.Steps.{pick, rotation, size, rounded}
 use Rattle.sample.specs.StepLaws.{rounded-neg, size-range}
 use Rattle.sample.specs.Sample.{radiusOf, rotationOf, firstOf, secondOf, refused, samplesOf}
 use Rattle.sample.specs.Theorems.{opposite, negated, Theorems}
@@ -91,9 +91,10 @@ sizes : (k v : ℕ) → (natAbs (samplesOf k v .first) ≤ 16706) × (natAbs (sa
 unfolding samplesOf firstOf secondOf
 sizes k v = go (leb (2 ^ 48) k) (ltb 65535 v)
   where
-    go : (t u : Bool) →
-        (natAbs (pick t (refused 2) (pick u (refused 3) (record { number = 0; first = firstOf k v; second = secondOf k v })) .first) ≤ 16706)
-        × (natAbs (pick t (refused 2) (pick u (refused 3) (record { number = 0; first = firstOf k v; second = secondOf k v })) .second) ≤ 16706)
+    answer : Bool → Bool → Samples
+    answer t u = pick t (refused 2) (pick u (refused 3) (record { number = 0; first = firstOf k v; second = secondOf k v }))
+
+    go : (t u : Bool) → (natAbs (answer t u .first) ≤ 16706) × (natAbs (answer t u .second) ≤ 16706)
     go true u = (zero-le, zero-le)
     go false true = (zero-le, zero-le)
     go false false = (small k (rotationOf v .0) (rotation-small v .0), small k (rotationOf v .1) (rotation-small v .1))

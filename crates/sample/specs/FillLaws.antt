@@ -1,6 +1,6 @@
 -- Laws of a filled slice: its length, the slice that has room for just the pairs, and one pair more.
 -- Assumes nothing.
-use mathlib.Core.Path.{_≡_, refl, ap, sym}
+use mathlib.Core.Path.{_≡_, refl, ap}
 use mathlib.Core.List.{List, [], _∷_}
 use Prim.Native.Nat.{ℕ, zero, suc, _+_, _*_, _/_, _≤_, _<_, min}
 use native.Mathlib.Omega.{arith}
@@ -30,7 +30,8 @@ filled-whole (z ∷ zs) (x ∷ []) h = absurd (omega arith)
 filled-whole (z ∷ zs) (x ∷ y ∷ out) h = ap (λ (l : List ℤ). firstAt z ∷ secondAt z ∷ l) (filled-whole zs out (omega arith))
 
 -- the pairs beyond the room change nothing
-pub filled-all : (n : ℕ) (zs : List ℕ) (out : List ℤ) → min (length zs) (length out / 2) ≤ n → filled (take n zs) out ≡ filled zs out
+pub filled-all : (n : ℕ) (zs : List ℕ) (out : List ℤ) → min (length zs) (length out / 2) ≤ n →
+    filled (take n zs) out ≡ filled zs out
 unfolding filled
 filled-all zero [] out h = refl
 filled-all zero (z ∷ zs) [] h = refl
@@ -43,7 +44,8 @@ filled-all (suc n) (z ∷ zs) (x ∷ y ∷ out) h = ap (λ (l : List ℤ). first
 
 -- one pair more: two stores
 pub filled-step : (i : ℕ) (zs : List ℕ) (out : List ℤ) → i < length zs → 2 * i + 1 < length out →
-    set (set (filled (take i zs) out) (2 * i) (firstAt (getD zs i 0))) (2 * i + 1) (secondAt (getD zs i 0)) ≡ filled (take (suc i) zs) out
+    set (set (filled (take i zs) out) (2 * i) (firstAt (getD zs i 0))) (2 * i + 1) (secondAt (getD zs i 0))
+    ≡ filled (take (suc i) zs) out
 unfolding filled
 filled-step i [] out h g = absurd (omega arith)
 filled-step i (z ∷ zs) [] h g = absurd (omega arith)

@@ -1,7 +1,8 @@
--- What the calls return (document 01, 'Radius', 'Angle and sample' and the table of refusals): the steps at the tables, at 48 bits and 11 fraction bits.
+-- What the calls return (document 01, 'Radius', 'Angle and sample' and the table of refusals): the steps at the tables, at 48
+-- bits and 11 fraction bits.
 -- Assumes nothing.
 use mathlib.Core.List.{List, [], _∷_}
-use Prim.Native.Nat.{ℕ, _+_, _/_, _%_, _^_}
+use Prim.Native.Nat.{ℕ, _/_, _%_, _^_}
 use native.Mathlib.Omega.{arith}
 use lib.Dec.{leb, ltb}
 use lib.IntN.{ℤ, pos}

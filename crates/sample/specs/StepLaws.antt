@@ -1,15 +1,17 @@
 -- Laws of the steps: the ranges that document 01 states, over the numerator m and the width b, and the root's law.
 -- Assumes nothing.
 use mathlib.Core.Path.{_≡_, refl, sym, ap, _∙_, subst}
-use Prim.Native.Nat.{ℕ, zero, suc, _+_, _-_, _*_, _/_, _%_, _^_, _≤_, _<_}
-use native.Mathlib.Nat.{le-refl, mul-zero, zero-add, div-eq-of-lt, sub-zero, le-of-suc-le-suc, le-antisymm, mul-le-mul, le-trans, lt-of-lt-of-le, lt-of-le-of-lt, lt-of-not-le, not-le-of-lt, mul-le-mul-right, mul-lt-mul-of-pos-right, mod-lt, div-add-mod', div-lt-iff-lt-mul, le-div-iff-mul-le, pow-suc, mod-eq-sub-div-mul}
+use Prim.Native.Nat.{ℕ, zero, suc, _+_, _-_, _*_, _/_, _^_, _≤_, _<_}
+use native.Mathlib.Nat.{le-refl, mul-zero, zero-add, div-eq-of-lt, sub-zero, le-of-suc-le-suc, le-antisymm, mul-le-mul, le-trans, lt-of-lt-of-le}
+use native.Mathlib.Nat.{lt-of-not-le, not-le-of-lt, mul-le-mul-right, mul-lt-mul-of-pos-right, mod-lt, div-add-mod', div-lt-iff-lt-mul, le-div-iff-mul-le, pow-suc, mod-eq-sub-div-mul}
 use native.Mathlib.Numerals.{add-one, add-one-le}
 use native.Mathlib.Omega.{arith}
 use lib.IntN.{ℤ, pos, negsuc, negℤ, negℤ-negℤ}
 use lib.Count.{leadingZeros, leading-top}
-use lib.Pow.{pow-pos, pow-mono, pow-lt, pow-add}
+use lib.Pow.{pow-pos, pow-mono, pow-add}
 use Rattle.exact.specs.RootLaws.{root-digits-root}
-use Rattle.sample.specs.Steps.{topBit, mantissa, coarse, rest, fine, remainder, correction, logarithm, wholeRoot, size, rounded}
+use Rattle.sample.specs.Steps.{topBit, mantissa, coarse, rest, fine, remainder, correction, logarithm}
+use Rattle.sample.specs.Steps.{wholeRoot, size, rounded}
 
 -- ---- e, for a number of at most 64 bits: 2^e ≤ m < 2^(e+1)
 

@@ -85,7 +85,8 @@ cosine C D c s w = (C (coarseAngle w) * c (fineAngle w) - D (coarseAngle w) * s 
 unfoldable pub sine : (C D c s : ℕ → ℕ) (w : ℕ) → ℕ
 sine C D c s w = (D (coarseAngle w) * c (fineAngle w) + C (coarseAngle w) * s (fineAngle w)) / 2 ^ 30
 
--- The pair's (sine, cosine) for v, as signed numbers, turned by its quarters q = 0, 1, 2, 3: (sin, cos), (cos, -sin), (-sin, -cos), (-cos, sin).
+-- The pair's (sine, cosine) for v, as signed numbers, turned by its quarters q = 0, 1, 2, 3: (sin, cos), (cos, -sin), (-sin,
+-- -cos), (-cos, sin).
 unfoldable pub rotation : (C D c s : ℕ → ℕ) (v : ℕ) → ℤ × ℤ
 rotation C D c s v = turn negℤ (quarter v) (pos (sine C D c s (within v)), pos (cosine C D c s (within v)))
 

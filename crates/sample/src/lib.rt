@@ -85,8 +85,8 @@ fn newton(x: u64, guess: u64) -> u64
     (guess + x / guess) / 2
 }
 
-// Near the root of x: a line that lies near the roots of the numbers of 63 and 64 bits, and two of Newton's steps, on x moved up to that length.
-// The contract is a bound alone, since `root` corrects whatever this returns.
+// Near the root of x: a line that lies near the roots of the numbers of 63 and 64 bits, and two of Newton's steps, on x moved
+// up to that length. The contract is a bound alone, since `root` corrects whatever this returns.
 fn estimate(x: u64) -> u64
     ensures { λ r. ⌜ r < 2 ^ 24 ⌝ }
 {
@@ -177,8 +177,8 @@ fn chosen(test: bool, a: u64, b: u64) -> u64
     if test { a } else { b }
 }
 
-// The quarters of document 01: the two numbers change places in the odd ones, the first is negative in 2 and 3, the second in 1 and 2. There is no
-// jump here, since no processor can foresee q.
+// The quarters of document 01: the two numbers change places in the odd ones, the first is negative in 2 and 3, the second in 1
+// and 2. There is no jump here, since no processor can foresee q.
 fn turn(q: u64, sine: u64, cosine: u64) -> Turned
     requires { ⌜ (q < 4) × (sine ≤ 2 ^ 30) × (cosine ≤ 2 ^ 30) ⌝ }
     ensures { λ r. ⌜ TurnedBy q sine cosine r ⌝ }
@@ -211,8 +211,9 @@ struct Pair {
     second: i16,
 }
 
-// The number under the logarithm: k = 0 is read as 1. The quotient is 1 for k = 0 alone. (Where the compiler can see that the number is not 0, it
-// takes the leading zeros by an instruction that waits for the pair before, and a pair takes nearly twice the time.)
+// The number under the logarithm: k = 0 is read as 1. The quotient is 1 for k = 0 alone. (Where the compiler can see that the
+// number is not 0, it takes the leading zeros by an instruction that waits for the pair before, and a pair takes nearly twice
+// the time.)
 fn numerator(k: u64) -> u64
     requires { ⌜ k < 2 ^ 48 ⌝ }
     ensures { λ r. ⌜ r ≡ numerator k ⌝ }
@@ -246,8 +247,8 @@ fn pair_of(
     }
 }
 
-// The two samples of k and v: document 01's steps (demand 2), and so each less than nine sixteenths of a unit of 2^-11 from its member of the exact
-// pair of the same two numbers (demand 3).
+// The two samples of k and v: document 01's steps (demand 2), and so each less than nine sixteenths of a unit of 2^-11 from its
+// member of the exact pair of the same two numbers (demand 3).
 pub fn sample(k: u64, v: u32) -> Samples
     ensures steps { λ r. ⌜ r ≡ samplesOf k v ⌝ }
     ensures close { λ r. ⌜ (k < 2 ^ 48 → v < 65536 → Close nineSixteenths 11 48 k v (r .first) (r .second)) ⌝ }
@@ -323,7 +324,8 @@ fn fill_with(
     }
 }
 
-// The two samples of each z = 65536 k + v, first and second alternating, as far as there is room for both; every other element stays.
+// The two samples of each z = 65536 k + v, first and second alternating, as far as there is room for both; every other element
+// stays.
 pub fn fill(z: &[u64], out: &mut [i16])
     ensures { λ r. ⌜ now (out .exit) ≡ filled (now (z .entry)) (now (out .entry)) ⌝ }
 {

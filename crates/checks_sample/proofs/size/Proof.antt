@@ -1,6 +1,5 @@
 -- `checks_sample::size` meets its contract: a 16-bit signed number's size is at most 32768.
 -- Assumes nothing.
-use Prim.Native.Nat.{_≤_}
 use native.Mathlib.Omega.{arith}
 use Rattle.checks_sample.proofs.Signs.{widened, widens, size-small, minus-fits, minus-reads, minus-small, below-zero, not-below-zero}
 use Rattle.checks_sample.proofs.size.Statement.{statement}

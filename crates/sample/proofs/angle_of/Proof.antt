@@ -22,21 +22,25 @@ entry-requires-4 c κs = search needs
 
 -- src/lib.rt:156:16
 
+-- the bounds of the tables at the four entries: C and D, then c and s
 module _ (c : tie.After-entry4) where
-  sine-bound : c .before .before .entry2 .result * c .before .entry3 .result + c .before .before .before .entry .result * c .entry4 .result ≤ 2 ^ 60
+  sine-bound : c .before .before .entry2 .result * c .before .entry3 .result
+      + c .before .before .before .entry .result * c .entry4 .result ≤ 2 ^ 60
   sine-bound =
-      rw (c .before .before .before .entry .ensures, c .before .before .entry2 .ensures, c .before .entry3 .ensures, c .entry4 .ensures)
-      (c .before .before .before .before .before .before .before .before .pre .sine _ _)
+      rw (c .before .before .before .entry .ensures, c .before .before .entry2 .ensures)
+      (rw (c .before .entry3 .ensures, c .entry4 .ensures) (c .before .before .before .before .before .before .before .before .pre .sine _ _))
 
-  cosine-bound : c .before .before .entry2 .result * c .entry4 .result ≤ c .before .before .before .entry .result * c .before .entry3 .result
+  cosine-bound : c .before .before .entry2 .result * c .entry4 .result
+      ≤ c .before .before .before .entry .result * c .before .entry3 .result
   cosine-bound =
-      rw (c .before .before .before .entry .ensures, c .before .before .entry2 .ensures, c .before .entry3 .ensures, c .entry4 .ensures)
-      (c .before .before .before .before .before .before .before .before .pre .cosine _ _)
+      rw (c .before .before .before .entry .ensures, c .before .before .entry2 .ensures)
+      (rw (c .before .entry3 .ensures, c .entry4 .ensures) (c .before .before .before .before .before .before .before .before .pre .cosine _ _))
 
   product-bound : c .before .before .before .entry .result * c .before .entry3 .result ≤ 2 ^ 30 * 2 ^ 30
   product-bound =
       let pre = c .before .before .before .before .before .before .before .before .pre in
-      rw (c .before .before .before .entry .ensures, c .before .entry3 .ensures) (mul-le-mul (pre .small-coarse _) (pre .small-fine _))
+      rw (c .before .before .before .entry .ensures, c .before .entry3 .ensures)
+      (mul-le-mul (pre .small-coarse _) (pre .small-fine _))
 
 mul-t12 : tie.Need-mul-t12
 mul-t12 c = omega (arith, sine-bound c)

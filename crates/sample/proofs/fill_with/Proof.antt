@@ -1,15 +1,16 @@
--- `sample::fill_with` meets its contract. The invariant of its loop: the slice is filled for the first i of the z. The measure is n - i.
+-- `sample::fill_with` meets its contract. The invariant of its loop: the slice is filled for the first i of the z. The measure
+-- is n - i.
 -- Assumes nothing.
-use mathlib.Core.Path.{_≡_, refl, sym, ap, _∙_}
-use Prim.Native.Nat.{ℕ, _+_, _*_, _-_, _≤_, _<_}
+use mathlib.Core.Path.{_≡_, refl, _∙_}
+use Prim.Native.Nat.{_+_, _*_, _-_, _≤_, _<_}
 use native.Mathlib.Numerals.{add-one}
 use native.Mathlib.Omega.{arith}
 use borrow.Author.Needs.{needs}
 use mir.Syntax.{w16}
 use mir.Facts.{toZ-ofZ}
-use lib.ListN.{length, take, getD, set, length-set}
+use lib.ListN.{length, take, length-set}
 use Rattle.sample.specs.Sample.{filled}
-use Rattle.sample.specs.FillLaws.{length-filled, filled-all, filled-step}
+use Rattle.sample.specs.FillLaws.{filled-all, filled-step}
 use Rattle.sample.proofs.fill_with.Statement.{statement}
 use Rattle.sample.proofs.fill_with.Tie as tie
 

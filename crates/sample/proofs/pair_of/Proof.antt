@@ -1,10 +1,10 @@
 -- `sample::pair_of` meets its contract: what its callees return is the radius and the rotation at the tables.
 -- Assumes nothing.
-use mathlib.Core.Path.{_≡_, ap, ap₂, sym, _∙_}
-use Prim.Native.Nat.{ℕ, _/_, _%_, _*_, _≤_, _<_, _^_}
+use mathlib.Core.Path.{_≡_, ap₂, _∙_}
+use Prim.Native.Nat.{ℕ, _/_, _%_, _<_, _^_}
 use native.Mathlib.Omega.{arith}
 use borrow.Author.Needs.{needs}
-use lib.IntN.{ℤ, pos, negℤ}
+use lib.IntN.{ℤ}
 use mir.Syntax.{w16}
 use mir.Facts.{toZ-ofZ}
 use Rattle.exact.specs.Pair.{turn}
@@ -21,10 +21,12 @@ angle-of-requires c κs = loaded-rotations (c .before .before .before .before .b
 turn-requires : tie.Need-turn-requires
 turn-requires c κs =
     let tables = loaded-rotations (c .before .before .before .before .before .before .before .pre) in
-    (omega arith, rw (c .angle-of .ensures .sine-is) (sine-range tables _), rw (c .angle-of .ensures .cosine-is) (cosine-range tables _))
+    let angle = c .angle-of .ensures in
+    (omega arith, rw (angle .sine-is) (sine-range tables _), rw (angle .cosine-is) (cosine-range tables _))
 
 -- the rotation
-rotation-is : (c : tie.After-turn) → (valueOf (c .turn .result .sine), valueOf (c .turn .result .cosine)) ≡ rotationOf (c .before .before .before .before .before .before .before .before .args .z % 65536)
+rotation-is : (c : tie.After-turn) → (valueOf (c .turn .result .sine), valueOf (c .turn .result .cosine))
+    ≡ rotationOf (c .before .before .before .before .before .before .before .before .args .z % 65536)
 unfolding rotationOf rotation
 rotation-is c = cc
 
@@ -39,7 +41,8 @@ radius-requires c κs =
     (omega (arith, e), omega (arith, e, z), rw (start .pre .ln-two) ln-two-range)
 
 -- F
-radius-is : (c : tie.After-radius) → c .radius .result ≡ radiusOf (c .before .before .before .before .before .before .before .before .before .before .before .before .args .z / 65536)
+radius-is : (c : tie.After-radius) → c .radius .result
+    ≡ radiusOf (c .before .before .before .before .before .before .before .before .before .before .before .before .args .z / 65536)
 unfolding radiusOf
 radius-is c = cc
 
@@ -60,8 +63,10 @@ returns c =
     let g = rotation-is (c .before .before .before .before .before .before) in
     let first = c .before .rounded in
     let second = c .rounded2 in (
-      toZ-ofZ {w = w16} {z = first .result} (record { sfits = first .ok }) ∙ first .ensures ∙ ap₂ (λ (x : ℕ) (y : ℤ × ℤ). rounded 11 x (y .0)) f g,
-      toZ-ofZ {w = w16} {z = second .result} (record { sfits = second .ok }) ∙ second .ensures ∙ ap₂ (λ (x : ℕ) (y : ℤ × ℤ). rounded 11 x (y .1)) f g,
+      toZ-ofZ {w = w16} {z = first .result} (record { sfits = first .ok }) ∙ first .ensures
+          ∙ ap₂ (λ (x : ℕ) (y : ℤ × ℤ). rounded 11 x (y .0)) f g,
+      toZ-ofZ {w = w16} {z = second .result} (record { sfits = second .ok }) ∙ second .ensures
+          ∙ ap₂ (λ (x : ℕ) (y : ℤ × ℤ). rounded 11 x (y .1)) f g,
     )
 
 pub pair-of-spec : {M : Type 1} → statement M

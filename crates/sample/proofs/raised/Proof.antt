@@ -1,7 +1,7 @@
--- `sample::raised` meets its contract. The invariant of its loop: the square of r is at most x, and r is below 2^24. The measure is 2^24 - r.
+-- `sample::raised` meets its contract. The invariant of its loop: the square of r is at most x, and r is below 2^24. The
+-- measure is 2^24 - r.
 -- Assumes nothing.
 use Prim.Native.Nat.{_<_, _≤_, _^_, _*_, _-_, _+_}
-use native.Mathlib.Nat.{mul-le-mul, le-of-lt}
 use native.Mathlib.Omega.{arith}
 use Rattle.sample.specs.StepLaws.{whole-root-unique}
 use Rattle.sample.proofs.Squares.{square-small}
