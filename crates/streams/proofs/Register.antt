@@ -275,3 +275,37 @@ module _ {k q s : ℕ} (P : Params k q s) where
   pub sequence-follows : (x : ℕ) → Follows k q (sequence k q x)
   unfolding sequence
   sequence-follows x = from-follows (top x)
+
+  -- the first k bits decide all
+  from-same : (w v : ℕ → ℕ) → ((i : ℕ) → i < k → w i ≡ v i) → (m : ℕ) → sequenceFrom k q w m ≡ sequenceFrom k q v m
+  unfolding sequenceFrom shifted
+  from-same w v same zero = same 0 (omega arith)
+  from-same w v same (suc m) = from-same (shifted k q w) (shifted k q v) shifted-same m
+    where
+      shifted-same : (i : ℕ) → i < k → shifted k q w i ≡ shifted k q v i
+      shifted-same i h =
+          elim (decLe k (i + 1)) [
+            | yes l ↦ rw (le-ltb (i + 1) k l, same q (omega arith), same 0 (omega arith))
+            | no n ↦ rw (lt-ltb (i + 1) k (omega arith)) (same (i + 1) (omega arith))
+          ]
+
+  from-itself : (u : ℕ → ℕ) → Follows k q u → (m : ℕ) → sequenceFrom k q u m ≡ u m
+  unfolding sequenceFrom shifted
+  from-itself u follows zero = refl
+  from-itself u follows (suc m) =
+      from-same (shifted k q u) (λ i. u (suc i)) next m
+      ∙ from-itself (λ i. u (suc i)) (λ n. rw (← suc-add n k, ← suc-add n q) (follows (suc n))) m
+    where
+      next : (i : ℕ) → i < k → shifted k q u i ≡ u (suc i)
+      next i h =
+          elim (decLe k (i + 1)) [
+            | yes l ↦
+                let last : suc i ≡ 0 + k = omega arith in
+                rw (le-ltb (i + 1) k l, last, follows 0, zero-add q)
+            | no n ↦ rw (lt-ltb (i + 1) k (omega arith)) (ap u (omega arith))
+          ]
+
+  -- No other sequence does both.
+  pub sequence-unique : (x : ℕ) (u : ℕ → ℕ) → Follows k q u → ((i : ℕ) → i < k → top x i ≡ u i) → (m : ℕ) → sequence k q x m ≡ u m
+  unfolding sequence
+  sequence-unique x u follows starts m = from-same (top x) u starts m ∙ from-itself u follows m
