@@ -1,5 +1,5 @@
 // What the check programs print: numbers, records, samples and running checksums, on standard output.
-ghost use Prim.Native.Nat.{_≤_};
+ghost use Prim.Native.Nat.{_+_, _*_, _%_, _^_, _≤_};
 ghost use mathlib.Core.Path.{_≡_};
 ghost use lib.IntN.{natAbs};
 use streams::Generator;
@@ -15,7 +15,9 @@ pub fn line_end() {
     io::write_all(1, b"\n");
 }
 
-pub fn stream_of(s0: u32, s1: u32, s2: u32) -> Stream {
+pub fn stream_of(s0: u32, s1: u32, s2: u32) -> Stream
+    ensures { λ r. ⌜ (r .s0 ≡ s0) × (r .s1 ≡ s1) × (r .s2 ≡ s2) ⌝ }
+{
     Stream { s0, s1, s2 }
 }
 
@@ -54,7 +56,9 @@ pub fn show_sample(sample: i16) {
 }
 
 // A running checksum, one word on.
-pub fn mixed(sum: u64, word: u64) -> u64 {
+pub fn mixed(sum: u64, word: u64) -> u64
+    ensures { λ r. ⌜ r ≡ (sum % 2 ^ 32 * 1664525 + word % 2 ^ 48) % 2 ^ 32 ⌝ }
+{
     (sum % 4294967296 * 1664525 + word % 281474976710656) % 4294967296
 }
 
