@@ -2,14 +2,15 @@
 -- Assumes nothing.
 use mathlib.Core.Path.{_≡_, refl, sym, ap, _∙_, subst}
 use Prim.Native.Nat.{ℕ, zero, suc, _+_, _-_, _*_, _/_, _^_, _≤_, _<_}
-use native.Mathlib.Nat.{le-refl, mul-zero, zero-add, div-eq-of-lt, sub-zero, le-of-suc-le-suc, le-antisymm, mul-le-mul, le-trans, lt-of-lt-of-le}
-use native.Mathlib.Nat.{lt-of-not-le, not-le-of-lt, mul-le-mul-right, mul-lt-mul-of-pos-right, mod-lt, div-add-mod', div-lt-iff-lt-mul, le-div-iff-mul-le, pow-suc, mod-eq-sub-div-mul}
-use native.Mathlib.Numerals.{add-one, add-one-le}
+use native.Mathlib.Nat.{le-refl, mul-zero, zero-add, div-eq-of-lt, sub-zero, le-antisymm, mul-le-mul, le-trans, lt-of-lt-of-le}
+use native.Mathlib.Nat.{lt-of-not-le, not-le-of-lt, mul-le-mul-right, mul-lt-mul-of-pos-right, mod-lt, div-add-mod'}
+use native.Mathlib.Nat.{div-lt-iff-lt-mul, le-div-iff-mul-le, pow-suc, mod-eq-sub-div-mul}
+use native.Mathlib.Numerals.{add-one}
 use native.Mathlib.Omega.{arith}
 use lib.IntN.{ℤ, pos, negsuc, negℤ, negℤ-negℤ}
 use lib.Count.{leadingZeros, leading-top}
 use lib.Pow.{pow-pos, pow-mono, pow-add}
-use Rattle.exact.specs.RootLaws.{root-digits-root}
+use Rattle.exact.specs.RootLaws.{root-digits-root, lt-of-square-lt}
 use Rattle.sample.specs.Steps.{topBit, mantissa, coarse, rest, fine, remainder, correction, logarithm}
 use Rattle.sample.specs.Steps.{wholeRoot, size, rounded}
 
@@ -140,8 +141,7 @@ whole-root-unique x r low high =
     let w = whole-root x in le-antisymm (root-below r (wholeRoot x) low (w .1)) (root-below (wholeRoot x) r (w .0) high)
   where
     root-below : (p q : ℕ) → p * p ≤ x → x < (q + 1) * (q + 1) → p ≤ q
-    root-below p q lp hq =
-        le-of-suc-le-suc (lt-of-not-le λ (g : suc q ≤ p). not-le-of-lt hq (le-trans (mul-le-mul (add-one-le g) (add-one-le g)) lp))
+    root-below p q lp hq = omega (arith, lt-of-square-lt p (q + 1) (omega (arith, lp, hq)))
 
 -- ---- the rounding
 
