@@ -1,10 +1,10 @@
 -- From the listing in the local buffer to the call's answer and the buffer lent.
-use Prim.Native.Nat.{ℕ, zero, suc, _+_, _-_, _≤_, _<_}
+use Prim.Native.Nat.{ℕ, _-_, _≤_, _<_}
 use native.Mathlib.Omega.{arith}
 use native.Mathlib.Nat.{zero-add}
-use mathlib.Core.Path.{_≡_, refl, sym, ap, _∙_}
+use mathlib.Core.Path.{_≡_, refl, ap, _∙_}
 use mathlib.Core.Bool.{Bool, true, false, cond}
-use mathlib.Core.List.{List, [], _∷_, _++_}
+use mathlib.Core.List.{List}
 use lib.ListN.{length, take, drop}
 use lib.Dec.{leb}
 use borrow.Author.Tests.{lt-ltb, le-ltb, le-leb, lt-leb, leb-true}
@@ -32,7 +32,8 @@ module _ (r : JobAnswer) (buf out : List ℕ) where
   wrote-size (refused n k) w z = absurd (omega (arith, ap number (w .0), w .1))
   wrote-size (listed bytes) w z = omega (arith, ap size (w .0), w .2)
 
-  pub answered-refused : (o : Outcome) → Wrote o r buf → (r .number ≡ 0 → ⊥) → (r ≡ answerOf o (length out)) × (out ≡ bufferAfter o out)
+  pub answered-refused : (o : Outcome) → Wrote o r buf → (r .number ≡ 0 → ⊥) → (r ≡ answerOf o (length out)) ×
+      (out ≡ bufferAfter o out)
   unfolding answerOf bufferAfter
   answered-refused (refused n k) w z = (w .0, refl)
   answered-refused (listed bytes) w z = absurd (z (ap number (w .0)))
@@ -61,7 +62,8 @@ answer-fits (refused n k) room = omega arith
 answer-fits (listed bytes) room = go (leb (length bytes) room) refl
   where
     go : (b : Bool) → leb (length bytes) room ≡ b
-        → cond {A = JobAnswer} b (record { number = 0; line = 0; length = length bytes }) (record { number = 10; line = 0; length = 0 }) .length ≤ room
+        → cond {A = JobAnswer} b (record { number = 0; line = 0; length = length bytes })
+        (record { number = 10; line = 0; length = 0 }) .length ≤ room
     go true e = leb-true (length bytes) room e
     go false e = omega arith
 

@@ -1,13 +1,12 @@
 -- What an accepted line keeps within bounds: the lines, the sigmas and the listing's length.
-use Prim.Native.Nat.{ℕ, zero, suc, _+_, _-_, _*_, _/_, _%_, _≤_, _<_}
+use Prim.Native.Nat.{ℕ, _≤_}
 use native.Mathlib.Omega.{arith}
-use native.Mathlib.Nat.{mul-le-mul}
-use mathlib.Core.Path.{_≡_, refl, sym, ap, subst, _∙_}
-use mathlib.Core.Bool.{Bool, true, false, cond, not, _||_, true≢false}
-use mathlib.Core.List.{List, [], _∷_, _++_}
+use mathlib.Core.Path.{_≡_, refl}
+use mathlib.Core.Bool.{Bool, true, false, cond, _||_, true≢false}
+use mathlib.Core.List.{List}
 use lib.Dec.{ltb, eqb}
 use lib.IntN.{ℤ, pos, negsuc, natAbs}
-use lib.ListN.{length, length-append}
+use lib.ListN.{length}
 use borrow.Author.Tests.{ltb-false, eqb-true, not-false}
 use Rattle.streams.specs.declared.Generator.{Generator}
 use Rattle.streams.specs.Streams.{accepted, pick, uniformsOf}
@@ -16,7 +15,6 @@ use Rattle.sample.proofs.Theorems.{theorems}
 use Rattle.noise.specs.Noise.{pairOf}
 use Rattle.noise.specs.declared.PairAnswer.{PairAnswer}
 use Rattle.job.specs.Forms.{Form, seeds, sigma, shot, noForm, readLine}
-use Rattle.job.specs.Listing.{header, endRow}
 use Rattle.job.specs.Rounding.{noiseSize, noisyDistance, noisyBearing, noisyRow}
 use Rattle.job.specs.Refusals.{formless, misplaced, tooMany, beyond, unfit, refusal}
 use Rattle.job.specs.Job.{settingAfter, printed}
@@ -71,7 +69,8 @@ pub accepted-line : (k : ℕ) (x : Form) → refusal k x ≡ 0 → Accepted k x
 unfolding refusal
 accepted-line k x h = go (formless x) refl (misplaced k x) refl (tooMany k x) refl (beyond x) refl (unfit x) refl h
   where
-    go : (a : Bool) → formless x ≡ a → (b : Bool) → misplaced k x ≡ b → (c : Bool) → tooMany k x ≡ c → (d : Bool) → beyond x ≡ d → (e : Bool) → unfit x ≡ e
+    go : (a : Bool) → formless x ≡ a → (b : Bool) → misplaced k x ≡ b → (c : Bool) → tooMany k x ≡ c → (d : Bool) → beyond x
+        ≡ d → (e : Bool) → unfit x ≡ e
         → _≡_ {A = ℕ} (cond a 6 (cond b 8 (cond c 9 (cond d 7 (cond e 1 0))))) 0 → Accepted k x
     go true p b q c r d s e t h = absurd (omega (arith, h))
     go false p true q c r d s e t h = absurd (omega (arith, h))
@@ -91,7 +90,8 @@ pub record Steps (k : ℕ) (x : Form) (s : Setting) : Type 0 where
   pub bearing : settingAfter x s .bearing ≤ 1000
   pub row : length (printed x s) ≤ 40
 
-pub steps : (k : ℕ) (l : List ℕ) (s : Setting) → s .distance ≤ 1000 → s .bearing ≤ 1000 → refusal k (readLine l) ≡ 0 → Steps k (readLine l) s
+pub steps : (k : ℕ) (l : List ℕ) (s : Setting) → s .distance ≤ 1000 → s .bearing ≤ 1000 → refusal k (readLine l) ≡ 0 → Steps
+    k (readLine l) s
 unfolding misplaced tooMany beyond formless settingAfter printed noisyRow
 steps k l s sd sb h = go (readLine l) refl (accepted-line k (readLine l) h)
   where
@@ -102,7 +102,13 @@ steps k l s sd sb h = go (readLine l) refl (accepted-line k (readLine l) h)
     go (sigma d b) e a =
         let two = eqb-true k 2 (not-false (eqb k 2) (a .placed)) in
         let r = either-false (ltb 1000 d) (ltb 1000 b) (a .ranged) in
-        record { line = omega (arith, two); distance = ltb-false 1000 d (r .0); bearing = ltb-false 1000 b (r .1); row = omega arith }
+        record {
+          line = omega (arith, two);
+          distance = ltb-false 1000 d (r .0);
+          bearing = ltb-false 1000 b (r .1);
+          row =
+              omega arith;
+        }
     go (shot from to d b) e a =
         let r = either-false (ltb 1000000 d) (ltb 65535 b) (a .ranged) in
         let n = names-short l from to d b e in
@@ -112,7 +118,8 @@ steps k l s sd sb h = go (readLine l) refl (accepted-line k (readLine l) h)
           distance = sd;
           bearing = sb;
           row =
-              row-bound from to _ _ (n .0) (n .1) (distance-bound (s .distance) d (pairOf (s .generator) .first) sd (ltb-false 1000000 d (r .0)) (p .0))
+              row-bound from to _ _ (n .0) (n .1)
+              (distance-bound (s .distance) d (pairOf (s .generator) .first) sd (ltb-false 1000000 d (r .0)) (p .0))
               (bearing-bound (s .bearing) b (pairOf (s .generator) .second));
         }
     go noForm e a = absurd (true≢false (a .formed))

@@ -1,20 +1,19 @@
 -- The cutting of a line by a form, byte by byte of the form.
-use Prim.Native.Nat.{ℕ, zero, suc, _+_, _-_, _≤_, _<_}
+use Prim.Native.Nat.{ℕ, _+_, _-_, _≤_, _<_}
 use native.Mathlib.Omega.{arith}
 use native.Mathlib.Numerals.{add-one}
 use native.Mathlib.Decide.{decLt}
 use mathlib.Core.Path.{_≡_, refl, sym, ap, _∙_}
 use mathlib.Core.Bool.{Bool, true, false, cond, false≢true, true≢false}
-use mathlib.Core.List.{List, [], _∷_, _++_, map, map-append, append-assoc, append-nil}
+use mathlib.Core.List.{List, [], _∷_, _++_, map-append, append-assoc, append-nil}
 use mathlib.Core.Option.{Option, some, none}
-use lib.Dec.{eqb, leb}
+use lib.Dec.{eqb}
 use lib.ListN.{length, getD, take, drop, set, length-append, length-drop, length-set, drop-of-length-le}
 use lib.Seq.{drop-drop, take-append-seam, take-suc-set}
 use borrow.Author.Tests.{le-leb, lt-leb, eq-eqb}
 use Rattle.job.specs.Forms.{field, cut, lead, marks, startsWith, isEmpty}
-use Rattle.job.specs.Answers.{partOf, fieldsAt, fieldsOf, nextOf}
+use Rattle.job.specs.Answers.{partOf, fieldsAt, nextOf}
 use Rattle.job.specs.declared.line.Cutting.{Cutting}
-use Rattle.job.specs.declared.field.Place.{Place}
 use Rattle.job.proofs.Fields.{cut-mark, cut-byte, marks-mark, marks-byte, field-rest}
 use Rattle.job.proofs.Scan.{ahead}
 
@@ -40,7 +39,8 @@ field-length : (l : List ℕ) → length (field l) ≤ length l
 field-length l = omega (arith, simp length-append at (ap length (field-rest l)))
 
 field-take : (l : List ℕ) → take (length (field l)) l ≡ field l
-field-take l = ap (λ (m : List ℕ). take (length (field l)) m) (sym (field-rest l)) ∙ take-append-seam (field l) (drop (length (field l)) l)
+field-take l = ap (λ (m : List ℕ). take (length (field l)) m) (sym (field-rest l)) ∙ take-append-seam (field l)
+    (drop (length (field l)) l)
 
 -- the place from `at` to the end of the field that begins there holds that field
 part-field : (line : List ℕ) (at : ℕ) → at ≤ length line
@@ -49,7 +49,8 @@ unfolding partOf
 part-field line at h =
     let n = field-length (drop at line) in
     let e : at + length (field (drop at line)) - at ≡ length (field (drop at line)) = omega arith in
-    rw (le-leb (at + length (field (drop at line))) (length line) (omega (arith, simp length-drop at n)), e) (field-take (drop at line))
+    rw (le-leb (at + length (field (drop at line))) (length line) (omega (arith, simp length-drop at n)), e)
+    (field-take (drop at line))
 
 -- what is left to cut, one byte of the form later
 module _ (form line : List ℕ) (i at : ℕ) (more : i < length form) where
@@ -59,7 +60,8 @@ module _ (form line : List ℕ) (i at : ℕ) (more : i < length form) where
   abbrev rest : List ℕ
   rest = drop (i + 1) form
 
-  cut-at-mark : eqb f 35 ≡ true → cut (drop i form) (drop at line) ≡ lead (field (drop at line)) (cut rest (drop (at + length (field (drop at line))) line))
+  cut-at-mark : eqb f 35 ≡ true → cut (drop i form) (drop at line) ≡ lead (field (drop at line))
+      (cut rest (drop (at + length (field (drop at line))) line))
   cut-at-mark e = rw (ahead form i more, cut-mark f rest (drop at line) e, drop-drop (length (field (drop at line))) at line)
 
   cut-at-byte : eqb f 35 ≡ false → at < length line
@@ -79,11 +81,18 @@ module _ (form line : List ℕ) (c : Cutting) (i : ℕ) (fit : Fits form line c 
   b = getD form i 0
 
   next-mark : eqb b 35 ≡ true
-      → nextOf b line c ≡ record { ok = true; at = end; count = c .count + 1; places = set (c .places) (c .count) (record { from = c .at; to = end }) }
+      → nextOf b line c ≡ record {
+        ok = true;
+        at = end;
+        count = c .count + 1;
+        places = set (c .places) (c .count)
+            (record { from = c .at; to = end });
+      }
   unfolding nextOf
   next-mark e = rw (e, nextOf)
 
-  next-end : eqb b 35 ≡ false → length line ≤ c .at → nextOf b line c ≡ record { ok = false; at = c .at; count = c .count; places = c .places }
+  next-end : eqb b 35 ≡ false → length line ≤ c .at → nextOf b line c ≡ record
+      { ok = false; at = c .at; count = c .count; places = c .places }
   unfolding nextOf
   next-end e h = rw (e, le-leb (length line) (c .at) h, nextOf)
 
@@ -98,7 +107,9 @@ module _ (form line : List ℕ) (c : Cutting) (i : ℕ) (fit : Fits form line c 
   pub mark-room : marks form ≤ 6 → b ≡ 35 → c .count < 6
   mark-room six e = omega (arith, count-mark (eq-eqb b 35 e))
 
-  fields-mark : c .count < 6 → fieldsAt line (take (c .count + 1) (set (c .places) (c .count) (record { from = c .at; to = end }))) ≡ fieldsAt line (take (c .count) (c .places)) ++ (field (drop (c .at) line) ∷ [])
+  fields-mark : c .count < 6 → fieldsAt line
+      (take (c .count + 1) (set (c .places) (c .count) (record { from = c .at; to = end }))) ≡ fieldsAt line
+      (take (c .count) (c .places)) ++ (field (drop (c .at) line) ∷ [])
   fields-mark h =
       rw (add-one (c .count), take-suc-set (c .places) (c .count) (record { from = c .at; to = end }) (omega (arith, fit .array)))
       (map-append (partOf line) (take (c .count) (c .places)) (record { from = c .at; to = end } ∷ [])
@@ -148,7 +159,8 @@ module _ (form line : List ℕ) (c : Cutting) (i : ℕ) (fit : Fits form line c 
           fit .cuts ∙ rw (cut-at-byte form line i (c .at) more e h, o)
 
 -- the start, and the end: the whole line is cut, or something is left of it
-pub fit-start : (form line : List ℕ) (c : Cutting) → c .ok ≡ true → c .at ≡ 0 → c .count ≡ 0 → length (c .places) ≡ 6 → Fits form line c 0
+pub fit-start : (form line : List ℕ) (c : Cutting) → c .ok ≡ true → c .at ≡ 0 → c .count ≡ 0 → length (c .places) ≡ 6 → Fits
+    form line c 0
 fit-start form line c o a n l =
     record {
       ok = o;

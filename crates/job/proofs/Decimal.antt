@@ -4,11 +4,11 @@ use native.Mathlib.Omega.{arith}
 use native.Mathlib.Nat.{pow-suc}
 use native.Mathlib.Decide.{decLt}
 use mathlib.Core.Path.{_≡_, refl, sym, ap, _∙_}
-use mathlib.Core.Bool.{Bool, true, false, cond, not, _&&_, _||_, and-eq-true-iff, or-true, false≢true}
+use mathlib.Core.Bool.{Bool, true, false, not, _&&_, _||_, and-eq-true-iff, or-true, false≢true}
 use mathlib.Core.List.{List, [], _∷_, _++_, append-assoc, append-nil}
 use lib.Dec.{leb, ltb, eqb}
 use lib.ListN.{length, getD, length-append, List·getD-append}
-use borrow.Author.Tests.{lt-ltb, le-ltb, le-leb, leb-true, ltb-true, ltb-false, lt-leb, eq-eqb, ne-eqb, eqb-true}
+use borrow.Author.Tests.{lt-ltb, le-ltb, le-leb, leb-true, ltb-true, ne-eqb}
 use Rattle.job.specs.Numbers.{all, digit, numeral, value, decimalBy, decimal}
 
 -- a number below 10 is one digit, whatever the fuel
@@ -27,7 +27,8 @@ by-fuel zero g n h k = by-one zero n (omega arith) ∙ sym (by-one g n (omega ar
 by-fuel (suc f) zero n h k = by-one (suc f) n (omega arith) ∙ sym (by-one zero n (omega arith))
 by-fuel (suc f) (suc g) n h k = split (λ a b. by-fuel f g (n / 10) a b) (decLt n 10)
   where
-    split : (n / 10 ≤ f → n / 10 ≤ g → decimalBy f (n / 10) ≡ decimalBy g (n / 10)) → Dec (n < 10) → decimalBy (suc f) n ≡ decimalBy (suc g) n
+    split : (n / 10 ≤ f → n / 10 ≤ g → decimalBy f (n / 10) ≡ decimalBy g (n / 10)) → Dec (n < 10) → decimalBy (suc f) n ≡
+        decimalBy (suc g) n
     split ih (yes p) = by-one (suc f) n p ∙ sym (by-one (suc g) n p)
     split ih (no p) =
         let e : 10 ≤ n = omega (arith, p) in
@@ -41,7 +42,8 @@ decimal-one n h = by-one n n h
 pub decimal-more : (n : ℕ) → 10 ≤ n → decimal n ≡ decimal (n / 10) ++ ((48 + n % 10) ∷ [])
 unfolding decimal
 decimal-more zero h = absurd (omega arith)
-decimal-more (suc n) h = by-more n (suc n) h ∙ ap (λ (l : List ℕ). l ++ ((48 + suc n % 10) ∷ [])) (by-fuel n (suc n / 10) (suc n / 10) (omega arith) (omega arith))
+decimal-more (suc n) h = by-more n (suc n) h ∙ ap (λ (l : List ℕ). l ++ ((48 + suc n % 10) ∷ []))
+    (by-fuel n (suc n / 10) (suc n / 10) (omega arith) (omega arith))
 
 -- what holds of a single digit, and of a number whose tenth it holds of, holds of every number
 pub by-digits : (P : ℕ → Type 0) → ((n : ℕ) → n < 10 → P n) → ((n : ℕ) → 10 ≤ n → P (n / 10) → P n) → (n : ℕ) → P n
@@ -100,7 +102,8 @@ pub decimal-head : (n : ℕ) → 0 < n → 48 < getD (decimal n) 0 0
 decimal-head =
     by-digits (λ n. 0 < n → 48 < getD (decimal n) 0 0)
     (λ n h k. rw (decimal-one n h) (omega arith))
-    (λ n h ih k. rw (decimal-more n h, List·getD-append (decimal (n / 10)) ((48 + n % 10) ∷ []) 0 0 (decimal-some (n / 10))) (ih (omega arith)))
+    (λ n h ih k. rw (decimal-more n h, List·getD-append (decimal (n / 10)) ((48 + n % 10) ∷ []) 0 0 (decimal-some (n / 10)))
+    (ih (omega arith)))
 
 pub value-append : (n : ℕ) (xs ys : List ℕ) → value n (xs ++ ys) ≡ value (value n xs) ys
 unfolding value
@@ -131,7 +134,8 @@ pub record Numeral (l : List ℕ) : Type 0 where
 pub numeral-is : (l : List ℕ) → numeral l ≡ true → Numeral l
 unfolding numeral
 numeral-is l h =
-    let t = and-eq-true-iff (ltb 0 (length l) && leb (length l) 10 && all digit l) (eqb (length l) 1 || not (eqb (getD l 0 0) 48)) .0 h in
+    let t = and-eq-true-iff (ltb 0 (length l) && leb (length l) 10 && all digit l)
+    (eqb (length l) 1 || not (eqb (getD l 0 0) 48)) .0 h in
     let u = and-eq-true-iff (ltb 0 (length l) && leb (length l) 10) (all digit l) .0 (t .0) in
     let v = and-eq-true-iff (ltb 0 (length l)) (leb (length l) 10) .0 (u .0) in
     record { one = ltb-true _ _ (v .0); ten = leb-true _ _ (v .1); digits = u .1; lead = t .1 }
@@ -142,7 +146,8 @@ numeral-decimal n h =
     both (both (both (lt-ltb 0 _ (decimal-some n)) (le-leb _ 10 (decimal-length 9 n h))) (decimal-digits n)) (lead (decLt 0 n))
   where
     lead : Dec (0 < n) → eqb (length (decimal n)) 1 || not (eqb (getD (decimal n) 0 0) 48) ≡ true
-    lead (yes p) = rw (ne-eqb (getD (decimal n) 0 0) 48 (λ e. omega (arith, decimal-head n p, e))) (or-true (eqb (length (decimal n)) 1))
+    lead (yes p) = rw (ne-eqb (getD (decimal n) 0 0) 48 (λ e. omega (arith, decimal-head n p, e)))
+        (or-true (eqb (length (decimal n)) 1))
     lead (no p) = rw (decimal-one n (omega (arith, p)))
 
 -- the digits of a number, one more digit
@@ -182,7 +187,8 @@ decimal-value (x ∷ xs) h =
     let r = digit-range x (v .0) in
     first xs (v .1) (n .lead) (r .0) (r .1) (decLt 48 x)
   where
-    first : (ys : List ℕ) → all digit ys ≡ true → eqb (length (x ∷ ys)) 1 || not (eqb x 48) ≡ true → 48 ≤ x → x ≤ 57 → Dec (48 < x) → decimal (value 0 (x ∷ ys)) ≡ x ∷ ys
+    first : (ys : List ℕ) → all digit ys ≡ true → eqb (length (x ∷ ys)) 1 || not (eqb x 48) ≡ true → 48 ≤ x → x ≤ 57 → Dec
+        (48 < x) → decimal (value 0 (x ∷ ys)) ≡ x ∷ ys
     first ys a z l m (yes p) =
         decimal-value-after (0 * 10 + (x - 48)) ys (omega arith) a ∙ ap (λ (l : List ℕ). l ++ ys) (one-digit-value x l m)
     first [] a z l m (no p) = one-digit-value x l m

@@ -1,12 +1,12 @@
 -- Forms and their fields: cutting a line undoes the filling of its form, and the other way round.
-use Prim.Native.Nat.{ℕ, zero, suc, _+_, _≤_, _<_}
+use Prim.Native.Nat.{ℕ, suc}
 use native.Mathlib.Omega.{arith}
 use mathlib.Core.Path.{_≡_, refl, sym, ap, _∙_}
-use mathlib.Core.Bool.{Bool, true, false, cond, not, _&&_, _||_, and-eq-true-iff, false≢true, true≢false}
+use mathlib.Core.Bool.{Bool, true, false, cond, not, _&&_, and-eq-true-iff, false≢true, true≢false}
 use mathlib.Core.List.{List, [], _∷_, _++_}
 use mathlib.Core.Option.{Option, some, none, Option·none-ne-some, Option·some-injective}
 use lib.Dec.{eqb}
-use lib.ListN.{length, getD, drop, take-append-drop}
+use lib.ListN.{length, getD, drop}
 use lib.Seq.{drop-append-seam}
 use borrow.Author.Tests.{ne-eqb, eqb-true, eq-eqb}
 use Rattle.job.specs.Numbers.{all}
@@ -93,7 +93,8 @@ module _ (f : ℕ) (form : List ℕ) where
   formed-byte e = rw (e, formed)
 
 -- a field at the start of a filled form
-field-fill : (v : List ℕ) (form : List ℕ) (vs : List (List ℕ)) → startsSeparate form ≡ true → plain v ≡ true → field (v ++ fill form vs) ≡ v
+field-fill : (v : List ℕ) (form : List ℕ) (vs : List (List ℕ)) → startsSeparate form ≡ true → plain v ≡ true → field
+    (v ++ fill form vs) ≡ v
 unfolding startsSeparate
 field-fill v [] vs s p = absurd (false≢true s)
 field-fill v (x ∷ form) vs s p = rw (fill-byte x form vs (not-mark x s)) (field-is v x (fill form vs) p s)
@@ -107,13 +108,15 @@ unfolding startsWith
 starts-other f x l e = e
 
 -- Cutting a filled form gives its fields.
-pub cut-fill : (form : List ℕ) (vs : List (List ℕ)) → formed form ≡ true → allPlain vs ≡ true → length vs ≡ marks form → cut form (fill form vs) ≡ some vs
+pub cut-fill : (form : List ℕ) (vs : List (List ℕ)) → formed form ≡ true → allPlain vs ≡ true → length vs ≡ marks form → cut
+    form (fill form vs) ≡ some vs
 unfolding allPlain marks isEmpty cut fill
 cut-fill [] [] w p n = refl
 cut-fill [] (v ∷ vs) w p n = absurd (omega (arith, n))
 cut-fill (f ∷ form) vs w p n = split (cut-fill form) (eqb f 35) refl vs p n
   where
-    split : ((ws : List (List ℕ)) → formed form ≡ true → allPlain ws ≡ true → length ws ≡ marks form → cut form (fill form ws) ≡ some ws)
+    split : ((ws : List (List ℕ)) → formed form ≡ true → allPlain ws ≡ true → length ws ≡ marks form → cut form
+        (fill form ws) ≡ some ws)
         → (b : Bool) → eqb f 35 ≡ b → (vs : List (List ℕ)) → allPlain vs ≡ true → length vs ≡ marks (f ∷ form)
         → cut (f ∷ form) (fill (f ∷ form) vs) ≡ some vs
     split ih true e [] p n = let m = rw (marks-mark f form e) at n in absurd (omega (arith, m))
@@ -122,9 +125,17 @@ cut-fill (f ∷ form) vs w p n = split (cut-fill form) (eqb f 35) refl vs p n
         let u = and-eq-true-iff (startsSeparate form) (formed form) .0 (rw (formed-mark f form e) at w) in
         let m : length vs ≡ marks form = omega (arith, n ∙ marks-mark f form e) in
         let g : field (v ++ fill form vs) ≡ v = field-fill v form vs (u .0) (t .0) in
-        rw (fill-mark f form (v ∷ vs) e, cut-mark f form (v ++ fill form vs) e, g, drop-append-seam v (fill form vs), ih vs (u .1) (t .1) m)
+        rw (
+          fill-mark f form (v ∷ vs) e,
+          cut-mark f form (v ++ fill form vs) e,
+          g,
+          drop-append-seam v (fill form vs),
+          ih vs
+              (u .1) (t .1) m,
+        )
     split ih false e vs p n =
-        rw (fill-byte f form vs e, cut-byte f form (f ∷ fill form vs) e, starts-same f (fill form vs)) (ih vs (rw (formed-byte f form e) at w) p (n ∙ marks-byte f form e))
+        rw (fill-byte f form vs e, cut-byte f form (f ∷ fill form vs) e, starts-same f (fill form vs))
+        (ih vs (rw (formed-byte f form e) at w) p (n ∙ marks-byte f form e))
 
 -- what a line of the form shows: its first field and the fields of the rest, or its first byte
 lead-some : (v : List ℕ) (o : Option (List (List ℕ))) (vs : List (List ℕ)) → lead v o ≡ some vs
@@ -154,9 +165,11 @@ unfolding fill
 fill-cut [] line vs h = sym (end-some line vs h .0)
 fill-cut (f ∷ form) line vs h = split (λ l ws k. fill-cut form l ws k) (eqb f 35) refl
   where
-    split : ((l : List ℕ) (ws : List (List ℕ)) → cut form l ≡ some ws → fill form ws ≡ l) → (b : Bool) → eqb f 35 ≡ b → fill (f ∷ form) vs ≡ line
+    split : ((l : List ℕ) (ws : List (List ℕ)) → cut form l ≡ some ws → fill form ws ≡ l) → (b : Bool) → eqb f 35 ≡ b → fill
+        (f ∷ form) vs ≡ line
     split ih true e =
-        let (ws, p, q) = lead-some (field line) (cut form (drop (length (field line)) line)) vs (sym (cut-mark f form line e) ∙ h) in
+        let (ws, p, q) = lead-some (field line) (cut form (drop (length (field line)) line)) vs
+        (sym (cut-mark f form line e) ∙ h) in
         rw (q, fill-mark f form (field line ∷ ws) e, ih (drop (length (field line)) line) ws p) (field-rest line)
     split ih false e =
         let (xs, p, q) = byte-some f form line vs (sym (cut-byte f form line e) ∙ h) in
@@ -168,9 +181,11 @@ unfolding marks
 cut-count [] line vs h = ap length (end-some line vs h .1)
 cut-count (f ∷ form) line vs h = split (λ l ws k. cut-count form l ws k) (eqb f 35) refl
   where
-    split : ((l : List ℕ) (ws : List (List ℕ)) → cut form l ≡ some ws → length ws ≡ marks form) → (b : Bool) → eqb f 35 ≡ b → length vs ≡ marks (f ∷ form)
+    split : ((l : List ℕ) (ws : List (List ℕ)) → cut form l ≡ some ws → length ws ≡ marks form) → (b : Bool) → eqb f 35 ≡ b →
+        length vs ≡ marks (f ∷ form)
     split ih true e =
-        let (ws, p, q) = lead-some (field line) (cut form (drop (length (field line)) line)) vs (sym (cut-mark f form line e) ∙ h) in
+        let (ws, p, q) = lead-some (field line) (cut form (drop (length (field line)) line)) vs
+        (sym (cut-mark f form line e) ∙ h) in
         rw (q, marks-mark f form e) (ap suc (ih (drop (length (field line)) line) ws p))
     split ih false e =
         let (xs, p, q) = byte-some f form line vs (sym (cut-byte f form line e) ∙ h) in

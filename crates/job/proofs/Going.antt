@@ -1,9 +1,9 @@
 -- A job half way: what the lines so far have left in the state and in the buffer, and what the lines ahead add to it.
-use Prim.Native.Nat.{ℕ, zero, suc, _+_, _-_, _*_, _≤_, _<_}
+use Prim.Native.Nat.{ℕ, zero, suc, _+_, _-_, _≤_, _<_}
 use native.Mathlib.Omega.{arith}
 use mathlib.Core.Path.{_≡_, refl, sym, ap, subst, _∙_}
 use mathlib.Core.Bool.{Bool, true, false, cond}
-use mathlib.Core.List.{List, [], _∷_, _++_, append-assoc}
+use mathlib.Core.List.{List, _∷_, _++_, append-assoc}
 use lib.Dec.{ltb, eqb}
 use lib.ListN.{length, take, drop, length-append, drop-of-length-le}
 use lib.Seq.{length-take-le}
@@ -20,7 +20,7 @@ use Rattle.job.specs.declared.turn.State.{State}
 use Rattle.job.specs.declared.turn.Turn.{Turn}
 use Rattle.job.specs.declared.walk.Walked.{Walked}
 use Rattle.job.proofs.Decimal.{decimal-length}
-use Rattle.job.proofs.Bounds.{Steps, steps}
+use Rattle.job.proofs.Bounds.{steps}
 use Rattle.job.proofs.Split.{lines-from, end-within, part-line}
 use Rattle.job.proofs.Writing.{written-length, written-take, end-length}
 
@@ -30,7 +30,8 @@ onto-onto a b (listed l) = ap listed (sym (append-assoc a b l))
 
 -- one line of the definition, accepted or refused
 module _ (k : ℕ) (s : Setting) (l : List ℕ) (ls : List (List ℕ)) where
-  pub outcome-yes : refusal k (readLine l) ≡ 0 → outcome k s (l ∷ ls) ≡ onto (printed (readLine l) s) (outcome (k + 1) (settingAfter (readLine l) s) ls)
+  pub outcome-yes : refusal k (readLine l) ≡ 0 → outcome k s (l ∷ ls) ≡ onto (printed (readLine l) s)
+      (outcome (k + 1) (settingAfter (readLine l) s) ls)
   unfolding outcome
   outcome-yes h = rw (eq-eqb (refusal k (readLine l)) 0 h, outcome)
 
@@ -50,15 +51,24 @@ module _ (text out : List ℕ) (s : State) (at : ℕ) (g : Going text out s at) 
     next = at + length (firstLine (drop at text))
 
     pub turn-yes : refusal (s .line) (readLine l) ≡ 0
-        → turnOf s (readLine l) ≡ record { number = 0; next = record { line = s .line + 1; used = s .used + length (printed (readLine l) (s .setting)); setting = settingAfter (readLine l) (s .setting) } }
+        → turnOf s (readLine l) ≡ record {
+          number = 0;
+          next = record {
+            line = s .line + 1;
+            used = s .used + length (printed (readLine l) (s .setting));
+            setting = settingAfter (readLine l) (s .setting);
+          };
+        }
     unfolding turnOf turned
     turn-yes e = rw e
 
-    pub going-on : refusal (s .line) (readLine l) ≡ 0 → Going text (bufferOf s (readLine l) out) (turnOf s (readLine l) .next) next
+    pub going-on : refusal (s .line) (readLine l) ≡ 0 → Going text (bufferOf s (readLine l) out)
+        (turnOf s (readLine l) .next) next
     unfolding bufferOf
     going-on e =
         let t = steps (s .line) l (s .setting) (g .distance) (g .bearing) e in
-        let r : s .used + length (printed (readLine l) (s .setting)) ≤ length out = omega (arith, t .row, g .used, g .line, g .room) in
+        let r : s .used + length (printed (readLine l) (s .setting)) ≤ length out = omega
+        (arith, t .row, g .used, g .line, g .room) in
         rw (turn-yes e, e)
         (record {
           place = end-within text at h .1;
@@ -78,7 +88,8 @@ module _ (text out : List ℕ) (s : State) (at : ℕ) (g : Going text out s at) 
 
   -- no line is left
   module _ (h : length text ≤ at) where
-    ended : listingOf text ≡ onto (take (s .used) out) (cond (ltb (s .line) 3) (refused 8 (s .line)) (listed (endRow (s .line - 3))))
+    ended : listingOf text ≡ onto (take (s .used) out)
+        (cond (ltb (s .line) 3) (refused 8 (s .line)) (listed (endRow (s .line - 3))))
     unfolding outcome lines
     ended = g .so-far ∙ rw (drop-of-length-le text {i = at} h)
 
@@ -94,14 +105,20 @@ unfolding turnOf turned
 turn-number s x = go (refusal (s .line) x) (eqb (refusal (s .line) x) 0) refl
   where
     go : (n : ℕ) (b : Bool) → eqb n 0 ≡ b
-        → _≡_ {A = ℕ} (cond {A = Turn} b (record { number = 0; next = record { line = s .line + 1; used = s .used + length (printed x (s .setting)); setting = settingAfter x (s .setting) } }) (record { number = n; next = s }) .number) n
+        → _≡_ {A = ℕ} (cond {A = Turn} b
+        (record {
+          number = 0;
+          next = record
+              { line = s .line + 1; used = s .used + length (printed x (s .setting)); setting = settingAfter x (s .setting) };
+        }) (record { number = n; next = s }) .number) n
     go n true e = sym (eqb-true n 0 e)
     go n false e = refl
 
 -- one turn of the loop, on the part of the text from a line's start to its end
 module _ (text out : List ℕ) (s : State) (at end : ℕ) (r : Turn) (out′ : List ℕ)
     (g : Going text out s at) (h : at < length text) (e : end ≡ at + length (firstLine (drop at text)))
-    (er : r ≡ turnOf s (readLine (take (end - at) (drop at text)))) (eo : out′ ≡ bufferOf s (readLine (take (end - at) (drop at text))) out) where
+    (er : r ≡ turnOf s (readLine (take (end - at) (drop at text))))
+    (eo : out′ ≡ bufferOf s (readLine (take (end - at) (drop at text))) out) where
   whole-line : take (end - at) (drop at text) ≡ firstLine (drop at text)
   whole-line = rw e (part-line text at h)
 
@@ -118,7 +135,8 @@ module _ (text out : List ℕ) (s : State) (at end : ℕ) (r : Turn) (out′ : L
         no = λ t. stopped text out s at g h (λ u. z (number ∙ u)) ∙ ap (λ (n : ℕ). refused n (s .line)) (sym number);
       }
 
-pub all-taken : (text out : List ℕ) (s : State) (at : ℕ) → Going text out s at → length text ≤ at → Ended text out (record { number = 0; state = s })
+pub all-taken : (text out : List ℕ) (s : State) (at : ℕ) → Going text out s at → length text ≤ at → Ended text out
+    (record { number = 0; state = s })
 all-taken text out s at g h =
     let e : at ≡ length text = omega (arith, g .place) in
     record { yes = λ t. subst (λ (n : ℕ). Going text out s n) e g; no = λ t. absurd (t refl) }
@@ -134,7 +152,8 @@ unfolding start listingOf
 going-start text out out′ s used room e u f =
     let r : 0 + length header ≤ length out = omega (arith, header-length) in
     let k : used ≡ 0 + length header = omega (arith, u, header-length) in
-    let t : take used (written out 0 header) ≡ header = ap (λ (n : ℕ). take n (written out 0 header)) k ∙ written-take out 0 header r in
+    let t : take used (written out 0 header) ≡ header = ap (λ (n : ℕ). take n (written out 0 header)) k ∙ written-take out 0
+    header r in
     rw (e, f)
     (record {
       place = omega arith;
@@ -155,12 +174,14 @@ module _ (text out : List ℕ) (s : State) (g : Going text out s (length text)) 
   pub wrote-missing : s .line < 3 → Wrote (listingOf text) (record { number = 8; line = s .line; length = 0 }) out
   wrote-missing h = rw (missing text out s (length text) g (omega arith) h) (refl, omega arith)
 
-  pub wrote-listed : (out′ : List ℕ) (n : ℕ) → 3 ≤ s .line → n ≡ s .used + length (endRow (s .line - 3)) → out′ ≡ written out (s .used) (endRow (s .line - 3))
+  pub wrote-listed : (out′ : List ℕ) (n : ℕ) → 3 ≤ s .line → n ≡ s .used + length (endRow (s .line - 3)) → out′ ≡ written out
+      (s .used) (endRow (s .line - 3))
       → Wrote (listingOf text) (record { number = 0; line = 0; length = n }) out′
   wrote-listed out′ n h e f =
       let w = written-take out (s .used) (endRow (s .line - 3)) end-room in
       let t : length (take (s .used) out) ≡ s .used = length-take-le (s .used) out (omega (arith, end-room)) in
-      let k : n ≡ length (take (s .used) out ++ endRow (s .line - 3)) = omega (arith, e, t, length-append (take (s .used) out) (endRow (s .line - 3))) in
+      let k : n ≡ length (take (s .used) out ++ endRow (s .line - 3)) = omega
+      (arith, e, t, length-append (take (s .used) out) (endRow (s .line - 3))) in
       rw (complete text out s (length text) g (omega arith) h) (
         ap (λ (m : ℕ). record { number = 0; line = 0; length = m }) k,
         rw (← k, e, f) w,

@@ -1,22 +1,47 @@
 -- Jobs as lists of forms: the text that says them, its lines, and the listing.
-use Prim.Native.Nat.{ℕ, zero, suc, _+_, _-_, _*_, _≤_, _<_}
+use Prim.Native.Nat.{ℕ, suc, _+_, _-_, _≤_}
 use native.Mathlib.Omega.{arith}
-use mathlib.Core.Path.{_≡_, refl, sym, ap, ap₂, subst, _∙_}
-use mathlib.Core.Bool.{Bool, true, false, cond, not, _&&_, _||_, and-eq-true-iff, true≢false, false≢true}
+use mathlib.Core.Path.{_≡_, refl, sym, ap, ap₂, _∙_}
+use mathlib.Core.Bool.{Bool, true, false, cond, not, _||_, and-eq-true-iff, false≢true}
 use mathlib.Core.List.{List, [], _∷_, _++_, map, append-assoc}
 use lib.Dec.{eqb, ltb}
-use lib.ListN.{length, getD, drop, length-append}
+use lib.ListN.{length}
 use borrow.Author.Tests.{eqb-true, eqb-false, le-ltb, ltb-false, not-true}
-use Rattle.job.specs.Numbers.{all, decimal, name}
-use Rattle.job.specs.Forms.{Form, seeds, sigma, shot, noForm, seedsForm, sigmaForm, shotForm, fill, marks, separator, isEmpty, readLine, printLine, Printable}
+use Rattle.job.specs.Numbers.{all, decimal}
+use Rattle.job.specs.Forms.{
+  Form,
+  seeds,
+  sigma,
+  shot,
+  noForm,
+  seedsForm,
+  sigmaForm,
+  shotForm,
+  fill,
+  marks,
+  separator,
+  isEmpty,
+  readLine,
+  printLine,
+  Printable,
+}
 use Rattle.job.specs.Lines.{before, lines}
 use Rattle.job.specs.Listing.{header, endRow}
-use Rattle.job.specs.Refusals.{formless, misplaced, tooMany, beyond, unfit, refusal}
+use Rattle.job.specs.Refusals.{formless, refusal}
 use Rattle.job.specs.Job.{Outcome, refused, listed, onto, outcome, start, listingOf, settingAfter, printed}
 use Rattle.job.specs.Theorems.{textOf, rows, Accepts, noFeed}
 use Rattle.job.specs.declared.turn.Setting.{Setting}
 use Rattle.job.proofs.Fields.{plain, allPlain, fill-mark, fill-byte, marks-mark, marks-byte}
-use Rattle.job.proofs.RoundTrip.{all-weaker, plains, no-plains, decimal-plain, name-plain, all-marks, read-printed, printed-read}
+use Rattle.job.proofs.RoundTrip.{
+  all-weaker,
+  plains,
+  no-plains,
+  decimal-plain,
+  name-plain,
+  all-marks,
+  read-printed,
+  printed-read,
+}
 use Rattle.job.proofs.Going.{outcome-yes, outcome-no}
 
 -- bytes without a line feed go before the first line
@@ -69,14 +94,17 @@ unfolding all
 one-feed f d = rw d
 
 -- a filled form is one line
-line-fill : (form : List ℕ) (vs : List (List ℕ)) (rest : List ℕ) → feedForm form ≡ true → allPlain vs ≡ true → length vs ≡ marks form
+line-fill : (form : List ℕ) (vs : List (List ℕ)) (rest : List ℕ) → feedForm form ≡ true → allPlain vs ≡ true → length vs ≡
+    marks form
     → lines (fill form vs ++ rest) ≡ fill form vs ∷ lines rest
 unfolding feedForm allPlain
 line-fill [] vs rest w p n = absurd (false≢true w)
 line-fill (f ∷ form) vs rest w p n = split (line-fill form) (eqb f 10) refl (eqb f 35) refl vs p n w
   where
-    split : ((ws : List (List ℕ)) (rest : List ℕ) → feedForm form ≡ true → allPlain ws ≡ true → length ws ≡ marks form → lines (fill form ws ++ rest) ≡ fill form ws ∷ lines rest)
-        → (a : Bool) → eqb f 10 ≡ a → (b : Bool) → eqb f 35 ≡ b → (vs : List (List ℕ)) → allPlain vs ≡ true → length vs ≡ marks (f ∷ form)
+    split : ((ws : List (List ℕ)) (rest : List ℕ) → feedForm form ≡ true → allPlain ws ≡ true → length ws ≡ marks form →
+        lines (fill form ws ++ rest) ≡ fill form ws ∷ lines rest)
+        → (a : Bool) → eqb f 10 ≡ a → (b : Bool) → eqb f 35 ≡ b → (vs : List (List ℕ)) → allPlain vs ≡ true → length vs ≡
+        marks (f ∷ form)
         → cond a (isEmpty form) (feedForm form) ≡ true → lines (fill (f ∷ form) vs ++ rest) ≡ fill (f ∷ form) vs ∷ lines rest
     split ih true d b e vs p n w = end-feed f form vs rest d w
     split ih false d true e [] p n w = let m = rw (marks-mark f form e) at n in absurd (omega (arith, m))
@@ -87,7 +115,8 @@ line-fill (f ∷ form) vs rest w p n = split (line-fill form) (eqb f 10) refl (e
         (lines-prefix v (fill form vs ++ rest) (fill form vs) (lines rest) (plain-feed v (t .0)) (ih vs rest w (t .1) m))
     split ih false d false e vs p n w =
         rw (fill-byte f form vs e)
-        (lines-prefix (f ∷ []) (fill form vs ++ rest) (fill form vs) (lines rest) (one-feed f d) (ih vs rest w p (n ∙ marks-byte f form e)))
+        (lines-prefix (f ∷ []) (fill form vs ++ rest) (fill form vs) (lines rest) (one-feed f d)
+        (ih vs rest w p (n ∙ marks-byte f form e)))
 
 all-feed : (feedForm seedsForm ≡ true) × (feedForm sigmaForm ≡ true) × (feedForm shotForm ≡ true)
 unfolding feedForm isEmpty seedsForm sigmaForm shotForm
@@ -102,10 +131,12 @@ line-printed (seeds a0 a1 a2 b0 b1 b2) rest h =
     (plains _ _ (decimal-plain b0) (plains _ _ (decimal-plain b1) (plains _ _ (decimal-plain b2) no-plains))))))
     (all-marks .0)
 line-printed (sigma d b) rest h =
-    line-fill sigmaForm (decimal d ∷ decimal b ∷ []) rest (all-feed .1) (plains _ _ (decimal-plain d) (plains _ _ (decimal-plain b) no-plains)) (all-marks .1)
+    line-fill sigmaForm (decimal d ∷ decimal b ∷ []) rest (all-feed .1)
+    (plains _ _ (decimal-plain d) (plains _ _ (decimal-plain b) no-plains)) (all-marks .1)
 line-printed (shot from to d b) rest h =
     line-fill shotForm (from ∷ to ∷ decimal d ∷ decimal b ∷ []) rest (all-feed .2)
-    (plains _ _ (name-plain from (h .0)) (plains _ _ (name-plain to (h .1)) (plains _ _ (decimal-plain d) (plains _ _ (decimal-plain b) no-plains))))
+    (plains _ _ (name-plain from (h .0))
+    (plains _ _ (name-plain to (h .1)) (plains _ _ (decimal-plain d) (plains _ _ (decimal-plain b) no-plains))))
     (all-marks .2)
 line-printed noForm rest h = absurd h
 
@@ -212,7 +243,8 @@ outcome-says (l ∷ ls) k s bytes e = go (λ t r. outcome-says ls (k + 1) t r) (
     x : Form
     x = readLine l
 
-    more : (refusal k x ≡ 0) → (r : List ℕ) → bytes ≡ printed x s ++ r → Says (k + 1) (settingAfter x s) ls r → Says k s (l ∷ ls) bytes
+    more : (refusal k x ≡ 0) → (r : List ℕ) → bytes ≡ printed x s ++ r → Says (k + 1) (settingAfter x s) ls r → Says k s
+        (l ∷ ls) bytes
     more h r f ih =
         let p = printed-read l (not-noForm k x h) in
         let i : k + 1 + length (ih .forms) - 3 ≡ k + suc (length (ih .forms)) - 3 = omega arith in
@@ -221,18 +253,24 @@ outcome-says (l ∷ ls) k s bytes e = go (λ t r. outcome-says ls (k + 1) t r) (
           accepts = (p .0, h, ih .accepts);
           enough = omega (arith, ih .enough);
           printed-lines = ap₂ (λ (a : List ℕ) (b : List (List ℕ)). a ∷ b) (p .1) (ih .printed-lines);
-          listing = f ∙ ap (λ (m : List ℕ). printed x s ++ m) (ih .listing) ∙ sym (append-assoc (printed x s) (rows (settingAfter x s) (ih .forms)) _) ∙ ap (λ (n : ℕ). printed x s ++ rows (settingAfter x s) (ih .forms) ++ endRow n) i;
+          listing = f ∙ ap (λ (m : List ℕ). printed x s ++ m) (ih .listing) ∙ sym
+              (append-assoc (printed x s) (rows (settingAfter x s) (ih .forms)) _) ∙ ap
+              (λ (n : ℕ). printed x s ++ rows (settingAfter x s) (ih .forms) ++ endRow n) i;
         }
 
-    go : ((t : Setting) (r : List ℕ) → outcome (k + 1) t ls ≡ listed r → Says (k + 1) t ls r) → (b : Bool) → eqb (refusal k x) 0 ≡ b → Says k s (l ∷ ls) bytes
+    go : ((t : Setting) (r : List ℕ) → outcome (k + 1) t ls ≡ listed r → Says (k + 1) t ls r) → (b : Bool) → eqb
+        (refusal k x) 0 ≡ b → Says k s (l ∷ ls) bytes
     go ih true t =
         let h = eqb-true (refusal k x) 0 t in
-        let (r, p, q) = onto-listed (printed x s) (outcome (k + 1) (settingAfter x s) ls) bytes (sym (outcome-yes k s l ls h) ∙ e) in
+        let (r, p, q) = onto-listed (printed x s) (outcome (k + 1) (settingAfter x s) ls) bytes
+        (sym (outcome-yes k s l ls h) ∙ e) in
         more h r q (ih (settingAfter x s) r p)
-    go ih false t = absurd (refused-not-listed (refusal k x) k bytes (sym (outcome-no k s l ls (eqb-false (refusal k x) 0 t)) ∙ e))
+    go ih false t = absurd (refused-not-listed (refusal k x) k bytes
+        (sym (outcome-no k s l ls (eqb-false (refusal k x) 0 t)) ∙ e))
 
 pub listed-says : (text bytes : List ℕ) → listingOf text ≡ listed bytes
-    → (xs : List Form) × Accepts 1 xs × (2 ≤ length xs) × (textOf xs ≡ text) × (bytes ≡ header ++ (rows start xs ++ endRow (length xs - 2)))
+    → (xs : List Form) × Accepts 1 xs × (2 ≤ length xs) × (textOf xs ≡ text) ×
+    (bytes ≡ header ++ (rows start xs ++ endRow (length xs - 2)))
 unfolding listingOf
 listed-says text bytes e =
     let (r, p, q) = onto-listed header (outcome 1 start (lines text)) bytes e in

@@ -1,9 +1,9 @@
 -- From the fields of a line to the line once read.
-use Prim.Native.Nat.{ℕ, zero, suc, _+_, _≤_, _<_}
+use Prim.Native.Nat.{ℕ, _+_, _<_}
 use native.Mathlib.Omega.{arith}
-use mathlib.Core.Path.{_≡_, refl, sym, ap, _∙_}
-use mathlib.Core.Bool.{Bool, true, false, cond, _&&_, _||_, and-false, and-true, false≢true, true≢false}
-use mathlib.Core.List.{List, [], _∷_, _++_, map}
+use mathlib.Core.Path.{_≡_, sym, ap, _∙_}
+use mathlib.Core.Bool.{Bool, true, false, cond, _&&_, false≢true}
+use mathlib.Core.List.{List, []}
 use mathlib.Core.Option.{some, none}
 use lib.Dec.{leb·zero}
 use lib.ListN.{length, getD, take, List·getD-map}
@@ -12,7 +12,6 @@ use Rattle.job.specs.Numbers.{name, numeral, value}
 use Rattle.job.specs.Forms.{cut, marks, seeds, sigma, shot, noForm, seedsOf, sigmaOf, shotOf}
 use Rattle.job.specs.Answers.{Spells, SpellThree, partOf, partAt, fieldsAt, fieldsOf}
 use Rattle.job.specs.declared.line.Cutting.{Cutting}
-use Rattle.job.specs.declared.line.Three.{Three}
 use Rattle.job.specs.declared.field.Numeral.{Numeral}
 
 -- what an accepted and a refused field say
@@ -80,10 +79,17 @@ module _ (line : List ℕ) (c : Cutting) where
   sigma-at = rw (field-place 2 0 (omega arith), field-place 2 1 (omega arith))
 
   pub shot-at : shotOf (fieldsAt line (take 4 (c .places)))
-      ≡ cond (name (p 0) && name (p 1) && numeral (p 2) && numeral (p 3)) (shot (p 0) (p 1) (value 0 (p 2)) (value 0 (p 3))) noForm
+      ≡ cond (name (p 0) && name (p 1) && numeral (p 2) && numeral (p 3)) (shot (p 0) (p 1) (value 0 (p 2)) (value 0 (p 3)))
+      noForm
   unfolding shotOf
   shot-at =
-      rw (field-place 4 0 (omega arith), field-place 4 1 (omega arith), field-place 4 2 (omega arith), field-place 4 3 (omega arith))
+      rw (
+        field-place 4 0 (omega arith),
+        field-place 4 1 (omega arith),
+        field-place 4 2 (omega arith),
+        field-place 4 3
+            (omega arith),
+      )
 
 -- what a cutting found, by its form
 module _ (form line : List ℕ) (c : Cutting) (e : cut form line ≡ fieldsOf line (marks form) c) where

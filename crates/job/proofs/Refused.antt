@@ -1,9 +1,9 @@
 -- The number of a line, by what is known of it.
-use Prim.Native.Nat.{ℕ, _+_, _≤_, _<_}
-use mathlib.Core.Path.{_≡_, refl, sym, ap, _∙_}
-use mathlib.Core.Bool.{Bool, true, false, cond, not, _||_, true≢false}
+use Prim.Native.Nat.{ℕ, _≤_, _<_}
+use mathlib.Core.Path.{_≡_, refl}
+use mathlib.Core.Bool.{Bool, true, false, not, _||_, true≢false}
 use mathlib.Core.List.{List}
-use lib.Dec.{ltb, eqb}
+use lib.Dec.{ltb}
 use borrow.Author.Tests.{lt-ltb, le-ltb, eq-eqb, ne-eqb, ltb-false}
 use Rattle.streams.specs.Streams.{seedOf}
 use Rattle.job.specs.Forms.{Form, seeds, sigma, shot, noForm}
@@ -49,7 +49,8 @@ module _ (k a0 a1 a2 b0 b1 b2 : ℕ) where
   within e f = rw (e, f)
 
 -- three numbers that are not beyond their range
-pub three-within : (a b c : ℕ) → ltb 4294967295 a || ltb 4294967295 b || ltb 4294967295 c ≡ false → (a ≤ 4294967295) × (b ≤ 4294967295) × (c ≤ 4294967295)
+pub three-within : (a b c : ℕ) → ltb 4294967295 a || ltb 4294967295 b || ltb 4294967295 c ≡ false → (a ≤ 4294967295) ×
+    (b ≤ 4294967295) × (c ≤ 4294967295)
 three-within a b c h =
     let t = or-false-parts (ltb 4294967295 a || ltb 4294967295 b) (ltb 4294967295 c) h in
     let u = or-false-parts (ltb 4294967295 a) (ltb 4294967295 b) (t .0) in

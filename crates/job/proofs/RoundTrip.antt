@@ -2,24 +2,61 @@
 -- that would be printed.
 use Prim.Native.Nat.{ℕ, zero, suc, _+_, _-_, _*_, _^_, _≤_, _<_}
 use native.Mathlib.Omega.{arith}
-use native.Mathlib.Nat.{mul-le-mul-right, mul-le-mul, pow-le-pow-right, pow-succ', lt-of-lt-of-le, le-trans}
+use native.Mathlib.Nat.{mul-le-mul-right, pow-le-pow-right, pow-succ'}
 use mathlib.Core.Path.{_≡_, refl, sym, ap, _∙_}
 use mathlib.Core.Bool.{Bool, true, false, cond, not, _&&_, _||_, and-eq-true-iff, false≢true}
-use mathlib.Core.List.{List, [], _∷_, _++_}
+use mathlib.Core.List.{List, [], _∷_}
 use mathlib.Core.Option.{Option, some, none}
 use lib.Dec.{eqb, leb, ltb}
 use lib.ListN.{length, getD, drop, drop-of-length-le}
 use lib.Seq.{drop-cons}
 use borrow.Author.Tests.{ne-eqb, leb-true}
 use Rattle.job.specs.Numbers.{all, digit, letter, letterOrDigit, name, numeral, value, decimal}
-use Rattle.job.specs.Forms.{Form, seeds, sigma, shot, noForm, seedsForm, sigmaForm, shotForm, fill, marks, separator, cut, startsWith, field, isEmpty, seedsOf, sigmaOf, shotOf, orElse, readLine, printLine, Printable}
+use Rattle.job.specs.Forms.{
+  Form,
+  seeds,
+  sigma,
+  shot,
+  noForm,
+  seedsForm,
+  sigmaForm,
+  shotForm,
+  fill,
+  marks,
+  separator,
+  cut,
+  seedsOf,
+  sigmaOf,
+  shotOf,
+  readLine,
+  printLine,
+  Printable,
+}
 use Rattle.job.proofs.Decimal.{numeral-decimal, value-decimal, decimal-value, decimal-digits, numeral-is, digit-range}
-use Rattle.job.proofs.Fields.{plain, allPlain, formed, startsSeparate, cut-byte, fill-byte, starts-same, starts-other, cut-fill, fill-cut, cut-count}
+use Rattle.job.proofs.Fields.{
+  plain,
+  allPlain,
+  formed,
+  startsSeparate,
+  cut-byte,
+  fill-byte,
+  starts-same,
+  starts-other,
+  cut-fill,
+  fill-cut,
+  cut-count,
+}
 
 -- letters and digits are no separators
 above : (x : ℕ) → 48 ≤ x → not (separator x) ≡ true
 unfolding separator
-above x h = rw (ne-eqb x 10 (λ e. omega (arith, e)), ne-eqb x 32 (λ e. omega (arith, e)), ne-eqb x 40 (λ e. omega (arith, e)), ne-eqb x 41 (λ e. omega (arith, e)))
+above x h = rw (
+  ne-eqb x 10 (λ e. omega (arith, e)),
+  ne-eqb x 32 (λ e. omega (arith, e)),
+  ne-eqb x 40
+      (λ e. omega (arith, e)),
+  ne-eqb x 41 (λ e. omega (arith, e)),
+)
 
 pub all-weaker : (p q : ℕ → Bool) → ((x : ℕ) → p x ≡ true → q x ≡ true) → (l : List ℕ) → all p l ≡ true → all q l ≡ true
 unfolding all
@@ -40,7 +77,8 @@ letter-above x h = first (leb 65 x) refl (leb 97 x) refl h
     low true q h = let t = leb-true 97 x q in omega arith
     low false q h = last (leb 48 x) refl h
 
-    first : (a : Bool) → leb 65 x ≡ a → (b : Bool) → leb 97 x ≡ b → a && leb x 90 || b && leb x 122 || leb 48 x && leb x 57 ≡ true → 48 ≤ x
+    first : (a : Bool) → leb 65 x ≡ a → (b : Bool) → leb 97 x ≡ b → a && leb x 90 || b && leb x 122 || leb 48 x && leb x 57 ≡
+        true → 48 ≤ x
     first true p b q h = let t = leb-true 65 x p in omega arith
     first false p true q h = let t = leb-true 97 x q in omega arith
     first false p false q h = last (leb 48 x) refl h
@@ -68,7 +106,8 @@ module _ (l : List ℕ) where
   unfolding readLine
   read-sigma vs p e = rw (p, e, readLine)
 
-  pub read-shot : (vs : List (List ℕ)) → cut seedsForm l ≡ none → cut sigmaForm l ≡ none → cut shotForm l ≡ some vs → readLine l ≡ shotOf vs
+  pub read-shot : (vs : List (List ℕ)) → cut seedsForm l ≡ none → cut sigmaForm l ≡ none → cut shotForm l ≡ some vs →
+      readLine l ≡ shotOf vs
   unfolding readLine
   read-shot vs p q e = rw (p, q, e, readLine)
 
@@ -126,7 +165,20 @@ read-printed (seeds a0 a1 a2 b0 b1 b2) h =
     plains _ _ (decimal-plain a0) (plains _ _ (decimal-plain a1) (plains _ _ (decimal-plain a2)
     (plains _ _ (decimal-plain b0) (plains _ _ (decimal-plain b1) (plains _ _ (decimal-plain b2) no-plains))))) in
     read-seeds (fill seedsForm vs) vs (cut-fill seedsForm vs (all-formed .0) p (all-marks .0))
-    ∙ rw (numeral-decimal a0 (h .0), numeral-decimal a1 (h .1), numeral-decimal a2 (h .2), numeral-decimal b0 (h .3), numeral-decimal b1 (h .4), numeral-decimal b2 (h .5), value-decimal a0, value-decimal a1, value-decimal a2, value-decimal b0, value-decimal b1, value-decimal b2)
+    ∙ rw (
+      numeral-decimal a0 (h .0),
+      numeral-decimal a1 (h .1),
+      numeral-decimal a2 (h .2),
+      numeral-decimal b0 (h .3),
+      numeral-decimal b1 (h .4),
+      numeral-decimal b2 (h .5),
+      value-decimal a0,
+      value-decimal a1,
+      value-decimal a2,
+      value-decimal b0,
+      value-decimal b1,
+      value-decimal b2,
+    )
 read-printed (sigma d b) h =
     let vs : List (List ℕ) = decimal d ∷ decimal b ∷ [] in
     let p : allPlain vs ≡ true = plains _ _ (decimal-plain d) (plains _ _ (decimal-plain b) no-plains) in
@@ -135,7 +187,8 @@ read-printed (sigma d b) h =
 read-printed (shot from to d b) h =
     let vs : List (List ℕ) = from ∷ to ∷ decimal d ∷ decimal b ∷ [] in
     let p : allPlain vs ≡ true =
-    plains _ _ (name-plain from (h .0)) (plains _ _ (name-plain to (h .1)) (plains _ _ (decimal-plain d) (plains _ _ (decimal-plain b) no-plains))) in
+    plains _ _ (name-plain from (h .0))
+    (plains _ _ (name-plain to (h .1)) (plains _ _ (decimal-plain d) (plains _ _ (decimal-plain b) no-plains))) in
     read-shot (fill shotForm vs) vs (seeds-shot vs) (sigma-shot vs) (cut-fill shotForm vs (all-formed .2) p (all-marks .2))
     ∙ rw (h .0, h .1, numeral-decimal d (h .2), numeral-decimal b (h .3), value-decimal d, value-decimal b)
 read-printed noForm h = absurd h
@@ -147,7 +200,8 @@ value-below n (x ∷ xs) h =
     let t = and-eq-true-iff (digit x) (all digit xs) .0 h in
     let r = digit-range x (t .0) in
     let ih = value-below (n * 10 + (x - 48)) xs (t .1) in
-    let m : (n * 10 + (x - 48) + 1) * 10 ^ length xs ≤ (n * 10 + 10) * 10 ^ length xs = mul-le-mul-right (10 ^ length xs) (omega arith) in
+    let m : (n * 10 + (x - 48) + 1) * 10 ^ length xs ≤ (n * 10 + 10) * 10 ^ length xs = mul-le-mul-right (10 ^ length xs)
+    (omega arith) in
     rw (pow-succ' 10 (length xs)) (omega arith)
 
 pub numeral-below : (l : List ℕ) → numeral l ≡ true → value 0 l < 10 ^ 10
@@ -164,11 +218,14 @@ places vs j (suc n) = getD vs j [] ∷ places vs (suc j) n
 
 drop-places : (vs : List (List ℕ)) (n j : ℕ) → length vs ≡ n + j → drop j vs ≡ places vs j n
 drop-places vs zero j h = drop-of-length-le vs {i = j} (omega (arith, h))
-drop-places vs (suc n) j h = drop-cons vs j [] (omega (arith, h)) ∙ ap (λ (l : List (List ℕ)). getD vs j [] ∷ l) (drop-places vs n (suc j) (omega (arith, h)))
+drop-places vs (suc n) j h = drop-cons vs j [] (omega (arith, h)) ∙ ap (λ (l : List (List ℕ)). getD vs j [] ∷ l)
+    (drop-places vs n (suc j) (omega (arith, h)))
 
 -- the fields that a form cut, place by place, give the line back
-fill-places : (form l : List ℕ) (vs : List (List ℕ)) (n : ℕ) → n ≡ marks form → cut form l ≡ some vs → fill form (places vs 0 n) ≡ l
-fill-places form l vs n k h = ap (λ (ws : List (List ℕ)). fill form ws) (sym (drop-places vs n 0 (omega (arith, cut-count form l vs h)))) ∙ fill-cut form l vs h
+fill-places : (form l : List ℕ) (vs : List (List ℕ)) (n : ℕ) → n ≡ marks form → cut form l ≡ some vs → fill form
+    (places vs 0 n) ≡ l
+fill-places form l vs n k h = ap (λ (ws : List (List ℕ)). fill form ws)
+    (sym (drop-places vs n 0 (omega (arith, cut-count form l vs h)))) ∙ fill-cut form l vs h
 
 -- what was read is printed as the line
 Printed : List ℕ → Form → Type 0
@@ -239,7 +296,8 @@ module _ (l : List ℕ) (vs : List (List ℕ)) where
       x : Form
       x = shot (v 0) (v 1) (value 0 (v 2)) (value 0 (v 3))
 
-      split : (b : Bool) → name (v 0) && name (v 1) && numeral (v 2) && numeral (v 3) ≡ b → (cond b x noForm ≡ noForm → ⊥) → Printed l (cond b x noForm)
+      split : (b : Bool) → name (v 0) && name (v 1) && numeral (v 2) && numeral (v 3) ≡ b → (cond b x noForm ≡ noForm → ⊥) →
+          Printed l (cond b x noForm)
       split false e k = absurd (k refl)
       split true e k =
           let n = four (name (v 0)) (name (v 1)) (numeral (v 2)) (numeral (v 3)) e in (
@@ -255,7 +313,8 @@ printed-read l k = on-seeds (cut seedsForm l) refl
     moved : (x : Form) → readLine l ≡ x → ((x ≡ noForm → ⊥) → Printed l x) → Printed l (readLine l)
     moved x e f = rw e (f (λ t. k (e ∙ t)))
 
-    on-shot : cut seedsForm l ≡ none → cut sigmaForm l ≡ none → (o : Option (List (List ℕ))) → cut shotForm l ≡ o → Printed l (readLine l)
+    on-shot : cut seedsForm l ≡ none → cut sigmaForm l ≡ none → (o : Option (List (List ℕ))) → cut shotForm l ≡ o → Printed l
+        (readLine l)
     on-shot p q (some vs) e = moved (shotOf vs) (read-shot l vs p q e) (shot-read l vs e)
     on-shot p q none e = absurd (k (read-none l p q e))
 

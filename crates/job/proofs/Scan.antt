@@ -1,9 +1,9 @@
 -- One step of a scan over a list by its index: tests, values and fields of what lies ahead.
-use Prim.Native.Nat.{ℕ, suc, _+_, _-_, _*_, _^_, _≤_, _<_}
+use Prim.Native.Nat.{ℕ, _+_, _-_, _*_, _^_, _≤_, _<_}
 use native.Mathlib.Omega.{arith}
 use native.Mathlib.Numerals.{add-one}
 use native.Mathlib.Nat.{pow-suc, pow-le-pow-right}
-use mathlib.Core.Path.{_≡_, refl, sym, ap, _∙_}
+use mathlib.Core.Path.{_≡_, refl, sym, _∙_}
 use mathlib.Core.Bool.{Bool, true, false, cond, not, _&&_, _||_, and-false, and-true, or-true}
 use mathlib.Core.List.{List, [], _∷_}
 use lib.Dec.{leb, ltb, eqb}
@@ -76,7 +76,8 @@ module _ (l : List ℕ) where
 
   pub numeral-zero : 1 < length l → getD l 0 0 ≡ 48 → false ≡ numeral l
   unfolding numeral
-  numeral-zero h e = rw (ne-eqb (length l) 1 (λ t. omega (arith, t)), e) (sym (and-false (ltb 0 (length l) && leb (length l) 10 && all digit l)))
+  numeral-zero h e = rw (ne-eqb (length l) 1 (λ t. omega (arith, t)), e)
+      (sym (and-false (ltb 0 (length l) && leb (length l) 10 && all digit l)))
 
   pub numeral-digits : 0 < length l → length l ≤ 10 → (1 < length l → getD l 0 0 ≡ 48 → ⊥) → all digit l ≡ numeral l
   unfolding numeral

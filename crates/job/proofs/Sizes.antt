@@ -1,15 +1,15 @@
 -- The size and the sign of a sample, as the machine takes them from 16 bits by way of 32.
-use Prim.Native.Nat.{ℕ, zero, suc, _+_, _-_, _*_, _/_, _%_, _^_, _≤_, _<_}
+use Prim.Native.Nat.{ℕ, suc, _+_, _-_, _*_, _%_, _≤_}
 use native.Mathlib.Omega.{arith}
 use native.Mathlib.Nat.{zero-add, mul-le-mul}
-use mathlib.Core.Path.{_≡_, refl, sym, ap, subst, _∙_}
-use mathlib.Core.Bool.{Bool, true, false, false≢true, true≢false}
+use mathlib.Core.Path.{_≡_, refl, sym, ap, _∙_}
+use mathlib.Core.Bool.{true, false, false≢true, true≢false}
 use lib.IntN.{ℤ, pos, negsuc, natAbs, _-ℤ_}
 use lib.Dec.{leb·zero}
-use lib.Signed.{mag, ltZ, leZ, nonNeg}
+use lib.Signed.{ltZ, leZ}
 use mir.Syntax.{w16, w32}
-use mir.Val.{Fits, SFits, toZ, ofZ}
-use mir.Facts.{sfits-widen, toZ-ofZ, toZ-pos}
+use mir.Val.{SFits, toZ, ofZ}
+use mir.Facts.{sfits-widen, toZ-ofZ}
 use borrow.Author.Tests.{le-ltb}
 use Rattle.job.specs.Rounding.{noiseSize, noisyDistance, noisyBearing}
 
@@ -57,7 +57,8 @@ noise-small sigma size h k = mul-le-mul h k
 
 -- the noise of a sample that is at least 0, and of one below 0
 unfoldable pub Plus : ℕ → ℕ → ℤ → Type 0
-Plus sigma x z = (noisyDistance sigma x z ≡ x + noiseSize sigma (natAbs z)) × (noisyBearing sigma x z ≡ (x + noiseSize sigma (natAbs z)) % 65536)
+Plus sigma x z = (noisyDistance sigma x z ≡ x + noiseSize sigma (natAbs z)) ×
+    (noisyBearing sigma x z ≡ (x + noiseSize sigma (natAbs z)) % 65536)
 
 unfoldable pub Minus : ℕ → ℕ → ℤ → Type 0
 Minus sigma x z =

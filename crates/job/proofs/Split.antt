@@ -1,5 +1,5 @@
 -- A text is its first line and the lines of the rest.
-use Prim.Native.Nat.{ℕ, zero, suc, _+_, _-_, _≤_, _<_}
+use Prim.Native.Nat.{ℕ, _+_, _-_, _≤_, _<_}
 use native.Mathlib.Omega.{arith}
 use mathlib.Core.Path.{_≡_, refl, sym, ap, _∙_}
 use mathlib.Core.Bool.{Bool, true, false, cond}
@@ -23,7 +23,8 @@ first-rest (x ∷ l) = step (eqb x 10) (first-rest l)
 
 pub first-take : (l : List ℕ) → take (length (firstLine l)) l ≡ firstLine l
 first-take l =
-    ap (λ (m : List ℕ). take (length (firstLine l)) m) (sym (first-rest l)) ∙ take-append-seam (firstLine l) (drop (length (firstLine l)) l)
+    ap (λ (m : List ℕ). take (length (firstLine l)) m) (sym (first-rest l)) ∙ take-append-seam (firstLine l)
+    (drop (length (firstLine l)) l)
 
 pub first-length : (l : List ℕ) → length (firstLine l) ≤ length l
 first-length l = omega (arith, simp length-append at (ap length (first-rest l)))
@@ -41,13 +42,15 @@ pub lines-first : (x : ℕ) (l : List ℕ) → lines (x ∷ l) ≡ firstLine (x 
 unfolding lines firstLine before
 lines-first x [] = step (eqb x 10)
   where
-    step : (b : Bool) → cond b ((x ∷ []) ∷ lines []) (before x (lines [])) ≡ cond b (x ∷ []) (x ∷ firstLine []) ∷ lines (drop (length (cond b (x ∷ []) (x ∷ firstLine []))) (x ∷ []))
+    step : (b : Bool) → cond b ((x ∷ []) ∷ lines []) (before x (lines [])) ≡ cond b (x ∷ []) (x ∷ firstLine []) ∷ lines
+        (drop (length (cond b (x ∷ []) (x ∷ firstLine []))) (x ∷ []))
     step true = refl
     step false = refl
 lines-first x (y ∷ l) = step (eqb x 10) (lines-first y l)
   where
     step : (b : Bool) → lines (y ∷ l) ≡ firstLine (y ∷ l) ∷ lines (drop (length (firstLine (y ∷ l))) (y ∷ l))
-        → cond b ((x ∷ []) ∷ lines (y ∷ l)) (before x (lines (y ∷ l))) ≡ cond b (x ∷ []) (x ∷ firstLine (y ∷ l)) ∷ lines (drop (length (cond b (x ∷ []) (x ∷ firstLine (y ∷ l)))) (x ∷ y ∷ l))
+        → cond b ((x ∷ []) ∷ lines (y ∷ l)) (before x (lines (y ∷ l))) ≡ cond b (x ∷ []) (x ∷ firstLine (y ∷ l)) ∷ lines
+        (drop (length (cond b (x ∷ []) (x ∷ firstLine (y ∷ l)))) (x ∷ y ∷ l))
     step true ih = refl
     step false ih = ap (λ (m : List (List ℕ)). before x m) ih
 

@@ -1,12 +1,12 @@
 -- What is known of a line once it is read, and what a line that prints nothing leaves in the buffer.
-use Prim.Native.Nat.{ℕ, _+_, _≤_}
+use Prim.Native.Nat.{ℕ, _≤_}
 use native.Mathlib.Omega.{arith}
 use native.Mathlib.Nat.{add-zero}
-use mathlib.Core.Path.{_≡_, refl, sym, ap, subst, _∙_}
+use mathlib.Core.Path.{_≡_, refl, sym, subst, _∙_}
 use mathlib.Core.Bool.{Bool, true, false, cond, _&&_, and-eq-true-iff}
-use mathlib.Core.List.{List, [], _++_, append-nil}
+use mathlib.Core.List.{List, [], append-nil}
 use lib.Dec.{leb, ltb, eqb}
-use lib.ListN.{length, take, drop, take-append-drop}
+use lib.ListN.{length, take, take-append-drop}
 use borrow.Author.Tests.{leb-true}
 use Rattle.job.specs.Numbers.{all, letterOrDigit, name}
 use Rattle.job.specs.Forms.{Form, shot, noForm, readLine, Printable}

@@ -1,13 +1,13 @@
 -- The theorems of specs/Theorems.antt.
-use Prim.Native.Nat.{ℕ, zero, suc, _+_, _-_, _*_, _/_, _%_, _≤_, _<_}
+use Prim.Native.Nat.{ℕ, suc, _+_, _-_, _*_, _%_, _≤_, _<_}
 use native.Mathlib.Omega.{arith}
 use mathlib.Core.Path.{_≡_, refl, sym, ap, _∙_}
 use mathlib.Core.Bool.{Bool, true, false, cond}
-use mathlib.Core.List.{List, [], _∷_, _++_}
+use mathlib.Core.List.{List, [], _∷_}
 use lib.Dec.{eqb, ltb}
 use lib.IntN.{ℤ, pos, negsuc}
 use lib.ListN.{length, length-append}
-use borrow.Author.Tests.{eqb-true, eqb-false, ltb-false, le-leb}
+use borrow.Author.Tests.{eqb-true, eqb-false, le-leb}
 use Rattle.job.specs.Forms.{Form, readLine}
 use Rattle.job.specs.Lines.{lines}
 use Rattle.job.specs.Listing.{header, endRow}
@@ -19,9 +19,9 @@ use Rattle.job.specs.declared.turn.Setting.{Setting}
 use Rattle.job.proofs.Decimal.{numeral-decimal, value-decimal, decimal-value, decimal-head, decimal-length}
 use Rattle.job.proofs.RoundTrip.{read-printed, printed-read}
 use Rattle.job.proofs.Writing.{end-length}
-use Rattle.job.proofs.Bounds.{Steps, steps}
+use Rattle.job.proofs.Bounds.{steps}
 use Rattle.job.proofs.Going.{outcome-yes, outcome-no, header-length}
-use Rattle.job.proofs.Answered.{job-short, job-long}
+use Rattle.job.proofs.Answered.{job-short}
 use Rattle.job.proofs.Jobs.{line-first, line-last, listed-lines, listed-says, onto-listed, refused-not-listed, bytes-same}
 
 -- ---- the noise
@@ -30,7 +30,8 @@ nearest : (sigma size q : ℕ) → 2048 * q ≤ sigma * size + 1024 → sigma * 
 unfolding noiseSize
 nearest sigma size q h k = omega arith
 
-rounded : (sigma size : ℕ) → (2048 * noiseSize sigma size ≤ sigma * size + 1024) × (sigma * size + 1024 < 2048 * noiseSize sigma size + 2048)
+rounded : (sigma size : ℕ) → (2048 * noiseSize sigma size ≤ sigma * size + 1024) ×
+    (sigma * size + 1024 < 2048 * noiseSize sigma size + 2048)
 unfolding noiseSize
 rounded sigma size = (omega arith, omega arith)
 
@@ -75,21 +76,30 @@ outcome-short [] k s bytes h sd sb e = go (ltb k 3) e
     go false e = omega (arith, end-short k h, ap length (bytes-same (endRow (k - 3)) bytes e))
 outcome-short (l ∷ ls) k s bytes h sd sb e = go (λ t r. outcome-short ls (k + 1) t r) (eqb (refusal k (readLine l)) 0) refl
   where
-    go : ((t : Setting) (r : List ℕ) → k + 1 ≤ 503 → t .distance ≤ 1000 → t .bearing ≤ 1000 → outcome (k + 1) t ls ≡ listed r → length r + 40 * (k + 1) ≤ 20128)
+    go : ((t : Setting) (r : List ℕ) → k + 1 ≤ 503 → t .distance ≤ 1000 → t .bearing ≤ 1000 → outcome (k + 1) t ls ≡ listed r
+        → length r + 40 * (k + 1) ≤ 20128)
         → (b : Bool) → eqb (refusal k (readLine l)) 0 ≡ b → length bytes + 40 * k ≤ 20128
     go ih true t =
         let z = eqb-true (refusal k (readLine l)) 0 t in
         let p = steps k l s sd sb z in
-        let (r, q, f) = onto-listed (printed (readLine l) s) (outcome (k + 1) (settingAfter (readLine l) s) ls) bytes (sym (outcome-yes k s l ls z) ∙ e) in
+        let (r, q, f) = onto-listed (printed (readLine l) s) (outcome (k + 1) (settingAfter (readLine l) s) ls) bytes
+        (sym (outcome-yes k s l ls z) ∙ e) in
         let i = ih (settingAfter (readLine l) s) r (omega (arith, p .line)) (p .distance) (p .bearing) q in
         omega (arith, i, p .row, ap length f, length-append (printed (readLine l) s) r)
-    go ih false t = absurd (refused-not-listed (refusal k (readLine l)) k bytes (sym (outcome-no k s l ls (eqb-false (refusal k (readLine l)) 0 t)) ∙ e))
+    go ih false t = absurd (refused-not-listed (refusal k (readLine l)) k bytes
+        (sym (outcome-no k s l ls (eqb-false (refusal k (readLine l)) 0 t)) ∙ e))
 
 listing-short : (text bytes : List ℕ) → listingOf text ≡ listed bytes → length bytes ≤ 20480
 unfolding listingOf start
 listing-short text bytes e =
     let (r, q, f) = onto-listed header (outcome 1 start (lines text)) bytes e in
-    omega (arith, outcome-short (lines text) 1 start r (omega arith) (omega arith) (omega arith) q, ap length f, length-append header r, header-length)
+    omega (
+      arith,
+      outcome-short (lines text) 1 start r (omega arith) (omega arith) (omega arith) q,
+      ap length f,
+      length-append header r,
+      header-length,
+    )
 
 -- ---- from a job to its listing
 
@@ -136,7 +146,8 @@ outcome-small [] k s = go (ltb k 3)
 outcome-small (l ∷ ls) k s = go (outcome-small ls (k + 1) (settingAfter (readLine l) s)) (eqb (refusal k (readLine l)) 0)
   where
     go : SmallNumber (outcome (k + 1) (settingAfter (readLine l) s) ls) → (b : Bool)
-        → SmallNumber (cond b (onto (printed (readLine l) s) (outcome (k + 1) (settingAfter (readLine l) s) ls)) (refused (refusal k (readLine l)) k))
+        → SmallNumber (cond b (onto (printed (readLine l) s) (outcome (k + 1) (settingAfter (readLine l) s) ls))
+        (refused (refusal k (readLine l)) k))
     go ih true = small-onto (printed (readLine l) s) (outcome (k + 1) (settingAfter (readLine l) s) ls) ih
     go ih false = refusal-small k (readLine l)
 

@@ -1,18 +1,30 @@
 -- Bytes written into a buffer: one write after another, and what it leaves alone.
-use Prim.Native.Nat.{ℕ, zero, suc, _+_, _-_, _*_, _/_, _%_, _^_, _≤_, _<_}
+use Prim.Native.Nat.{ℕ, suc, _+_, _-_, _/_, _%_, _≤_, _<_}
 use native.Mathlib.Omega.{arith}
 use native.Mathlib.Numerals.{add-one}
 use mathlib.Core.Path.{_≡_, refl, sym, ap, _∙_}
 use mathlib.Core.List.{List, [], _∷_, _++_, append-assoc}
-use lib.ListN.{length, getD, take, drop, set, length-append, length-set, length-drop}
-use lib.Seq.{take-all, paste, paste-zero, paste-suc, length-paste, take-paste, drop-paste, take-length, set-split, drop-drop, drop-set-lt, drop-cons, getD-set-same}
+use lib.ListN.{length, take, drop, set, length-append, length-set, length-drop}
+use lib.Seq.{
+  take-all,
+  paste,
+  length-paste,
+  take-paste,
+  drop-paste,
+  take-length,
+  set-split,
+  drop-drop,
+  drop-set-lt,
+  drop-cons,
+  getD-set-same,
+}
 use Rattle.job.specs.Numbers.{decimal}
 use Rattle.job.specs.Ascii.{ascii}
 use Rattle.job.specs.Forms.{fill}
 use Rattle.job.specs.Listing.{written, shotRow, endRow}
 use Rattle.job.specs.Answers.{SpelledIn}
 use Rattle.job.specs.declared.print.Digits.{Digits}
-use Rattle.job.proofs.Decimal.{decimal-one, decimal-more, decimal-length, decimal-some}
+use Rattle.job.proofs.Decimal.{decimal-one, decimal-more, decimal-length}
 
 pub written-paste : (d : List ℕ) (at : ℕ) (s : List ℕ) → paste d at s (length s) ≡ written d at s
 unfolding written
@@ -39,7 +51,8 @@ written-append d at s t room =
     ∙ ap (λ (l : List ℕ). drop (length t) l) (written-drop d at s h)
     ∙ drop-drop (length t) (at + length s) d
     ∙ ap (λ (n : ℕ). drop n d) {x = at + length s + length t} {y = at + length (s ++ t)} (omega (arith, length-append s t)) in
-    ap (λ (l : List ℕ). l ++ t ++ drop (at + length s + length t) (take at d ++ s ++ drop (at + length s) d)) (written-take d at s h)
+    ap (λ (l : List ℕ). l ++ t ++ drop (at + length s + length t) (take at d ++ s ++ drop (at + length s) d))
+    (written-take d at s h)
     ∙ ap (λ (l : List ℕ). take at d ++ s ++ t ++ l) e
     ∙ ap (λ (l : List ℕ). l ++ drop (at + length (s ++ t)) d) (append-assoc (take at d) s t)
 
@@ -54,8 +67,10 @@ digit-stored l k x h =
     drop-cons (set l k x) k 0 (rw (length-set l k x) h)
     ∙ rw (getD-set-same l k x 0 h, drop-set-lt (suc k) l k x (omega arith), add-one k)
 
-module _ (n rest from : ℕ) (bytes : List ℕ) (size : length bytes ≡ 10) (most : from ≤ 10) (all : decimal n ≡ decimal rest ++ drop from bytes) where
-  pub digit-step : 0 < from → 10 ≤ rest → decimal n ≡ decimal (rest / 10) ++ drop (from - 1) (set bytes (from - 1) (48 + rest % 10))
+module _ (n rest from : ℕ) (bytes : List ℕ) (size : length bytes ≡ 10) (most : from ≤ 10)
+    (all : decimal n ≡ decimal rest ++ drop from bytes) where
+  pub digit-step : 0 < from → 10 ≤ rest → decimal n ≡ decimal (rest / 10) ++ drop (from - 1)
+      (set bytes (from - 1) (48 + rest % 10))
   digit-step h k =
       let e : from - 1 + 1 ≡ from = omega arith in
       all
@@ -71,7 +86,8 @@ length-more n h = ap length (decimal-more n h) ∙ length-append (decimal (n / 1
 
 -- all of the digits, as a part of the bytes
 pub digits-whole : (n : ℕ) (d : Digits) → SpelledIn n d → take (10 - d .from) (drop (d .from) (d .bytes)) ≡ decimal n
-digits-whole n d s = take-all (10 - d .from) (drop (d .from) (d .bytes)) (omega (arith, length-drop (d .from) (d .bytes), s .size)) ∙ s .digits
+digits-whole n d s = take-all (10 - d .from) (drop (d .from) (d .bytes))
+    (omega (arith, length-drop (d .from) (d .bytes), s .size)) ∙ s .digits
 
 -- writes that follow one another, and the place after them
 pub record Put (d : List ℕ) (at : ℕ) (s : List ℕ) (e : List ℕ) (next : ℕ) : Type 0 where
@@ -87,7 +103,8 @@ then d at s e a t f b room p q =
     }
 
 -- what `put_field` and `put_number` promise
-pub put-ended : (d : List ℕ) (at : ℕ) (s : List ℕ) (x : ℕ) (e : List ℕ) (next : ℕ) → next ≡ at + length s + 1 → e ≡ written d at (s ++ (x ∷ []))
+pub put-ended : (d : List ℕ) (at : ℕ) (s : List ℕ) (x : ℕ) (e : List ℕ) (next : ℕ) → next ≡ at + length s + 1 → e ≡ written d
+    at (s ++ (x ∷ []))
     → Put d at (s ++ (x ∷ [])) e next
 put-ended d at s x e next p q = record { buffer = q; place = omega (arith, p, length-append s (x ∷ [])) }
 
@@ -100,7 +117,8 @@ pub end-parts : (n : ℕ) → (ascii "END" ++ (32 ∷ [])) ++ (decimal n ++ (10 
 unfolding endRow fill
 end-parts n = refl
 
-pub row-length : (f t : List ℕ) (m s : ℕ) → length (shotRow f t m s) ≡ length f + length t + length (decimal m) + length (decimal s) + 4
+pub row-length : (f t : List ℕ) (m s : ℕ) → length (shotRow f t m s) ≡ length f + length t + length (decimal m) + length
+    (decimal s) + 4
 row-length f t m s = rw (← row-parts f t m s) (simp length-append (omega arith))
 
 pub end-length : (n : ℕ) → length (endRow n) ≡ length (decimal n) + 5
@@ -112,7 +130,8 @@ put-end d at n e f a b room p q =
     let l = end-length n in
     rw (← end-parts n) (then d at _ e a _ f b (omega (arith, l, length-append (decimal n) (10 ∷ []))) p q)
 
-pub put-row : (d : List ℕ) (at : ℕ) (f t : List ℕ) (m s : ℕ) (e₁ e₂ e₃ e₄ : List ℕ) (a b c z : ℕ) → at + length (shotRow f t m s) ≤ length d
+pub put-row : (d : List ℕ) (at : ℕ) (f t : List ℕ) (m s : ℕ) (e₁ e₂ e₃ e₄ : List ℕ) (a b c z : ℕ) → at + length
+    (shotRow f t m s) ≤ length d
     → Put d at (f ++ (32 ∷ [])) e₁ a → Put e₁ a (t ++ (32 ∷ [])) e₂ b
     → Put e₂ b (decimal m ++ (32 ∷ [])) e₃ c → Put e₃ c (decimal s ++ (10 ∷ [])) e₄ z
     → Put d at (shotRow f t m s) e₄ z

@@ -37,7 +37,13 @@ unfoldable pub nextOf : ℕ → List ℕ → Cutting → Cutting
 nextOf f line c =
     let end = c .at + length (field (drop (c .at) line)) in
     cond (eqb f 35)
-    (record { ok = true; at = end; count = c .count + 1; places = set (c .places) (c .count) (record { from = c .at; to = end }) })
+    (record {
+      ok = true;
+      at = end;
+      count = c .count + 1;
+      places = set (c .places) (c .count)
+          (record { from = c .at; to = end });
+    })
     (cond (leb (length line) (c .at))
     (record { ok = false; at = c .at; count = c .count; places = c .places })
     (record { ok = eqb (getD line (c .at) 0) f; at = c .at + 1; count = c .count; places = c .places }))

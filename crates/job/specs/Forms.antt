@@ -1,13 +1,13 @@
 -- The three forms of a line (document 01, "A job and its listing"): the printer and the reader of each.
-use Prim.Native.Nat.{ℕ, zero, suc, _+_, _^_, _<_}
+use Prim.Native.Nat.{ℕ, suc, _+_, _^_, _<_}
 use mathlib.Core.Path.{_≡_}
-use mathlib.Core.Bool.{Bool, true, false, cond, not, _&&_, _||_}
+use mathlib.Core.Bool.{Bool, true, false, cond, _&&_, _||_}
 use mathlib.Core.List.{List, [], _∷_, _++_}
 use mathlib.Core.Option.{Option, some, none}
 use lib.Dec.{eqb}
 use lib.ListN.{length, getD, drop}
 use Rattle.job.specs.Ascii.{ascii}
-use Rattle.job.specs.Numbers.{all, name, numeral, value, decimal}
+use Rattle.job.specs.Numbers.{name, numeral, value, decimal}
 
 -- A form is written with # for each name or number, and ends with the line feed.
 -- Line 1

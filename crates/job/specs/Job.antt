@@ -19,7 +19,8 @@ unfoldable pub settingAfter : Form → Setting → Setting
 settingAfter (seeds a0 a1 a2 b0 b1 b2) s =
     record { generator = seedOf a0 a1 a2 b0 b1 b2 .next; distance = s .distance; bearing = s .bearing }
 settingAfter (sigma d b) s = record { generator = s .generator; distance = d; bearing = b }
-settingAfter (shot from to d b) s = record { generator = pairOf (s .generator) .next; distance = s .distance; bearing = s .bearing }
+settingAfter (shot from to d b) s = record
+    { generator = pairOf (s .generator) .next; distance = s .distance; bearing = s .bearing }
 settingAfter noForm s = s
 
 -- What a line prints: "First sample to distance, second to bearing" of the one pair

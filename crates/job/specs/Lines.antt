@@ -1,6 +1,6 @@
 -- A text as lines (document 01, "A job and its listing"): "each line ended by a line feed".
 use Prim.Native.Nat.{ℕ}
-use mathlib.Core.Bool.{Bool, cond}
+use mathlib.Core.Bool.{cond}
 use mathlib.Core.List.{List, [], _∷_}
 use lib.Dec.{eqb}
 

@@ -1,5 +1,6 @@
 -- The lines of a listing (document 01, "A job and its listing"), and how they come into a lent buffer.
 use Prim.Native.Nat.{ℕ, _+_}
+use mathlib.Core.Path.{_≡_}
 use mathlib.Core.List.{List, [], _∷_, _++_}
 use lib.ListN.{length, take, drop}
 use Rattle.job.specs.Ascii.{ascii}
@@ -19,3 +20,7 @@ endRow count = fill (ascii "END #\n") (decimal count ∷ [])
 -- a buffer with these bytes from a place on
 unfoldable pub written : List ℕ → ℕ → List ℕ → List ℕ
 written out at bytes = take at out ++ bytes ++ drop (at + length bytes) out
+
+-- what a write leaves: the place after its bytes, and the buffer
+abbrev pub Puts : List ℕ → ℕ → List ℕ → ℕ → List ℕ → Type 0
+Puts out at bytes next out′ = (next ≡ at + length bytes) × (out′ ≡ written out at bytes)

@@ -1,7 +1,7 @@
--- Why a line is refused (document 01, the table of causes, and "for a job 5, then the first bad line, within it 6, 8, 9, 7, 1; last 10").
+-- Why a line is refused (document 01, the table of causes, and "for a job 5, then the first bad line, within it 6, 8, 9, 7, 1;
+-- last 10").
 use Prim.Native.Nat.{ℕ}
 use mathlib.Core.Bool.{Bool, true, false, cond, not, _||_}
-use mathlib.Core.List.{List}
 use lib.Dec.{ltb, eqb}
 use Rattle.streams.specs.Streams.{seedOf}
 use Rattle.job.specs.Forms.{Form, seeds, sigma, shot, noForm}
@@ -27,7 +27,8 @@ tooMany k (sigma d b) = false
 tooMany k (shot from to d b) = ltb 502 k
 tooMany k noForm = false
 
--- "number beyond its range": "a seed is at most 4294967295", sigmas "each 0 to 1000", "distance 0 to 1,000,000 mm, bearing 0 to 65535"
+-- "number beyond its range": "a seed is at most 4294967295", sigmas "each 0 to 1000", "distance 0 to 1,000,000 mm, bearing 0
+-- to 65535"
 unfoldable pub beyond : Form → Bool
 beyond (seeds a0 a1 a2 b0 b1 b2) =
     ltb 4294967295 a0 || ltb 4294967295 a1 || ltb 4294967295 a2

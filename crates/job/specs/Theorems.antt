@@ -1,10 +1,10 @@
 -- What the definitions of a job say, as theorems: the record below has a proof in proofs/Theorems.antt.
 use Prim.Native.Nat.{ℕ, suc, _+_, _-_, _*_, _%_, _^_, _≤_, _<_}
 use mathlib.Core.Path.{_≡_}
-use mathlib.Core.Bool.{Bool, true, false, not}
+use mathlib.Core.Bool.{Bool, true, not}
 use mathlib.Core.List.{List, [], _∷_, _++_}
 use lib.Dec.{eqb}
-use lib.IntN.{ℤ, pos, negsuc, natAbs, negℤ}
+use lib.IntN.{ℤ, pos, negsuc}
 use lib.ListN.{length, getD}
 use Rattle.job.specs.Numbers.{all, numeral, value, decimal}
 use Rattle.job.specs.Forms.{Form, noForm, readLine, printLine, Printable}
@@ -12,7 +12,7 @@ use Rattle.job.specs.Lines.{lines}
 use Rattle.job.specs.Listing.{header, endRow}
 use Rattle.job.specs.Rounding.{noiseSize, noisyDistance, noisyBearing}
 use Rattle.job.specs.Refusals.{refusal}
-use Rattle.job.specs.Job.{Outcome, refused, listed, start, jobOf, answerOf, printed, settingAfter}
+use Rattle.job.specs.Job.{listed, start, jobOf, answerOf, printed, settingAfter}
 use Rattle.job.specs.declared.turn.Setting.{Setting}
 
 -- the text that says these forms, a line each
@@ -45,11 +45,14 @@ pub record Theorems : Type 0 where
   pub line-first : (l rest : List ℕ) → noFeed l ≡ true → lines (l ++ 10 ∷ rest) ≡ (l ++ (10 ∷ [])) ∷ lines rest
   pub line-last : (x : ℕ) (l : List ℕ) → noFeed (x ∷ l) ≡ true → lines (x ∷ l) ≡ (x ∷ l) ∷ []
   -- the noise is the whole number q nearest to sigma × size / 2048, and at a half the larger one
-  pub nearest : (sigma size q : ℕ) → 2048 * q ≤ sigma * size + 1024 → sigma * size + 1024 < 2048 * q + 2048 → noiseSize sigma size ≡ q
-  pub rounded : (sigma size : ℕ) → (2048 * noiseSize sigma size ≤ sigma * size + 1024) × (sigma * size + 1024 < 2048 * noiseSize sigma size + 2048)
+  pub nearest : (sigma size q : ℕ) → 2048 * q ≤ sigma * size + 1024 → sigma * size + 1024 < 2048 * q + 2048 → noiseSize sigma
+      size ≡ q
+  pub rounded : (sigma size : ℕ) → (2048 * noiseSize sigma size ≤ sigma * size + 1024) ×
+      (sigma * size + 1024 < 2048 * noiseSize sigma size + 2048)
   -- with the sample's sign: added to the distance, or taken from it down to 0
   pub distance-up : (sigma d n : ℕ) → noisyDistance sigma d (pos n) ≡ d + noiseSize sigma n
-  pub distance-down : (sigma d n : ℕ) → noiseSize sigma (suc n) ≤ d → noisyDistance sigma d (negsuc n) + noiseSize sigma (suc n) ≡ d
+  pub distance-down : (sigma d n : ℕ) → noiseSize sigma (suc n) ≤ d → noisyDistance sigma d (negsuc n) + noiseSize sigma
+      (suc n) ≡ d
   pub distance-none : (sigma d n : ℕ) → d ≤ noiseSize sigma (suc n) → noisyDistance sigma d (negsuc n) ≡ 0
   -- the bearing mod 65536
   pub bearing-range : (sigma b : ℕ) (z : ℤ) → noisyBearing sigma b z < 65536
@@ -60,7 +63,8 @@ pub record Theorems : Type 0 where
   pub listed-job : (xs : List Form) → Accepts 1 xs → 2 ≤ length xs → length (textOf xs) ≤ 60000
       → jobOf (textOf xs) ≡ listed (header ++ (rows start xs ++ endRow (length xs - 2)))
   pub job-listed : (text bytes : List ℕ) → jobOf text ≡ listed bytes
-      → (xs : List Form) × Accepts 1 xs × (2 ≤ length xs) × (textOf xs ≡ text) × (bytes ≡ header ++ (rows start xs ++ endRow (length xs - 2)))
+      → (xs : List Form) × Accepts 1 xs × (2 ≤ length xs) × (textOf xs ≡ text) ×
+      (bytes ≡ header ++ (rows start xs ++ endRow (length xs - 2)))
   -- a listing fits 20,480 bytes, so the listing program never prints 10
   pub fits : (text bytes : List ℕ) → jobOf text ≡ listed bytes → length bytes ≤ 20480
   pub never-too-long : (text : List ℕ) → answerOf (jobOf text) 20480 .number ≡ 10 → ⊥

@@ -25,7 +25,8 @@ turned s number bytes setting =
 
 -- the row of a shot of a line, with its noise
 abbrev pub rowOf : List ℕ → Shot → Noise → List ℕ
-rowOf line x n = noisyRow (n .distance) (n .bearing) (partOf line (x .from)) (partOf line (x .to)) (x .distance) (x .bearing) (n .first) (n .second)
+rowOf line x n = noisyRow (n .distance) (n .bearing) (partOf line (x .from)) (partOf line (x .to)) (x .distance) (x .bearing)
+    (n .first) (n .second)
 
 -- a shot and sigmas within their ranges
 pub record Fit (line : List ℕ) (x : Shot) (n : Noise) : Type 0 where

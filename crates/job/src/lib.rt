@@ -21,7 +21,8 @@ pub struct JobAnswer {
     pub length: usize,
 }
 
-// Lists a job. The listing is written to a local buffer, which has room for any, and measured there before a byte goes to the buffer lent.
+// Lists a job. The listing is written to a local buffer, which has room for any, and measured there before a byte goes to the
+// buffer lent.
 pub fn list(text: &[u8], out: &mut [u8]) -> JobAnswer
     ensures { λ r. ⌜ r ≡ answerOf (jobOf (now (text .entry))) (length (now (out .entry))) ⌝ }
     ensures { λ _. ⌜ now (out .exit) ≡ bufferAfter (jobOf (now (text .entry))) (now (out .entry)) ⌝ }

@@ -5,7 +5,7 @@ ghost use mathlib.Core.List.{[], _∷_, _++_};
 ghost use lib.ListN.{length};
 ghost use Rattle.job.specs.Numbers.{decimal};
 ghost use Rattle.job.specs.Answers.{SpelledIn};
-ghost use Rattle.job.specs.Listing.{written, header, shotRow, endRow};
+ghost use Rattle.job.specs.Listing.{written, Puts, header, shotRow, endRow};
 
 // The digits of a number, from an index on.
 pub struct Digits {
@@ -15,7 +15,7 @@ pub struct Digits {
 
 pub fn put(out: &mut [u8], at: usize, bytes: &[u8]) -> usize
     requires { ⌜ at + length (now bytes) ≤ length (now out) ⌝ }
-    ensures { λ r. ⌜ (r ≡ at + length (now (bytes .entry))) × (now (out .exit) ≡ written (now (out .entry)) at (now (bytes .entry))) ⌝ }
+    ensures { λ r. ⌜ Puts (now (out .entry)) at (now (bytes .entry)) r (now (out .exit)) ⌝ }
 {
     let mut i = 0;
     while i < bytes.len() {
@@ -28,7 +28,8 @@ pub fn put(out: &mut [u8], at: usize, bytes: &[u8]) -> usize
 // A field and the byte that ends it.
 fn put_field(out: &mut [u8], at: usize, bytes: &[u8], end: u8) -> usize
     requires { ⌜ at + length (now bytes) + 1 ≤ length (now out) ⌝ }
-    ensures { λ r. ⌜ (r ≡ at + length (now (bytes .entry)) + 1) × (now (out .exit) ≡ written (now (out .entry)) at (now (bytes .entry) ++ (end ∷ []))) ⌝ }
+    ensures { λ r. ⌜ (r ≡ at + length (now (bytes .entry)) + 1)
+        × (now (out .exit) ≡ written (now (out .entry)) at (now (bytes .entry) ++ (end ∷ []))) ⌝ }
 {
     let next = put(out, at, bytes);
     out[next] = end;
@@ -54,7 +55,8 @@ fn digits_of(n: u32) -> Digits
 // A number and the byte that ends it.
 fn put_number(out: &mut [u8], at: usize, n: u32, end: u8) -> usize
     requires { ⌜ at + length (decimal n) + 1 ≤ length (now out) ⌝ }
-    ensures { λ r. ⌜ (r ≡ at + length (decimal n) + 1) × (now (out .exit) ≡ written (now (out .entry)) at (decimal n ++ (end ∷ []))) ⌝ }
+    ensures { λ r. ⌜ (r ≡ at + length (decimal n) + 1)
+        × (now (out .exit) ≡ written (now (out .entry)) at (decimal n ++ (end ∷ []))) ⌝ }
 {
     let digits = digits_of(n);
     let from = digits.from;
@@ -65,7 +67,7 @@ fn put_number(out: &mut [u8], at: usize, n: u32, end: u8) -> usize
 // A row of a listing: the two names, the distance and the bearing.
 pub fn put_shot(out: &mut [u8], at: usize, from: &[u8], to: &[u8], mm: u32, step: u32) -> usize
     requires { ⌜ at + length (shotRow (now from) (now to) mm step) ≤ length (now out) ⌝ }
-    ensures { λ r. ⌜ (r ≡ at + length (shotRow (now (from .entry)) (now (to .entry)) mm step)) × (now (out .exit) ≡ written (now (out .entry)) at (shotRow (now (from .entry)) (now (to .entry)) mm step)) ⌝ }
+    ensures { λ r. ⌜ Puts (now (out .entry)) at (shotRow (now (from .entry)) (now (to .entry)) mm step) r (now (out .exit)) ⌝ }
 {
     let a = put_field(out, at, from, 32);
     let b = put_field(out, a, to, 32);
@@ -83,7 +85,7 @@ pub fn put_header(out: &mut [u8]) -> usize
 // The last row: the count of shots.
 pub fn put_end(out: &mut [u8], at: usize, count: u32) -> usize
     requires { ⌜ at + length (endRow count) ≤ length (now out) ⌝ }
-    ensures { λ r. ⌜ (r ≡ at + length (endRow count)) × (now (out .exit) ≡ written (now (out .entry)) at (endRow count)) ⌝ }
+    ensures { λ r. ⌜ Puts (now (out .entry)) at (endRow count) r (now (out .exit)) ⌝ }
 {
     let a = put_field(out, at, b"END", 32);
     put_number(out, a, count, 10)

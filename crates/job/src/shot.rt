@@ -8,7 +8,7 @@ ghost use Prim.Native.Nat.{_+_, _≤_};
 ghost use mathlib.Core.Path.{_≡_};
 ghost use lib.ListN.{length};
 ghost use Rattle.job.specs.Answers.{partOf};
-ghost use Rattle.job.specs.Listing.{written};
+ghost use Rattle.job.specs.Listing.{Puts};
 ghost use Rattle.job.specs.Turns.{Fit, rowOf};
 
 // What the row of a shot is made of: the sigmas and the samples of one pair.
@@ -22,7 +22,7 @@ pub struct Noise {
 pub fn print_shot(line: &[u8], x: Shot, n: Noise, out: &mut [u8], at: usize) -> usize
     requires { ⌜ Fit (now line) x n ⌝ }
     requires { ⌜ at + 40 ≤ length (now out) ⌝ }
-    ensures { λ r. ⌜ (r ≡ at + length (rowOf (now (line .entry)) x n)) × (now (out .exit) ≡ written (now (out .entry)) at (rowOf (now (line .entry)) x n)) ⌝ }
+    ensures { λ r. ⌜ Puts (now (out .entry)) at (rowOf (now (line .entry)) x n) r (now (out .exit)) ⌝ }
 {
     let mm = noisy_distance(n.distance, x.distance as u32, n.first);
     let step = noisy_bearing(n.bearing, x.bearing as u32, n.second);

@@ -54,7 +54,11 @@ fn three_beyond(x: u64, y: u64, z: u64) -> bool
 
 fn on_seeds(x: Seeds, s: State) -> Turn
     ensures { λ r. ⌜ r ≡ turned s (refusal (s .line) (seeds (x .a0) (x .a1) (x .a2) (x .b0) (x .b1) (x .b2))) []
-        (record { generator = seedOf (x .a0) (x .a1) (x .a2) (x .b0) (x .b1) (x .b2) .next; distance = s .setting .distance; bearing = s .setting .bearing }) ⌝ }
+        (record {
+          generator = seedOf (x .a0) (x .a1) (x .a2) (x .b0) (x .b1) (x .b2) .next;
+          distance = s .setting .distance;
+          bearing = s .setting .bearing;
+        }) ⌝ }
 {
     if s.line != 1 {
         return Turn { number: 8, next: s };
@@ -123,7 +127,8 @@ fn on_sigma(x: Sigma, s: State) -> Turn
 fn listed_shot(line: &[u8], x: Shot, s: State, out: &mut [u8]) -> Turn
     requires { ⌜ Ready (now line) x s (length (now out)) ⌝ }
     requires { ⌜ (s .line ≤ 502) × (x .distance ≤ 1000000) × (x .bearing ≤ 65535) ⌝ }
-    ensures { λ r. ⌜ (r ≡ turned s 0 (printed (shotIn (now (line .entry)) x) (s .setting)) (settingAfter (shotIn (now (line .entry)) x) (s .setting)))
+    ensures { λ r. ⌜ (r ≡ turned s 0 (printed (shotIn (now (line .entry)) x) (s .setting))
+        (settingAfter (shotIn (now (line .entry)) x) (s .setting)))
         × (now (out .exit) ≡ written (now (out .entry)) (s .used) (printed (shotIn (now (line .entry)) x) (s .setting))) ⌝ }
 {
     let old = s.setting;
@@ -152,7 +157,8 @@ fn listed_shot(line: &[u8], x: Shot, s: State, out: &mut [u8]) -> Turn
 
 fn on_shot(line: &[u8], x: Shot, s: State, out: &mut [u8]) -> Turn
     requires { ⌜ Ready (now line) x s (length (now out)) ⌝ }
-    ensures { λ r. ⌜ (r ≡ turnOf s (shotIn (now (line .entry)) x)) × (now (out .exit) ≡ bufferOf s (shotIn (now (line .entry)) x) (now (out .entry))) ⌝ }
+    ensures { λ r. ⌜ (r ≡ turnOf s (shotIn (now (line .entry)) x))
+        × (now (out .exit) ≡ bufferOf s (shotIn (now (line .entry)) x) (now (out .entry))) ⌝ }
 {
     if s.line < 3 {
         return Turn { number: 8, next: s };
@@ -172,7 +178,8 @@ fn on_shot(line: &[u8], x: Shot, s: State, out: &mut [u8]) -> Turn
 // One line of a job: the state after it, and its row in the buffer.
 pub fn take_line(line: &[u8], s: State, out: &mut [u8]) -> Turn
     requires { ⌜ Steady s (length (now out)) ⌝ }
-    ensures { λ r. ⌜ (r ≡ turnOf s (readLine (now (line .entry)))) × (now (out .exit) ≡ bufferOf s (readLine (now (line .entry))) (now (out .entry))) ⌝ }
+    ensures { λ r. ⌜ (r ≡ turnOf s (readLine (now (line .entry))))
+        × (now (out .exit) ≡ bufferOf s (readLine (now (line .entry))) (now (out .entry))) ⌝ }
 {
     let said = read_line(line);
     match said {

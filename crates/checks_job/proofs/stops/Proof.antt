@@ -1,13 +1,11 @@
+-- `checks_job::stops` meets its contract.
 use Prim.Native.Nat.{_+_, _-_, _≤_}
-use mathlib.Core.Path.{_≡_}
 use native.Mathlib.Omega.{arith}
 use mathlib.Core.Logic.{⊎-elim}
 use lib.ListN.{length}
 use borrow.Author.Needs.{needs}
 use Rattle.checks_job.proofs.stops.Statement.{statement}
 use Rattle.checks_job.proofs.stops.Tie as tie
-use Rattle.checks_job.proofs.stops.Reads as reads
-use Rattle.checks_job.proofs.stops.Lts as lts
 
 abbrev Inv-loop : tie.InvT-loop
 Inv-loop out from n₀ i₀ n i = n + from ≤ i
@@ -15,31 +13,24 @@ Inv-loop out from n₀ i₀ n i = n + from ≤ i
 abbrev μ-loop : tie.MeasureT-loop
 μ-loop out from n₀ i₀ n i = length out - i
 
--- src/main.rt:45:5
 loop-holds : tie.Need-loop-holds Inv-loop μ-loop
 loop-holds c = search needs
 
--- src/main.rt:46:12
 shared-slice-read-if1 : tie.Need-shared-slice-read-if1 Inv-loop μ-loop
 shared-slice-read-if1 c = search needs
 
--- src/main.rt:47:13
 add-n : tie.Need-add-n Inv-loop μ-loop
 add-n c = search needs
 
--- src/main.rt:49:9
 add-i : tie.Need-add-i Inv-loop μ-loop
 add-i c = search needs
 
--- src/main.rt:45:5
 loop-less : tie.Need-loop-less Inv-loop μ-loop
 loop-less c = search needs
 
--- src/main.rt:45:5
 loop-again : tie.Need-loop-again Inv-loop μ-loop
 loop-again c = ⊎-elim (λ w. omega arith) (λ w. omega arith) (c .if1 .came)
 
--- src/main.rt:42:1
 returns : tie.Need-returns Inv-loop μ-loop
 returns c = search needs
 

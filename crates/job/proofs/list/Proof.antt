@@ -1,72 +1,73 @@
-use Rattle.job.specs.Job.{listingOf}
+-- `job::list` meets its contract.
 use native.Mathlib.Omega.{arith}
 use mathlib.Core.Path.{refl}
 use mathlib.Core.List.{[]}
-use Rattle.job.specs.Job.{answerOf, bufferAfter}
-use Rattle.job.proofs.Answered.{job-long, job-short, wrote-size, answered-refused, answered-long, answered-listed}
 use borrow.Author.Needs.{needs}
+use Rattle.job.specs.Job.{listingOf, answerOf, bufferAfter}
+use Rattle.job.proofs.Answered.{job-long, job-short, wrote-size, answered-refused, answered-long, answered-listed}
 use Rattle.job.proofs.list.Statement.{statement}
 use Rattle.job.proofs.list.Tie as tie
-use Rattle.job.proofs.list.Reads as reads
-use Rattle.job.proofs.list.Lts as lts
-use Rattle.job.proofs.print.put.Reads as put-reads
-use Rattle.job.proofs.walk.write_listing.Reads as write-listing-reads
 
--- src/lib.rt:30:9
 returns : tie.Need-returns
 unfolding answerOf bufferAfter
 returns c = rw (job-long (c .before .before .before .args .text .now) (c .if1 .taken)) (refl, refl)
 
--- src/lib.rt:37:38
 slice-aggregate-write-listing : tie.Need-slice-aggregate-write-listing
 slice-aggregate-write-listing c = search needs
 
--- src/lib.rt:37:9
 write-listing-requires : tie.Need-write-listing-requires
 write-listing-requires c κs = search needs
 
--- src/lib.rt:39:9
 returns-2 : tie.Need-returns-2
 returns-2 c =
     let w = c .before .before .before .write-listing in
-    let a = answered-refused (w .result) _ (c .before .before .before .before .before .before .before .before .args .out .now) _ (w .ensures) (c .if2 .taken) in
-    rw (job-short (c .before .before .before .before .before .before .before .before .args .text .now) (c .before .before .before .before .before .if1 .left)) (a .0, a .1)
+    let a = answered-refused (w .result) _
+    (c .before .before .before .before .before .before .before .before .args .out .now) _ (w .ensures) (c .if2 .taken) in
+    rw (job-short (c .before .before .before .before .before .before .before .before .args .text .now)
+    (c .before .before .before .before .before .if1 .left)) (a .0, a .1)
 
--- src/lib.rt:43:9
 returns-3 : tie.Need-returns-3
 returns-3 c =
     let w = c .before .before .before .before .write-listing in
-    let a = answered-long (w .result) _ (c .before .before .before .before .before .before .before .before .before .args .out .now) _ (w .ensures) (c .before .if2 .left) (c .if3 .taken) in
-    rw (job-short (c .before .before .before .before .before .before .before .before .before .args .text .now) (c .before .before .before .before .before .before .if1 .left)) (a .0, a .1)
+    let a = answered-long (w .result) _
+    (c .before .before .before .before .before .before .before .before .before .args .out .now) _ (w .ensures)
+    (c .before .if2 .left) (c .if3 .taken) in
+    rw (job-short (c .before .before .before .before .before .before .before .before .before .args .text .now)
+    (c .before .before .before .before .before .before .if1 .left)) (a .0, a .1)
 
--- src/lib.rt:49:17
 sub-put : tie.Need-sub-put
 sub-put c = search needs
 
--- src/lib.rt:49:17
 part-put-start : tie.Need-part-put-start
 part-put-start c = search needs
 
--- src/lib.rt:49:17
 part-put-end : tie.Need-part-put-end
 part-put-end c =
     let w = c .before .before .before .before .before .before .write-listing in
-    omega (arith, wrote-size (w .result) (w .last .1 .0) [] (listingOf (c .before .before .before .before .before .before .before .before .before .before .before .args .text .now)) (w .ensures) (c .before .before .before .if2 .left))
+    omega (
+      arith,
+      wrote-size (w .result) (w .last .1 .0) []
+          (listingOf (c .before .before .before .before .before .before .before .before .before .before .before .args .text
+          .now)) (w .ensures) (c .before .before .before .if2 .left),
+    )
 
--- src/lib.rt:49:5
 put-requires : tie.Need-put-requires
 put-requires c κs = search needs
 
--- src/lib.rt:25:1
 same-length : tie.Need-same-length
 same-length c = search needs
 
--- src/lib.rt:25:1
 returns-4 : tie.Need-returns-4
 returns-4 c =
     let w = c .before .before .before .before .before .before .before .before .before .before .write-listing in
-    let a = answered-listed (w .result) (w .last .1 .0) (c .before .before .before .before .before .before .before .before .before .before .before .before .before .before .before .args .out .now) _ (w .ensures) (c .before .before .before .before .before .before .before .if2 .left) (c .before .before .before .before .before .before .if3 .left) _ (c .before .before .put .ensures .1) in
-    rw (job-short (c .before .before .before .before .before .before .before .before .before .before .before .before .before .before .before .args .text .now) (c .before .before .before .before .before .before .before .before .before .before .before .before .if1 .left)) (a .0, a .1)
+    let a = answered-listed (w .result) (w .last .1 .0)
+    (c .before .before .before .before .before .before .before .before .before .before .before .before .before .before
+    .before .args .out .now) _ (w .ensures) (c .before .before .before .before .before .before .before .if2 .left)
+    (c .before .before .before .before .before .before .if3 .left) _ (c .before .before .put .ensures .1) in
+    rw (job-short (c .before .before .before .before .before .before .before .before .before .before .before .before .before
+    .before .before .args .text .now)
+    (c .before .before .before .before .before .before .before .before .before .before .before .before .if1 .left))
+    (a .0, a .1)
 
 pub list-spec : {M : Type 1} → statement M
 list-spec =

@@ -1,106 +1,78 @@
+-- `listing::main` meets its contract.
 use native.Mathlib.Omega.{arith}
-use Rattle.job.proofs.Answered.{answer-within}
 use borrow.Author.Needs.{needs}
+use Rattle.job.proofs.Answered.{answer-within}
 use Rattle.listing.proofs.main.Statement.{statement}
 use Rattle.listing.proofs.main.Tie as tie
-use Rattle.listing.proofs.main.Reads as reads
-use Rattle.listing.proofs.main.Lts as lts
-use Rattle.io.proofs.print_decimal.Reads as print-decimal-reads
-use Rattle.io.proofs.read_full.Reads as read-full-reads
-use Rattle.io.proofs.write_all.Reads as write-all-reads
-use Rattle.job.proofs.list.Reads as list-reads
 
--- src/main.rt:8:41
 slice-aggregate-read-full : tie.Need-slice-aggregate-read-full
 slice-aggregate-read-full c = search needs
 
--- src/main.rt:8:9
 read-full-requires : tie.Need-read-full-requires
 read-full-requires c κs = search needs
 
--- src/main.rt:10:28
 sub-list : tie.Need-sub-list
 sub-list c = search needs
 
--- src/main.rt:10:28
 part-list-start : tie.Need-part-list-start
 part-list-start c = search needs
 
--- src/main.rt:10:28
 part-list-end : tie.Need-part-list-end
 part-list-end c = search needs
 
--- src/main.rt:10:41
 slice-aggregate-list : tie.Need-slice-aggregate-list
 slice-aggregate-list c = search needs
 
--- src/main.rt:10:9
 list-requires : tie.Need-list-requires
 list-requires c κs = search needs
 
--- src/main.rt:15:38
 sub-write-all : tie.Need-sub-write-all
 sub-write-all c = search needs
 
--- src/main.rt:15:38
 part-write-all-start : tie.Need-part-write-all-start
 part-write-all-start c = search needs
 
--- src/main.rt:15:38
 part-write-all-end : tie.Need-part-write-all-end
 part-write-all-end c =
     let list = c .before .before .before .list in
     omega (arith, answer-within _ _ _ (list .ensures .0), list .kept .1 .0)
 
--- src/main.rt:15:9
 write-all-requires : tie.Need-write-all-requires
 write-all-requires c κs = search needs
 
--- src/main.rt:16:9
 returns : tie.Need-returns
 returns c = search needs
 
--- src/main.rt:18:34
 slice-aggregate-write-all : tie.Need-slice-aggregate-write-all
 slice-aggregate-write-all c = search needs
 
--- src/main.rt:18:5
 write-all-requires-2 : tie.Need-write-all-requires-2
 write-all-requires-2 c κs = search needs
 
--- src/main.rt:19:38
 cast-print-decimal : tie.Need-cast-print-decimal
 cast-print-decimal c = search needs
 
--- src/main.rt:19:5
 print-decimal-requires : tie.Need-print-decimal-requires
 print-decimal-requires c κs = search needs
 
--- src/main.rt:20:34
 slice-aggregate-write-all-2 : tie.Need-slice-aggregate-write-all-2
 slice-aggregate-write-all-2 c = search needs
 
--- src/main.rt:20:5
 write-all-requires-3 : tie.Need-write-all-requires-3
 write-all-requires-3 c κs = search needs
 
--- src/main.rt:21:38
 cast-print-decimal-2 : tie.Need-cast-print-decimal-2
 cast-print-decimal-2 c = search needs
 
--- src/main.rt:21:5
 print-decimal-requires-2 : tie.Need-print-decimal-requires-2
 print-decimal-requires-2 c κs = search needs
 
--- src/main.rt:22:34
 slice-aggregate-write-all-3 : tie.Need-slice-aggregate-write-all-3
 slice-aggregate-write-all-3 c = search needs
 
--- src/main.rt:22:5
 write-all-requires-4 : tie.Need-write-all-requires-4
 write-all-requires-4 c κs = search needs
 
--- src/main.rt:6:1
 returns-2 : tie.Need-returns-2
 returns-2 c = search needs
 

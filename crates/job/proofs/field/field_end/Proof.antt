@@ -1,17 +1,13 @@
-use mathlib.Core.Path.{refl, sym, ap, _∙_}
-use borrow.Author.Tests.{not-true, not-false}
-use Prim.Native.Nat.{_+_, _-_, _*_, _^_, _≤_, _<_}
-use mathlib.Core.Path.{_≡_}
-use lib.ListN.{length, getD, drop}
+-- `job::field::field_end` meets its contract.
+use Prim.Native.Nat.{_+_, _-_, _≤_}
 use native.Mathlib.Omega.{arith}
+use mathlib.Core.Path.{sym, ap, _∙_, _≡_}
+use lib.ListN.{length, drop}
+use borrow.Author.Needs.{needs}
 use Rattle.job.specs.Forms.{field}
 use Rattle.job.proofs.Scan.{field-ahead, field-stop, field-end}
-use borrow.Author.Needs.{needs}
 use Rattle.job.proofs.field.field_end.Statement.{statement}
 use Rattle.job.proofs.field.field_end.Tie as tie
-use Rattle.job.proofs.field.field_end.Reads as reads
-use Rattle.job.proofs.field.field_end.Lts as lts
-use Rattle.job.proofs.field.is_separator.Reads as is-separator-reads
 
 abbrev Inv-loop : tie.InvT-loop
 Inv-loop line at end₀ end = (end ≤ length line) × (at + length (field (drop at line)) ≡ end + length (field (drop end line)))
@@ -19,43 +15,54 @@ Inv-loop line at end₀ end = (end ≤ length line) × (at + length (field (drop
 abbrev μ-loop : tie.MeasureT-loop
 μ-loop line at end₀ end = length line - end
 
--- src/field.rt:140:5
 loop-holds : tie.Need-loop-holds Inv-loop μ-loop
 loop-holds c = search needs
 
--- src/field.rt:141:25
 shared-slice-read-is-separator : tie.Need-shared-slice-read-is-separator Inv-loop μ-loop
 shared-slice-read-is-separator c = search needs
 
--- src/field.rt:141:12
 is-separator-requires : tie.Need-is-separator-requires Inv-loop μ-loop
 is-separator-requires c κs = search needs
 
--- src/field.rt:142:13
 returns : tie.Need-returns Inv-loop μ-loop
 returns c =
     let at = c .before .before .before .before in
     let test = c .before .before .before .loop-test .taken in
-    omega (arith, at .loop .inv .1, ap length (field-stop (at .before .before .args .line .now) (at .loop .end) test (sym (c .before .is-separator .ensures) ∙ c .if1 .taken)))
+    omega (
+      arith,
+      at .loop .inv .1,
+      ap length
+          (field-stop (at .before .before .args .line .now) (at .loop .end) test
+          (sym (c .before .is-separator .ensures) ∙ c .if1 .taken)),
+    )
 
--- src/field.rt:144:9
 add-end : tie.Need-add-end Inv-loop μ-loop
 add-end c = search needs
 
--- src/field.rt:140:5
 loop-less : tie.Need-loop-less Inv-loop μ-loop
 loop-less c = search needs
 
--- src/field.rt:140:5
 loop-again : tie.Need-loop-again Inv-loop μ-loop
 loop-again c =
     let at = c .before .before .before .before in
-    let test = c .before .before .before .loop-test .taken in
-    (omega arith, omega (arith, at .loop .inv .1, ap length (field-ahead (at .before .before .args .line .now) (at .loop .end) test (sym (c .before .is-separator .ensures) ∙ c .if1 .left))))
+    let test = c .before .before .before .loop-test .taken in (
+      omega arith,
+      omega (
+        arith,
+        at .loop .inv .1,
+        ap length
+            (field-ahead (at .before .before .args .line .now) (at .loop .end) test
+            (sym (c .before .is-separator .ensures) ∙ c .if1 .left)),
+      ),
+    )
 
--- src/field.rt:135:1
 returns-2 : tie.Need-returns-2 Inv-loop μ-loop
-returns-2 c = omega (arith, c .before .loop .inv .1, ap length (field-end (c .before .before .before .args .line .now) (c .before .loop .end) (c .loop-test .left)))
+returns-2 c = omega (
+  arith,
+  c .before .loop .inv .1,
+  ap length
+      (field-end (c .before .before .before .args .line .now) (c .before .loop .end) (c .loop-test .left)),
+)
 
 pub field-end-spec : {M : Type 1} → statement M
 field-end-spec =

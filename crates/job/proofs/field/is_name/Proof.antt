@@ -1,35 +1,34 @@
+-- `job::field::is_name` meets its contract.
 use native.Mathlib.Omega.{arith}
 use mathlib.Core.Path.{sym}
 use mathlib.Core.Bool.{and-false}
 use lib.ListN.{length}
 use lib.Dec.{ltb}
-use borrow.Author.Tests.{lt-leb, le-leb, eq-eqb, ne-eqb, lt-ltb, le-ltb}
-use Rattle.job.specs.Numbers.{name}
+use borrow.Author.Tests.{lt-leb, le-leb, lt-ltb, le-ltb}
 use borrow.Author.Needs.{needs}
+use Rattle.job.specs.Numbers.{name}
 use Rattle.job.proofs.field.is_name.Statement.{statement}
 use Rattle.job.proofs.field.is_name.Tie as tie
-use Rattle.job.proofs.field.is_name.Reads as reads
-use Rattle.job.proofs.field.is_name.Lts as lts
-use Rattle.job.proofs.field.only_letters_or_digits.Reads as only-letters-or-digits-reads
 
--- src/field.rt:90:9
 returns : tie.Need-returns
 unfolding name
 returns c = rw (le-ltb 0 (length (c .before .before .args .part .now)) (omega arith))
 
--- src/field.rt:93:9
 returns-2 : tie.Need-returns-2
 unfolding name
-returns-2 c = rw (lt-leb _ 12 (c .if2 .taken)) (sym (rw (and-false (ltb 0 (length (c .before .before .before .args .part .now))))))
+returns-2 c = rw (lt-leb _ 12 (c .if2 .taken))
+    (sym (rw (and-false (ltb 0 (length (c .before .before .before .args .part .now))))))
 
--- src/field.rt:95:5
 only-letters-or-digits-requires : tie.Need-only-letters-or-digits-requires
 only-letters-or-digits-requires c κs = search needs
 
--- src/field.rt:86:1
 returns-3 : tie.Need-returns-3
 unfolding name
-returns-3 c = rw (lt-ltb 0 (length (c .before .before .before .before .args .part .now)) (omega arith), le-leb _ 12 (c .before .if2 .left)) (c .only-letters-or-digits .ensures)
+returns-3 c = rw (
+  lt-ltb 0 (length (c .before .before .before .before .args .part .now)) (omega arith),
+  le-leb _ 12
+      (c .before .if2 .left),
+) (c .only-letters-or-digits .ensures)
 
 pub is-name-spec : {M : Type 1} → statement M
 is-name-spec = tie.close (tie.spec returns returns-2 only-letters-or-digits-requires returns-3)

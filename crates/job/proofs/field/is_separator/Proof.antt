@@ -1,27 +1,21 @@
-use borrow.Author.Tests.{lt-leb, le-leb, eq-eqb, ne-eqb, lt-ltb, le-ltb}
+-- `job::field::is_separator` meets its contract.
+use borrow.Author.Tests.{ne-eqb}
 use Rattle.job.specs.Forms.{separator}
-use borrow.Author.Needs.{needs}
 use Rattle.job.proofs.field.is_separator.Statement.{statement}
 use Rattle.job.proofs.field.is_separator.Tie as tie
-use Rattle.job.proofs.field.is_separator.Reads as reads
-use Rattle.job.proofs.field.is_separator.Lts as lts
 
--- src/field.rt:60:9
 returns : tie.Need-returns
 unfolding separator
 returns c = rw (c .if1 .taken)
 
--- src/field.rt:63:9
 returns-2 : tie.Need-returns-2
 unfolding separator
 returns-2 c = rw (c .if2 .taken)
 
--- src/field.rt:66:9
 returns-3 : tie.Need-returns-3
 unfolding separator
 returns-3 c = rw (c .if3 .taken)
 
--- src/field.rt:56:1
 returns-4 : tie.Need-returns-4
 unfolding separator
 returns-4 c = rw (ne-eqb _ 10 (c .before .before .if1 .left), ne-eqb _ 32 (c .before .if2 .left), ne-eqb _ 40 (c .if3 .left))

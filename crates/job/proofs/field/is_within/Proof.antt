@@ -1,15 +1,11 @@
-use borrow.Author.Tests.{lt-leb, le-leb, eq-eqb, ne-eqb, lt-ltb, le-ltb}
-use borrow.Author.Needs.{needs}
+-- `job::field::is_within` meets its contract.
+use borrow.Author.Tests.{lt-leb, le-leb}
 use Rattle.job.proofs.field.is_within.Statement.{statement}
 use Rattle.job.proofs.field.is_within.Tie as tie
-use Rattle.job.proofs.field.is_within.Reads as reads
-use Rattle.job.proofs.field.is_within.Lts as lts
 
--- src/field.rt:39:9
 returns : tie.Need-returns
 returns c = rw (lt-leb _ _ (c .if1 .taken))
 
--- src/field.rt:35:1
 returns-2 : tie.Need-returns-2
 returns-2 c = rw (le-leb _ _ (c .if1 .left))
 

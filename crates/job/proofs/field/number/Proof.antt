@@ -1,46 +1,35 @@
+-- `job::field::number` meets its contract.
 use native.Mathlib.Omega.{arith}
-use Rattle.job.specs.Numbers.{numeral}
-use Rattle.job.proofs.Scan.{numeral-short, numeral-long, numeral-zero, numeral-digits}
 use borrow.Author.Needs.{needs}
+use Rattle.job.proofs.Scan.{numeral-short, numeral-long, numeral-zero, numeral-digits}
 use Rattle.job.proofs.field.number.Statement.{statement}
 use Rattle.job.proofs.field.number.Tie as tie
-use Rattle.job.proofs.field.number.Reads as reads
-use Rattle.job.proofs.field.number.Lts as lts
-use Rattle.job.proofs.field.spelled.Reads as spelled-reads
 
--- src/field.rt:122:9
 returns : tie.Need-returns
 returns c = let e = numeral-short _ (c .if1 .taken) in record { ok = e; value = rw (← e) }
 
--- src/field.rt:125:9
 returns-2 : tie.Need-returns-2
 returns-2 c = let e = numeral-long _ (c .if2 .taken) in record { ok = e; value = rw (← e) }
 
--- src/field.rt:128:9
 spelled-requires : tie.Need-spelled-requires
 spelled-requires c κs = search needs
 
--- src/field.rt:128:9
 returns-3 : tie.Need-returns-3
 returns-3 c =
     let l = c .before .before .before .before .before .args .part .now in
     rw (← numeral-digits l (omega arith) (omega arith) (λ h e. omega arith)) (c .spelled .ensures)
 
--- src/field.rt:130:8
 shared-slice-read-if4 : tie.Need-shared-slice-read-if4
 shared-slice-read-if4 c = search needs
 
--- src/field.rt:131:9
 returns-4 : tie.Need-returns-4
 returns-4 c =
     let l = c .before .before .before .before .before .before .args .part .now in
     let e = numeral-zero l (omega arith) (c .if4 .taken) in record { ok = e; value = rw (← e) }
 
--- src/field.rt:133:5
 spelled-requires-2 : tie.Need-spelled-requires-2
 spelled-requires-2 c κs = search needs
 
--- src/field.rt:117:1
 returns-5 : tie.Need-returns-5
 returns-5 c =
     let l = c .before .before .before .before .before .before .before .args .part .now in

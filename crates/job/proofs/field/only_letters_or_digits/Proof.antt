@@ -1,17 +1,14 @@
-use mathlib.Core.Path.{refl, sym, ap, _∙_}
-use borrow.Author.Tests.{not-true, not-false}
-use Prim.Native.Nat.{_+_, _-_, _*_, _^_, _≤_, _<_}
-use mathlib.Core.Path.{_≡_}
-use lib.ListN.{length, getD, drop}
+-- `job::field::only_letters_or_digits` meets its contract.
+use Prim.Native.Nat.{_-_, _≤_}
 use native.Mathlib.Omega.{arith}
+use mathlib.Core.Path.{sym, _∙_, _≡_}
+use lib.ListN.{length, drop}
+use borrow.Author.Tests.{not-true, not-false}
+use borrow.Author.Needs.{needs}
 use Rattle.job.specs.Numbers.{all, letterOrDigit}
 use Rattle.job.proofs.Scan.{all-stop, all-step, all-end}
-use borrow.Author.Needs.{needs}
 use Rattle.job.proofs.field.only_letters_or_digits.Statement.{statement}
 use Rattle.job.proofs.field.only_letters_or_digits.Tie as tie
-use Rattle.job.proofs.field.only_letters_or_digits.Reads as reads
-use Rattle.job.proofs.field.only_letters_or_digits.Lts as lts
-use Rattle.job.proofs.field.is_letter_or_digit.Reads as is-letter-or-digit-reads
 
 abbrev Inv-loop : tie.InvT-loop
 Inv-loop part i₀ i = (i ≤ length part) × (all letterOrDigit part ≡ all letterOrDigit (drop i part))
@@ -19,42 +16,38 @@ Inv-loop part i₀ i = (i ≤ length part) × (all letterOrDigit part ≡ all le
 abbrev μ-loop : tie.MeasureT-loop
 μ-loop part i₀ i = length part - i
 
--- src/field.rt:75:5
 loop-holds : tie.Need-loop-holds Inv-loop μ-loop
 loop-holds c = search needs
 
--- src/field.rt:76:32
 shared-slice-read-is-letter-or-digit :
     tie.Need-shared-slice-read-is-letter-or-digit Inv-loop μ-loop
 shared-slice-read-is-letter-or-digit c = search needs
 
--- src/field.rt:76:13
 is-letter-or-digit-requires : tie.Need-is-letter-or-digit-requires Inv-loop μ-loop
 is-letter-or-digit-requires c κs = search needs
 
--- src/field.rt:77:13
 returns : tie.Need-returns Inv-loop μ-loop
 returns c =
     let at = c .before .before .before .before in
     let test = c .before .before .before .loop-test .taken in
-    all-stop letterOrDigit _ (at .loop .i) (at .loop .inv .1) test (sym (c .before .is-letter-or-digit .ensures) ∙ not-true _ (c .if1 .taken))
+    all-stop letterOrDigit _ (at .loop .i) (at .loop .inv .1) test
+    (sym (c .before .is-letter-or-digit .ensures) ∙ not-true _ (c .if1 .taken))
 
--- src/field.rt:79:9
 add-i : tie.Need-add-i Inv-loop μ-loop
 add-i c = search needs
 
--- src/field.rt:75:5
 loop-less : tie.Need-loop-less Inv-loop μ-loop
 loop-less c = search needs
 
--- src/field.rt:75:5
 loop-again : tie.Need-loop-again Inv-loop μ-loop
 loop-again c =
     let at = c .before .before .before .before in
-    let test = c .before .before .before .loop-test .taken in
-    (omega arith, all-step letterOrDigit _ (at .loop .i) (at .loop .inv .1) test (sym (c .before .is-letter-or-digit .ensures) ∙ not-false _ (c .if1 .left)))
+    let test = c .before .before .before .loop-test .taken in (
+      omega arith,
+      all-step letterOrDigit _ (at .loop .i) (at .loop .inv .1) test
+          (sym (c .before .is-letter-or-digit .ensures) ∙ not-false _ (c .if1 .left)),
+    )
 
--- src/field.rt:71:1
 returns-2 : tie.Need-returns-2 Inv-loop μ-loop
 returns-2 c = all-end letterOrDigit _ (c .before .loop .i) (c .before .loop .inv .1) (c .loop-test .left)
 

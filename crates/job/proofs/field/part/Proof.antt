@@ -1,29 +1,24 @@
-use lib.Dec.{leb}
-use lib.ListN.{length, drop}
+-- `job::field::part` meets its contract.
 use Prim.Native.Nat.{_-_}
 use native.Mathlib.Omega.{arith}
-use Rattle.job.proofs.Scan.{part-none}
-use borrow.Author.Tests.{lt-leb, le-leb, eq-eqb, ne-eqb, lt-ltb, le-ltb}
-use Rattle.job.specs.Answers.{partOf}
+use lib.Dec.{leb}
+use lib.ListN.{length, drop}
+use borrow.Author.Tests.{lt-leb, le-leb}
 use borrow.Author.Needs.{needs}
+use Rattle.job.proofs.Scan.{part-none}
+use Rattle.job.specs.Answers.{partOf}
 use Rattle.job.proofs.field.part.Statement.{statement}
 use Rattle.job.proofs.field.part.Tie as tie
-use Rattle.job.proofs.field.part.Reads as reads
-use Rattle.job.proofs.field.part.Lts as lts
 
--- src/field.rt:28:16
 sub-result : tie.Need-sub-result
 sub-result c = search needs
 
--- src/field.rt:28:16
 part-result-start : tie.Need-part-result-start
 part-result-start c = search needs
 
--- src/field.rt:28:16
 part-result-end : tie.Need-part-result-end
 part-result-end c = search needs
 
--- src/field.rt:28:9
 returns : tie.Need-returns
 unfolding partOf
 returns c =
@@ -31,32 +26,25 @@ returns c =
     let place = c .before .before .args .place in
     part-none (leb (place .to) (length line)) (place .to - place .from) (drop (place .from) line) (omega arith)
 
--- src/field.rt:31:16
 sub-result-2 : tie.Need-sub-result-2
 sub-result-2 c = search needs
 
--- src/field.rt:31:16
 part-result-start-2 : tie.Need-part-result-start-2
 part-result-start-2 c = search needs
 
--- src/field.rt:31:16
 part-result-end-2 : tie.Need-part-result-end-2
 part-result-end-2 c = search needs
 
--- src/field.rt:31:9
 returns-2 : tie.Need-returns-2
 unfolding partOf
 returns-2 c = rw (lt-leb _ _ (c .before .if2 .taken))
 
--- src/field.rt:33:5
 part-result-start-3 : tie.Need-part-result-start-3
 part-result-start-3 c = search needs
 
--- src/field.rt:33:5
 part-result-end-3 : tie.Need-part-result-end-3
 part-result-end-3 c = search needs
 
--- src/field.rt:22:1
 returns-3 : tie.Need-returns-3
 unfolding partOf
 returns-3 c = rw (le-leb _ _ (c .before .if2 .left))

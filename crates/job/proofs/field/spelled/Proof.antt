@@ -1,98 +1,95 @@
-use mathlib.Core.Path.{refl, sym, ap, _∙_}
-use borrow.Author.Tests.{not-true, not-false}
-use Rattle.job.proofs.Decimal.{digit-range}
-use Prim.Native.Nat.{_+_, _-_, _*_, _^_, _≤_, _<_}
-use mathlib.Core.Path.{_≡_}
-use lib.ListN.{length, getD, drop}
+-- `job::field::spelled` meets its contract.
+use Prim.Native.Nat.{_-_, _^_, _≤_, _<_}
 use native.Mathlib.Omega.{arith}
-use Rattle.job.specs.Numbers.{all, digit}
-use Rattle.job.specs.Numbers.{value as value·of}
-use Rattle.job.proofs.Scan.{all-stop, all-step, all-end, value-ahead, value-end, digits-below}
+use mathlib.Core.Path.{sym, _∙_, _≡_}
+use lib.ListN.{length, getD, drop}
+use borrow.Author.Tests.{not-true, not-false}
 use borrow.Author.Needs.{needs}
+use Rattle.job.proofs.Decimal.{digit-range}
+use Rattle.job.specs.Numbers.{all, digit, value as value·of}
+use Rattle.job.proofs.Scan.{all-stop, all-step, all-end, value-ahead, value-end, digits-below}
 use Rattle.job.proofs.field.spelled.Statement.{statement}
 use Rattle.job.proofs.field.spelled.Tie as tie
-use Rattle.job.proofs.field.spelled.Reads as reads
-use Rattle.job.proofs.field.spelled.Lts as lts
-use Rattle.job.proofs.field.is_within.Reads as is-within-reads
 
 abbrev Inv-loop : tie.InvT-loop
-Inv-loop part value₀ i₀ value i = (i ≤ length part) × (all digit part ≡ all digit (drop i part)) × (value·of 0 part ≡ value·of value (drop i part)) × (value < 10 ^ i)
+Inv-loop part value₀ i₀ value i = (i ≤ length part) × (all digit part ≡ all digit (drop i part)) ×
+    (value·of 0 part ≡ value·of value (drop i part)) × (value < 10 ^ i)
 
 abbrev μ-loop : tie.MeasureT-loop
 μ-loop part value₀ i₀ value i = length part - i
 
--- src/field.rt:104:5
 loop-holds : tie.Need-loop-holds Inv-loop μ-loop
 loop-holds c = search needs
 
--- src/field.rt:105:17
 shared-slice-read-b : tie.Need-shared-slice-read-b Inv-loop μ-loop
 shared-slice-read-b c = search needs
 
--- src/field.rt:106:13
 is-within-requires : tie.Need-is-within-requires Inv-loop μ-loop
 is-within-requires c κs = search needs
 
--- src/field.rt:107:13
 returns : tie.Need-returns Inv-loop μ-loop
 unfolding digit
 returns c =
     let at = c .before .before .before .before in
     let test = c .before .before .before .loop-test .taken in
-    let e = all-stop digit _ (at .loop .i) (at .loop .inv .1) test (sym (c .before .is-within .ensures) ∙ not-true _ (c .if1 .taken)) in
+    let e = all-stop digit _ (at .loop .i) (at .loop .inv .1) test
+    (sym (c .before .is-within .ensures) ∙ not-true _ (c .if1 .taken)) in
     record { ok = e; value = rw (← e) }
 
--- src/field.rt:109:17
 mul-value : tie.Need-mul-value Inv-loop μ-loop
 unfolding digit
 mul-value c =
     let at = c .before .before .before .before in
-    let d = digit-range (getD (at .before .before .args .part .now) (at .loop .i) 0) (sym (c .before .is-within .ensures) ∙ not-false _ (c .if1 .left)) in
-    let m = digits-below (at .loop .i) (at .loop .value) (getD (at .before .before .args .part .now) (at .loop .i) 0 - 48) (omega (arith, at .before .before .pre)) (at .loop .inv .3) (omega (arith, d .1)) in
+    let d = digit-range (getD (at .before .before .args .part .now) (at .loop .i) 0)
+    (sym (c .before .is-within .ensures) ∙ not-false _ (c .if1 .left)) in
+    let m = digits-below (at .loop .i) (at .loop .value) (getD (at .before .before .args .part .now) (at .loop .i) 0 - 48)
+    (omega (arith, at .before .before .pre)) (at .loop .inv .3) (omega (arith, d .1)) in
     omega (arith, m .1)
 
--- src/field.rt:109:31
 sub-value : tie.Need-sub-value Inv-loop μ-loop
 unfolding digit
 sub-value c =
     let at = c .before .before .before .before in
-    let d = digit-range (getD (at .before .before .args .part .now) (at .loop .i) 0) (sym (c .before .is-within .ensures) ∙ not-false _ (c .if1 .left)) in
-    let m = digits-below (at .loop .i) (at .loop .value) (getD (at .before .before .args .part .now) (at .loop .i) 0 - 48) (omega (arith, at .before .before .pre)) (at .loop .inv .3) (omega (arith, d .1)) in
+    let d = digit-range (getD (at .before .before .args .part .now) (at .loop .i) 0)
+    (sym (c .before .is-within .ensures) ∙ not-false _ (c .if1 .left)) in
+    let m = digits-below (at .loop .i) (at .loop .value) (getD (at .before .before .args .part .now) (at .loop .i) 0 - 48)
+    (omega (arith, at .before .before .pre)) (at .loop .inv .3) (omega (arith, d .1)) in
     d .0
 
--- src/field.rt:109:30
 cast-value : tie.Need-cast-value Inv-loop μ-loop
 unfolding digit
 cast-value c =
     let at = c .before .before .before .before in
-    let d = digit-range (getD (at .before .before .args .part .now) (at .loop .i) 0) (sym (c .before .is-within .ensures) ∙ not-false _ (c .if1 .left)) in
-    let m = digits-below (at .loop .i) (at .loop .value) (getD (at .before .before .args .part .now) (at .loop .i) 0 - 48) (omega (arith, at .before .before .pre)) (at .loop .inv .3) (omega (arith, d .1)) in
+    let d = digit-range (getD (at .before .before .args .part .now) (at .loop .i) 0)
+    (sym (c .before .is-within .ensures) ∙ not-false _ (c .if1 .left)) in
+    let m = digits-below (at .loop .i) (at .loop .value) (getD (at .before .before .args .part .now) (at .loop .i) 0 - 48)
+    (omega (arith, at .before .before .pre)) (at .loop .inv .3) (omega (arith, d .1)) in
     omega (arith, d .1)
 
--- src/field.rt:109:17
 add-value : tie.Need-add-value Inv-loop μ-loop
 unfolding digit
 add-value c =
     let at = c .before .before .before .before in
-    let d = digit-range (getD (at .before .before .args .part .now) (at .loop .i) 0) (sym (c .before .is-within .ensures) ∙ not-false _ (c .if1 .left)) in
-    let m = digits-below (at .loop .i) (at .loop .value) (getD (at .before .before .args .part .now) (at .loop .i) 0 - 48) (omega (arith, at .before .before .pre)) (at .loop .inv .3) (omega (arith, d .1)) in
+    let d = digit-range (getD (at .before .before .args .part .now) (at .loop .i) 0)
+    (sym (c .before .is-within .ensures) ∙ not-false _ (c .if1 .left)) in
+    let m = digits-below (at .loop .i) (at .loop .value) (getD (at .before .before .args .part .now) (at .loop .i) 0 - 48)
+    (omega (arith, at .before .before .pre)) (at .loop .inv .3) (omega (arith, d .1)) in
     omega (arith, m .1, d .1)
 
--- src/field.rt:110:9
 add-i : tie.Need-add-i Inv-loop μ-loop
 add-i c = search needs
 
--- src/field.rt:104:5
 loop-less : tie.Need-loop-less Inv-loop μ-loop
 loop-less c = search needs
 
--- src/field.rt:104:5
 loop-again : tie.Need-loop-again Inv-loop μ-loop
 unfolding digit
 loop-again c =
     let at = c .before .before .before .before in
-    let d = digit-range (getD (at .before .before .args .part .now) (at .loop .i) 0) (sym (c .before .is-within .ensures) ∙ not-false _ (c .if1 .left)) in
-    let m = digits-below (at .loop .i) (at .loop .value) (getD (at .before .before .args .part .now) (at .loop .i) 0 - 48) (omega (arith, at .before .before .pre)) (at .loop .inv .3) (omega (arith, d .1)) in
+    let d = digit-range (getD (at .before .before .args .part .now) (at .loop .i) 0)
+    (sym (c .before .is-within .ensures) ∙ not-false _ (c .if1 .left)) in
+    let m = digits-below (at .loop .i) (at .loop .value) (getD (at .before .before .args .part .now) (at .loop .i) 0 - 48)
+    (omega (arith, at .before .before .pre)) (at .loop .inv .3) (omega (arith, d .1)) in
     let test = c .before .before .before .loop-test .taken in (
       omega arith,
       all-step digit _ (at .loop .i) (at .loop .inv .1) test (sym (c .before .is-within .ensures) ∙ not-false _ (c .if1 .left)),
@@ -100,11 +97,14 @@ loop-again c =
       m .0,
     )
 
--- src/field.rt:98:1
 returns-2 : tie.Need-returns-2 Inv-loop μ-loop
 returns-2 c =
     let e = all-end digit _ (c .before .loop .i) (c .before .loop .inv .1) (c .loop-test .left) in
-    record { ok = e; value = rw (← e) (sym (c .before .loop .inv .2 ∙ value-end _ (c .before .loop .i) (c .before .loop .value) (c .loop-test .left))) }
+    record {
+      ok = e;
+      value = rw (← e)
+          (sym (c .before .loop .inv .2 ∙ value-end _ (c .before .loop .i) (c .before .loop .value) (c .loop-test .left)));
+    }
 
 pub spelled-spec : {M : Type 1} → statement M
 spelled-spec =

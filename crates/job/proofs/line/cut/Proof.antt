@@ -1,19 +1,14 @@
-use mathlib.Core.Path.{_≡_}
+-- `job::line::cut` meets its contract.
+use Prim.Native.Nat.{_-_}
+use mathlib.Core.Path.{_≡_, refl}
 use mathlib.Core.Bool.{false}
-use mathlib.Core.Path.{refl, ap, sym, _∙_}
-use borrow.Author.Tests.{not-true, not-false}
-use Rattle.job.specs.Answers.{fieldsOf}
-use Rattle.job.proofs.Cuts.{mark-room}
-use Prim.Native.Nat.{_-_, _+_}
-use native.Mathlib.Omega.{arith}
 use lib.ListN.{length}
-use Rattle.job.proofs.Cuts.{Fits as Cuts·Fits, fit-next, fit-none, fit-start, fit-whole, fit-left}
+use borrow.Author.Tests.{not-true, not-false}
 use borrow.Author.Needs.{needs}
+use Rattle.job.specs.Answers.{fieldsOf}
+use Rattle.job.proofs.Cuts.{mark-room, Fits as Cuts·Fits, fit-next, fit-none, fit-start, fit-whole, fit-left}
 use Rattle.job.proofs.line.cut.Statement.{statement}
 use Rattle.job.proofs.line.cut.Tie as tie
-use Rattle.job.proofs.line.cut.Reads as reads
-use Rattle.job.proofs.line.cut.Lts as lts
-use Rattle.job.proofs.line.next.Reads as next-reads
 
 abbrev Inv-loop : tie.InvT-loop
 Inv-loop form line c₀ i₀ c i = Cuts·Fits form line c i
@@ -21,21 +16,17 @@ Inv-loop form line c₀ i₀ c i = Cuts·Fits form line c i
 abbrev μ-loop : tie.MeasureT-loop
 μ-loop form line c₀ i₀ c i = length form - i
 
--- src/line.rt:65:5
 loop-holds : tie.Need-loop-holds Inv-loop μ-loop
 loop-holds c = fit-start _ _ _ refl refl refl refl
 
--- src/line.rt:66:18
 shared-slice-read-next : tie.Need-shared-slice-read-next Inv-loop μ-loop
 shared-slice-read-next c = search needs
 
--- src/line.rt:66:9
 next-requires : tie.Need-next-requires Inv-loop μ-loop
 next-requires c κs =
     let at = c .before .before in
     (at .loop .inv .within, mark-room _ _ _ _ (at .loop .inv) (c .before .loop-test .taken) (at .before .before .before .pre))
 
--- src/line.rt:68:13
 returns : tie.Need-returns Inv-loop μ-loop
 unfolding fieldsOf
 returns c =
@@ -44,27 +35,23 @@ returns c =
     let t : c .before .before .next .result .ok ≡ false = not-true _ (c .if1 .taken) in
     rw t (fit-none _ _ _ _ (at .loop .inv) (c .before .before .before .before .loop-test .taken) (rw (← e) t))
 
--- src/line.rt:70:9
 add-i : tie.Need-add-i Inv-loop μ-loop
 add-i c = search needs
 
--- src/line.rt:65:5
 loop-less : tie.Need-loop-less Inv-loop μ-loop
 loop-less c = search needs
 
--- src/line.rt:65:5
 loop-again : tie.Need-loop-again Inv-loop μ-loop
 loop-again c =
     let at = c .before .before .before .before .before in
     let e = c .before .before .next .ensures in
-    rw e (fit-next _ _ _ _ (at .loop .inv) (c .before .before .before .before .loop-test .taken) (at .before .before .before .pre) (rw (← e) (not-false _ (c .if1 .left))))
+    rw e (fit-next _ _ _ _ (at .loop .inv) (c .before .before .before .before .loop-test .taken)
+    (at .before .before .before .pre) (rw (← e) (not-false _ (c .if1 .left))))
 
--- src/line.rt:54:1
 returns-2 : tie.Need-returns-2 Inv-loop μ-loop
 unfolding fieldsOf
 returns-2 c = fit-left _ _ _ _ (c .before .before .before .loop .inv) (c .before .before .loop-test .left) (c .if2 .taken)
 
--- src/line.rt:54:1
 returns-3 : tie.Need-returns-3 Inv-loop μ-loop
 unfolding fieldsOf
 returns-3 c =

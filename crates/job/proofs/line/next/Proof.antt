@@ -1,48 +1,37 @@
-use borrow.Author.Tests.{lt-leb, le-leb, eq-eqb, ne-eqb}
+-- `job::line::next` meets its contract.
 use native.Mathlib.Omega.{arith}
-use Rattle.job.specs.Answers.{nextOf}
+use borrow.Author.Tests.{lt-leb, le-leb, eq-eqb, ne-eqb}
 use borrow.Author.Needs.{needs}
+use Rattle.job.specs.Answers.{nextOf}
 use Rattle.job.proofs.line.next.Statement.{statement}
 use Rattle.job.proofs.line.next.Tie as tie
-use Rattle.job.proofs.line.next.Reads as reads
-use Rattle.job.proofs.line.next.Lts as lts
-use Rattle.job.proofs.field.field_end.Reads as field-end-reads
 
--- src/line.rt:28:13
 field-end-requires : tie.Need-field-end-requires
 field-end-requires c κs = search needs
 
--- src/line.rt:29:9
 mul-places : tie.Need-mul-places
 mul-places c = omega (arith, c .before .before .before .before .pre .1 (c .before .if1 .taken))
 
--- src/line.rt:29:9
 array-set-from-places : tie.Need-array-set-from-places
 array-set-from-places c = c .before .before .before .before .pre .1 (c .before .if1 .taken)
 
--- src/line.rt:33:20
 add-t10 : tie.Need-add-t10
 add-t10 c = omega (arith, c .before .before .before .before .pre .1 (c .before .if1 .taken))
 
--- src/line.rt:30:9
 returns : tie.Need-returns
 unfolding nextOf
 returns c = rw (eq-eqb _ 35 (c .before .if1 .taken), c .field-end .ensures, nextOf)
 
--- src/line.rt:38:9
 returns-2 : tie.Need-returns-2
 unfolding nextOf
 returns-2 c = rw (ne-eqb _ 35 (c .before .if1 .left), le-leb _ _ (c .if2 .taken), nextOf)
 
--- src/line.rt:46:13
 shared-slice-read-t17 : tie.Need-shared-slice-read-t17
 shared-slice-read-t17 c = search needs
 
--- src/line.rt:47:13
 add-t14 : tie.Need-add-t14
 add-t14 c = search needs
 
--- src/line.rt:19:1
 returns-3 : tie.Need-returns-3
 unfolding nextOf
 returns-3 c = rw (ne-eqb _ 35 (c .before .before .if1 .left), lt-leb _ _ (c .before .if2 .left), nextOf)

@@ -1,83 +1,71 @@
-use mathlib.Core.Path.{sym, _∙_}
+-- `job::line::read_line` meets its contract.
 use native.Mathlib.Omega.{arith}
+use mathlib.Core.Path.{sym, _∙_}
+use borrow.Author.Needs.{needs}
 use Rattle.job.specs.Forms.{seedsForm, sigmaForm, shotForm}
 use Rattle.job.proofs.Reading.{found, missed}
 use Rattle.job.proofs.RoundTrip.{all-marks, read-seeds, read-sigma, read-shot, read-none}
-use borrow.Author.Tests.{not-true, not-false}
-use borrow.Author.Needs.{needs}
 use Rattle.job.proofs.line.read_line.Statement.{statement}
 use Rattle.job.proofs.line.read_line.Tie as tie
-use Rattle.job.proofs.line.read_line.Reads as reads
-use Rattle.job.proofs.line.read_line.Lts as lts
-use Rattle.job.proofs.line.cut.Reads as cut-reads
-use Rattle.job.proofs.line.seeds_line.Reads as seeds-line-reads
-use Rattle.job.proofs.line.shot_line.Reads as shot-line-reads
-use Rattle.job.proofs.line.sigma_line.Reads as sigma-line-reads
 
--- src/line.rt:244:21
 slice-aggregate-cut : tie.Need-slice-aggregate-cut
 slice-aggregate-cut c = search needs
 
--- src/line.rt:244:9
 cut-requires : tie.Need-cut-requires
 unfolding seedsForm
 cut-requires c κs = omega (arith, all-marks .0)
 
--- src/line.rt:246:9
 seeds-line-requires : tie.Need-seeds-line-requires
 seeds-line-requires c κs = search needs
 
--- src/line.rt:246:9
 returns : tie.Need-returns
 unfolding seedsForm sigmaForm shotForm
-returns c = c .seeds-line .ensures ∙ sym (read-seeds _ _ (found seedsForm _ _ (c .before .before .cut .ensures) 6 (all-marks .0) (c .before .if1 .taken)))
+returns c = c .seeds-line .ensures ∙ sym
+    (read-seeds _ _ (found seedsForm _ _ (c .before .before .cut .ensures) 6 (all-marks .0) (c .before .if1 .taken)))
 
--- src/line.rt:248:21
 slice-aggregate-cut-2 : tie.Need-slice-aggregate-cut-2
 slice-aggregate-cut-2 c = search needs
 
--- src/line.rt:248:9
 cut-requires-2 : tie.Need-cut-requires-2
 unfolding sigmaForm
 cut-requires-2 c κs = omega (arith, all-marks .1)
 
--- src/line.rt:250:9
 sigma-line-requires : tie.Need-sigma-line-requires
 sigma-line-requires c κs = search needs
 
--- src/line.rt:250:9
 returns-2 : tie.Need-returns-2
 unfolding seedsForm sigmaForm shotForm
 returns-2 c =
-    let p = missed seedsForm _ _ (c .before .before .before .before .before .cut .ensures) (c .before .before .before .before .if1 .left) in
-    c .sigma-line .ensures ∙ sym (read-sigma _ _ p (found sigmaForm _ _ (c .before .before .cut2 .ensures) 2 (all-marks .1) (c .before .if2 .taken)))
+    let p = missed seedsForm _ _ (c .before .before .before .before .before .cut .ensures)
+    (c .before .before .before .before .if1 .left) in
+    c .sigma-line .ensures ∙ sym (read-sigma _ _ p
+    (found sigmaForm _ _ (c .before .before .cut2 .ensures) 2 (all-marks .1) (c .before .if2 .taken)))
 
--- src/line.rt:252:20
 slice-aggregate-cut-3 : tie.Need-slice-aggregate-cut-3
 slice-aggregate-cut-3 c = search needs
 
--- src/line.rt:252:9
 cut-requires-3 : tie.Need-cut-requires-3
 unfolding shotForm
 cut-requires-3 c κs = omega (arith, all-marks .2)
 
--- src/line.rt:254:9
 shot-line-requires : tie.Need-shot-line-requires
 shot-line-requires c κs = search needs
 
--- src/line.rt:254:9
 returns-3 : tie.Need-returns-3
 unfolding seedsForm sigmaForm shotForm
 returns-3 c =
-    let p = missed seedsForm _ _ (c .before .before .before .before .before .before .before .before .cut .ensures) (c .before .before .before .before .before .before .before .if1 .left) in
-    let q = missed sigmaForm _ _ (c .before .before .before .before .before .cut2 .ensures) (c .before .before .before .before .if2 .left) in
-    c .shot-line .ensures ∙ sym (read-shot _ _ p q (found shotForm _ _ (c .before .before .cut3 .ensures) 4 (all-marks .2) (c .before .if3 .taken)))
+    let p = missed seedsForm _ _ (c .before .before .before .before .before .before .before .before .cut .ensures)
+    (c .before .before .before .before .before .before .before .if1 .left) in
+    let q = missed sigmaForm _ _ (c .before .before .before .before .before .cut2 .ensures)
+    (c .before .before .before .before .if2 .left) in
+    c .shot-line .ensures ∙ sym (read-shot _ _ p q
+    (found shotForm _ _ (c .before .before .cut3 .ensures) 4 (all-marks .2) (c .before .if3 .taken)))
 
--- src/line.rt:241:1
 returns-4 : tie.Need-returns-4
 unfolding seedsForm sigmaForm shotForm
 returns-4 c =
-    let p = missed seedsForm _ _ (c .before .before .before .before .before .before .before .cut .ensures) (c .before .before .before .before .before .before .if1 .left) in
+    let p = missed seedsForm _ _ (c .before .before .before .before .before .before .before .cut .ensures)
+    (c .before .before .before .before .before .before .if1 .left) in
     let q = missed sigmaForm _ _ (c .before .before .before .before .cut2 .ensures) (c .before .before .before .if2 .left) in
     sym (read-none _ p q (missed shotForm _ _ (c .before .cut3 .ensures) (c .if3 .left)))
 

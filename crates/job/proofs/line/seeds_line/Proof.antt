@@ -1,33 +1,26 @@
-use Rattle.job.proofs.Reading.{test-true, test-false, spelled-value, seeds-at, sigma-at, shot-at}
+-- `job::line::seeds_line` meets its contract.
 use mathlib.Core.Path.{sym, _∙_}
 use borrow.Author.Tests.{not-true, not-false}
 use borrow.Author.Needs.{needs}
+use Rattle.job.proofs.Reading.{seeds-at}
 use Rattle.job.proofs.line.seeds_line.Statement.{statement}
 use Rattle.job.proofs.line.seeds_line.Tie as tie
-use Rattle.job.proofs.line.seeds_line.Reads as reads
-use Rattle.job.proofs.line.seeds_line.Lts as lts
-use Rattle.job.proofs.line.three_at.Reads as three-at-reads
 
--- src/line.rt:177:9
 three-at-requires : tie.Need-three-at-requires
 three-at-requires c κs = search needs
 
--- src/line.rt:179:9
 returns : tie.Need-returns
 returns c = rw (seeds-at, sym (c .before .before .three-at .ensures .ok) ∙ not-true _ (c .if1 .taken))
 
--- src/line.rt:181:9
 three-at-requires-2 : tie.Need-three-at-requires-2
 three-at-requires-2 c κs = search needs
 
--- src/line.rt:183:9
 returns-2 : tie.Need-returns-2
 returns-2 c =
     let a = c .before .before .before .before .before .three-at .ensures in
     let b = c .before .before .three-at2 .ensures in
     rw (seeds-at, sym (a .ok) ∙ not-false _ (c .before .before .before .if1 .left), sym (b .ok) ∙ not-true _ (c .if2 .taken))
 
--- src/line.rt:174:1
 returns-3 : tie.Need-returns-3
 returns-3 c =
     let a = c .before .before .before .before .before .three-at .ensures in

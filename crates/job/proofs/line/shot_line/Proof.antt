@@ -1,67 +1,65 @@
-use Rattle.job.proofs.Reading.{test-true, test-false, spelled-value, seeds-at, sigma-at, shot-at}
+-- `job::line::shot_line` meets its contract.
 use mathlib.Core.Path.{sym, _∙_}
 use borrow.Author.Tests.{not-true, not-false}
 use borrow.Author.Needs.{needs}
+use Rattle.job.proofs.Reading.{test-true, test-false, spelled-value, shot-at}
 use Rattle.job.proofs.line.shot_line.Statement.{statement}
 use Rattle.job.proofs.line.shot_line.Tie as tie
-use Rattle.job.proofs.line.shot_line.Reads as reads
-use Rattle.job.proofs.line.shot_line.Lts as lts
-use Rattle.job.proofs.line.name_at.Reads as name-at-reads
-use Rattle.job.proofs.line.number_at.Reads as number-at-reads
 
--- src/line.rt:215:9
 name-at-requires : tie.Need-name-at-requires
 name-at-requires c κs = search needs
 
--- src/line.rt:216:9
 returns : tie.Need-returns
 returns c = rw (shot-at, sym (c .before .name-at .ensures) ∙ not-true _ (c .if1 .taken))
 
--- src/line.rt:218:9
 name-at-requires-2 : tie.Need-name-at-requires-2
 name-at-requires-2 c κs = search needs
 
--- src/line.rt:219:9
 returns-2 : tie.Need-returns-2
 returns-2 c =
-    rw (shot-at, sym (c .before .before .before .name-at .ensures) ∙ not-false _ (c .before .before .if1 .left), sym (c .before .name-at2 .ensures) ∙ not-true _ (c .if2 .taken))
+    rw (
+      shot-at,
+      sym (c .before .before .before .name-at .ensures) ∙ not-false _ (c .before .before .if1 .left),
+      sym
+          (c .before .name-at2 .ensures) ∙ not-true _ (c .if2 .taken),
+    )
 
--- src/line.rt:221:9
 number-at-requires : tie.Need-number-at-requires
 number-at-requires c κs = search needs
 
--- src/line.rt:223:9
 returns-3 : tie.Need-returns-3
 returns-3 c =
-    let m = sym (c .before .before .before .before .before .before .name-at .ensures) ∙ not-false _ (c .before .before .before .before .before .if1 .left) in
+    let m = sym (c .before .before .before .before .before .before .name-at .ensures) ∙ not-false _
+    (c .before .before .before .before .before .if1 .left) in
     let n = sym (c .before .before .before .before .name-at2 .ensures) ∙ not-false _ (c .before .before .before .if2 .left) in
     rw (shot-at, m, n, test-false (c .before .before .number-at .ensures) (not-true _ (c .if3 .taken)))
 
--- src/line.rt:225:9
 number-at-requires-2 : tie.Need-number-at-requires-2
 number-at-requires-2 c κs = search needs
 
--- src/line.rt:227:9
 returns-4 : tie.Need-returns-4
 returns-4 c =
-    let m = sym (c .before .before .before .before .before .before .before .before .before .name-at .ensures) ∙ not-false _ (c .before .before .before .before .before .before .before .before .if1 .left) in
-    let n = sym (c .before .before .before .before .before .before .before .name-at2 .ensures) ∙ not-false _ (c .before .before .before .before .before .before .if2 .left) in
-    let d = test-true (c .before .before .before .before .before .number-at .ensures) (not-false _ (c .before .before .before .if3 .left)) in
+    let m = sym (c .before .before .before .before .before .before .before .before .before .name-at .ensures) ∙ not-false _
+    (c .before .before .before .before .before .before .before .before .if1 .left) in
+    let n = sym (c .before .before .before .before .before .before .before .name-at2 .ensures) ∙ not-false _
+    (c .before .before .before .before .before .before .if2 .left) in
+    let d = test-true (c .before .before .before .before .before .number-at .ensures)
+    (not-false _ (c .before .before .before .if3 .left)) in
     rw (shot-at, m, n, d, test-false (c .before .before .number-at2 .ensures) (not-true _ (c .if4 .taken)))
 
--- src/line.rt:230:16
 array-copy-out-from : tie.Need-array-copy-out-from
 array-copy-out-from c = search needs
 
--- src/line.rt:231:14
 array-copy-out-to : tie.Need-array-copy-out-to
 array-copy-out-to c = search needs
 
--- src/line.rt:212:1
 returns-5 : tie.Need-returns-5
 returns-5 c =
-    let m = sym (c .before .before .before .before .before .before .before .before .before .before .before .before .name-at .ensures) ∙ not-false _ (c .before .before .before .before .before .before .before .before .before .before .before .if1 .left) in
-    let n = sym (c .before .before .before .before .before .before .before .before .before .before .name-at2 .ensures) ∙ not-false _ (c .before .before .before .before .before .before .before .before .before .if2 .left) in
+    let m = sym (c .before .before .before .before .before .before .before .before .before .before .before .before .name-at
+    .ensures) ∙ not-false _ (c .before .before .before .before .before .before .before .before .before .before .before
+    .if1 .left) in
+    let n = sym (c .before .before .before .before .before .before .before .before .before .before .name-at2 .ensures) ∙
+    not-false _ (c .before .before .before .before .before .before .before .before .before .if2 .left) in
     let d = c .before .before .before .before .before .before .before .before .number-at .ensures in
     let b = c .before .before .before .before .before .number-at2 .ensures in
     let s = not-false _ (c .before .before .before .before .before .before .if3 .left) in

@@ -1,31 +1,25 @@
-use Rattle.job.proofs.Reading.{test-true, test-false, spelled-value, seeds-at, sigma-at, shot-at}
+-- `job::line::sigma_line` meets its contract.
 use borrow.Author.Tests.{not-true, not-false}
 use borrow.Author.Needs.{needs}
+use Rattle.job.proofs.Reading.{test-true, test-false, spelled-value, sigma-at}
 use Rattle.job.proofs.line.sigma_line.Statement.{statement}
 use Rattle.job.proofs.line.sigma_line.Tie as tie
-use Rattle.job.proofs.line.sigma_line.Reads as reads
-use Rattle.job.proofs.line.sigma_line.Lts as lts
-use Rattle.job.proofs.line.number_at.Reads as number-at-reads
 
--- src/line.rt:198:9
 number-at-requires : tie.Need-number-at-requires
 number-at-requires c κs = search needs
 
--- src/line.rt:200:9
 returns : tie.Need-returns
 returns c = rw (sigma-at, test-false (c .before .before .number-at .ensures) (not-true _ (c .if1 .taken)))
 
--- src/line.rt:202:9
 number-at-requires-2 : tie.Need-number-at-requires-2
 number-at-requires-2 c κs = search needs
 
--- src/line.rt:204:9
 returns-2 : tie.Need-returns-2
 returns-2 c =
-    let d = test-true (c .before .before .before .before .before .number-at .ensures) (not-false _ (c .before .before .before .if1 .left)) in
+    let d = test-true (c .before .before .before .before .before .number-at .ensures)
+    (not-false _ (c .before .before .before .if1 .left)) in
     rw (sigma-at, d, test-false (c .before .before .number-at2 .ensures) (not-true _ (c .if2 .taken)))
 
--- src/line.rt:195:1
 returns-3 : tie.Need-returns-3
 returns-3 c =
     let d = c .before .before .before .before .before .number-at .ensures in

@@ -1,51 +1,41 @@
-use mathlib.Core.Path.{refl}
-use mathlib.Core.List.{append-nil}
-use lib.ListN.{length-set}
+-- `job::print::digits_of` meets its contract.
+use Prim.Native.Nat.{_/_, _≤_}
+use native.Mathlib.Omega.{arith}
+use mathlib.Core.Path.{refl, _≡_, sym, _∙_}
+use mathlib.Core.List.{append-nil, _++_}
+use lib.ListN.{length-set, length, drop}
+use borrow.Author.Needs.{needs}
 use Rattle.job.proofs.Decimal.{decimal-length, decimal-some}
 use Rattle.job.proofs.Writing.{digit-step, digit-last, length-more}
-use Prim.Native.Nat.{_+_, _-_, _*_, _/_, _%_, _^_, _≤_, _<_}
-use mathlib.Core.Path.{_≡_, sym, ap, _∙_}
-use native.Mathlib.Omega.{arith}
-use mathlib.Core.List.{_++_}
-use lib.ListN.{length, drop}
 use Rattle.job.specs.Numbers.{decimal}
-use borrow.Author.Needs.{needs}
 use Rattle.job.proofs.print.digits_of.Statement.{statement}
 use Rattle.job.proofs.print.digits_of.Tie as tie
-use Rattle.job.proofs.print.digits_of.Reads as reads
-use Rattle.job.proofs.print.digits_of.Lts as lts
 
 abbrev Inv-loop : tie.InvT-loop
-Inv-loop n bytes₀ from₀ rest₀ bytes from rest = (from ≤ 10) × (length bytes ≡ 10) × (length (decimal rest) ≤ from) × (decimal n ≡ decimal rest ++ drop from bytes)
+Inv-loop n bytes₀ from₀ rest₀ bytes from rest = (from ≤ 10) × (length bytes ≡ 10) × (length (decimal rest) ≤ from) ×
+    (decimal n ≡ decimal rest ++ drop from bytes)
 
 abbrev μ-loop : tie.MeasureT-loop
 μ-loop n bytes₀ from₀ rest₀ bytes from rest = rest
 
--- src/print.rt:43:5
 loop-holds : tie.Need-loop-holds Inv-loop μ-loop
 loop-holds c = (omega arith, refl, decimal-length 9 _ (omega arith), sym (append-nil _))
 
--- src/print.rt:44:9
 sub-from : tie.Need-sub-from Inv-loop μ-loop
 sub-from c = omega (arith, length-more (c .before .loop .rest) (c .loop-test .taken), decimal-some (c .before .loop .rest / 10))
 
--- src/print.rt:45:28
 cast-bytes : tie.Need-cast-bytes Inv-loop μ-loop
 cast-bytes c = search needs
 
--- src/print.rt:45:23
 add-bytes : tie.Need-add-bytes Inv-loop μ-loop
 add-bytes c = search needs
 
--- src/print.rt:45:9
 array-write-bytes : tie.Need-array-write-bytes Inv-loop μ-loop
 array-write-bytes c = search needs
 
--- src/print.rt:43:5
 loop-less : tie.Need-loop-less Inv-loop μ-loop
 loop-less c = search needs
 
--- src/print.rt:43:5
 loop-again : tie.Need-loop-again Inv-loop μ-loop
 loop-again c =
     let at = c .before in
@@ -54,32 +44,29 @@ loop-again c =
       omega arith,
       length-set (at .loop .bytes) _ _ ∙ at .loop .inv .1,
       omega arith,
-      digit-step _ (at .loop .rest) (at .loop .from) (at .loop .bytes) (at .loop .inv .1) (at .loop .inv .0) (at .loop .inv .3) (omega arith) (c .loop-test .taken),
+      digit-step _ (at .loop .rest) (at .loop .from) (at .loop .bytes) (at .loop .inv .1) (at .loop .inv .0)
+          (at .loop .inv .3) (omega arith) (c .loop-test .taken),
     )
 
--- src/print.rt:48:5
 sub-from-2 : tie.Need-sub-from-2 Inv-loop μ-loop
 sub-from-2 c = omega (arith, decimal-some (c .before .loop .rest))
 
--- src/print.rt:49:24
 cast-bytes-2 : tie.Need-cast-bytes-2 Inv-loop μ-loop
 cast-bytes-2 c = search needs
 
--- src/print.rt:49:19
 add-bytes-2 : tie.Need-add-bytes-2 Inv-loop μ-loop
 add-bytes-2 c = search needs
 
--- src/print.rt:49:5
 array-write-bytes-2 : tie.Need-array-write-bytes-2 Inv-loop μ-loop
 array-write-bytes-2 c = search needs
 
--- src/print.rt:37:1
 returns : tie.Need-returns Inv-loop μ-loop
 returns c =
     let at = c .before in
     let s = decimal-some (at .loop .rest) in
     record {
-      digits = digit-last _ (at .loop .rest) (at .loop .from) (at .loop .bytes) (at .loop .inv .1) (at .loop .inv .0) (at .loop .inv .3) (omega arith) (omega arith);
+      digits = digit-last _ (at .loop .rest) (at .loop .from) (at .loop .bytes) (at .loop .inv .1) (at .loop .inv .0)
+          (at .loop .inv .3) (omega arith) (omega arith);
       most = omega arith;
       size = length-set (at .loop .bytes) _ _ ∙ at .loop .inv .1;
     }

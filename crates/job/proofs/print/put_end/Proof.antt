@@ -1,33 +1,30 @@
-use Rattle.job.specs.Numbers.{decimal}
+-- `job::print::put_end` meets its contract.
 use native.Mathlib.Omega.{arith}
 use mathlib.Core.Path.{refl, _∙_}
+use Rattle.job.specs.Numbers.{decimal}
 use Rattle.job.specs.Ascii.{ascii}
 use Rattle.job.proofs.Writing.{put-ended, put-end, end-length}
-use borrow.Author.Needs.{needs}
 use Rattle.job.proofs.print.put_end.Statement.{statement}
 use Rattle.job.proofs.print.put_end.Tie as tie
-use Rattle.job.proofs.print.put_end.Reads as reads
-use Rattle.job.proofs.print.put_end.Lts as lts
-use Rattle.job.proofs.print.put_field.Reads as put-field-reads
-use Rattle.job.proofs.print.put_number.Reads as put-number-reads
 
--- src/print.rt:88:32
 slice-aggregate-put-field : tie.Need-slice-aggregate-put-field
 slice-aggregate-put-field c = refl
 
--- src/print.rt:88:9
 put-field-requires : tie.Need-put-field-requires
 put-field-requires c κs = omega (arith, end-length (c .before .before .before .args .count), c .before .before .before .pre)
 
--- src/print.rt:89:5
 put-number-requires : tie.Need-put-number-requires
-put-number-requires c κs = omega (arith, end-length (c .before .before .before .before .before .before .before .args .count), c .before .before .before .before .before .before .before .pre, c .before .before .before .put-field .ensures .0, c .before .before .before .put-field .kept .0)
+put-number-requires c κs = omega (
+  arith,
+  end-length (c .before .before .before .before .before .before .before .args .count),
+  c .before .before .before .before .before .before .before .pre,
+  c .before .before .before .put-field .ensures .0,
+  c .before .before .before .put-field .kept .0,
+)
 
--- src/print.rt:84:1
 same-length : tie.Need-same-length
 same-length c = c .before .before .put-number .kept .0 ∙ c .before .before .before .before .before .before .put-field .kept .0
 
--- src/print.rt:84:1
 returns : tie.Need-returns
 returns c =
     let at = c .before .before .before .before .before .before .before .before .before .before in

@@ -1,40 +1,81 @@
-use Rattle.job.specs.Numbers.{decimal}
+-- `job::print::put_shot` meets its contract.
 use native.Mathlib.Omega.{arith}
-use mathlib.Core.Path.{refl, _∙_}
+use mathlib.Core.Path.{_∙_}
+use Rattle.job.specs.Numbers.{decimal}
 use Rattle.job.proofs.Writing.{put-ended, put-row, row-length}
-use borrow.Author.Needs.{needs}
 use Rattle.job.proofs.print.put_shot.Statement.{statement}
 use Rattle.job.proofs.print.put_shot.Tie as tie
-use Rattle.job.proofs.print.put_shot.Reads as reads
-use Rattle.job.proofs.print.put_shot.Lts as lts
-use Rattle.job.proofs.print.put_field.Reads as put-field-reads
-use Rattle.job.proofs.print.put_number.Reads as put-number-reads
 
--- src/print.rt:70:9
 put-field-requires : tie.Need-put-field-requires
-put-field-requires c κs = omega (arith, row-length (c .before .before .before .before .args .from .now) (c .before .before .before .before .args .to .now) (c .before .before .before .before .args .mm) (c .before .before .before .before .args .step), c .before .before .before .before .pre)
+put-field-requires c κs = omega (
+  arith,
+  row-length (c .before .before .before .before .args .from .now)
+      (c .before .before .before .before .args .to .now) (c .before .before .before .before .args .mm)
+      (c .before .before .before .before .args .step),
+  c .before .before .before .before .pre,
+)
 
--- src/print.rt:71:9
 put-field-requires-2 : tie.Need-put-field-requires-2
-put-field-requires-2 c κs = omega (arith, row-length (c .before .before .before .before .before .before .before .before .args .from .now) (c .before .before .before .before .before .before .before .before .args .to .now) (c .before .before .before .before .before .before .before .before .args .mm) (c .before .before .before .before .before .before .before .before .args .step), c .before .before .before .before .before .before .before .before .pre, c .before .before .before .put-field .ensures .0, c .before .before .before .put-field .kept .0)
+put-field-requires-2 c κs = omega (
+  arith,
+  row-length (c .before .before .before .before .before .before .before .before .args .from .now)
+      (c .before .before .before .before .before .before .before .before .args .to .now)
+      (c .before .before .before .before .before .before .before .before .args .mm)
+      (c .before .before .before .before .before .before .before .before .args .step),
+  c .before .before .before .before .before .before .before .before .pre,
+  c .before .before .before .put-field .ensures .0,
+  c .before .before .before .put-field .kept .0,
+)
 
--- src/print.rt:72:9
 put-number-requires : tie.Need-put-number-requires
-put-number-requires c κs = omega (arith, row-length (c .before .before .before .before .before .before .before .before .before .before .before .before .args .from .now) (c .before .before .before .before .before .before .before .before .before .before .before .before .args .to .now) (c .before .before .before .before .before .before .before .before .before .before .before .before .args .mm) (c .before .before .before .before .before .before .before .before .before .before .before .before .args .step), c .before .before .before .before .before .before .before .before .before .before .before .before .pre, c .before .before .before .before .before .before .before .put-field .ensures .0, c .before .before .before .before .before .before .before .put-field .kept .0, c .before .before .before .put-field2 .ensures .0, c .before .before .before .put-field2 .kept .0)
+put-number-requires c κs = omega (
+  arith,
+  row-length (c .before .before .before .before .before .before .before .before .before .before .before .before
+      .args .from .now) (c .before .before .before .before .before .before .before .before .before .before .before .before
+      .args .to .now) (c .before .before .before .before .before .before .before .before .before .before .before .before .args
+      .mm) (c .before .before .before .before .before .before .before .before .before .before .before .before .args .step),
+  c .before .before .before .before .before .before .before .before .before .before .before .before .pre,
+  c .before .before .before .before .before .before .before .put-field .ensures .0,
+  c .before .before .before .before .before .before .before .put-field .kept .0,
+  c .before .before .before .put-field2 .ensures .0,
+  c .before .before .before .put-field2 .kept .0,
+)
 
--- src/print.rt:73:5
 put-number-requires-2 : tie.Need-put-number-requires-2
-put-number-requires-2 c κs = omega (arith, row-length (c .before .before .before .before .before .before .before .before .before .before .before .before .before .before .before .before .args .from .now) (c .before .before .before .before .before .before .before .before .before .before .before .before .before .before .before .before .args .to .now) (c .before .before .before .before .before .before .before .before .before .before .before .before .before .before .before .before .args .mm) (c .before .before .before .before .before .before .before .before .before .before .before .before .before .before .before .before .args .step), c .before .before .before .before .before .before .before .before .before .before .before .before .before .before .before .before .pre, c .before .before .before .before .before .before .before .before .before .before .before .put-field .ensures .0, c .before .before .before .before .before .before .before .before .before .before .before .put-field .kept .0, c .before .before .before .before .before .before .before .put-field2 .ensures .0, c .before .before .before .before .before .before .before .put-field2 .kept .0, c .before .before .before .put-number .ensures .0, c .before .before .before .put-number .kept .0)
+put-number-requires-2 c κs = omega (
+  arith,
+  row-length (c .before .before .before .before .before .before .before .before .before .before .before .before
+      .before .before .before .before .args .from .now)
+      (c .before .before .before .before .before .before .before .before .before .before .before .before .before .before
+      .before .before .args .to .now)
+      (c .before .before .before .before .before .before .before .before .before .before .before .before .before .before
+      .before .before .args .mm) (c .before .before .before .before .before .before .before .before .before .before .before
+      .before .before .before .before .before .args .step),
+  c .before .before .before .before .before .before .before .before .before .before .before .before .before .before .before
+      .before .pre,
+  c .before .before .before .before .before .before .before .before .before .before .before .put-field
+      .ensures .0,
+  c .before .before .before .before .before .before .before .before .before .before .before .put-field .kept
+      .0,
+  c .before .before .before .before .before .before .before .put-field2 .ensures .0,
+  c .before .before .before .before .before .before .before .put-field2 .kept .0,
+  c .before .before .before .put-number .ensures .0,
+  c .before .before .before .put-number .kept .0,
+)
 
--- src/print.rt:66:1
 same-length : tie.Need-same-length
-same-length c = c .before .before .put-number2 .kept .0 ∙ c .before .before .before .before .before .before .put-number .kept .0 ∙ c .before .before .before .before .before .before .before .before .before .before .put-field2 .kept .0 ∙ c .before .before .before .before .before .before .before .before .before .before .before .before .before .before .put-field .kept .0
+same-length c = c .before .before .put-number2 .kept .0 ∙
+    c .before .before .before .before .before .before .put-number .kept .0 ∙
+    c .before .before .before .before .before .before .before .before .before .before .put-field2 .kept .0 ∙
+    c .before .before .before .before .before .before .before .before .before .before .before .before .before .before
+    .put-field .kept .0
 
--- src/print.rt:66:1
 returns : tie.Need-returns
 returns c =
-    let at = c .before .before .before .before .before .before .before .before .before .before .before .before .before .before .before .before .before .before .before in
-    let p = c .before .before .before .before .before .before .before .before .before .before .before .before .before .before .put-field in
+    let at = c .before .before .before .before .before .before .before .before .before .before .before .before .before
+    .before .before .before .before .before .before in
+    let p = c .before .before .before .before .before .before .before .before .before .before .before .before .before .before
+    .put-field in
     let q = c .before .before .before .before .before .before .before .before .before .before .put-field2 in
     let r = c .before .before .before .before .before .before .put-number in
     let s = c .before .before .put-number2 in

@@ -1,22 +1,17 @@
+-- `job::rounding::noise_size` meets its contract.
 use native.Mathlib.Omega.{arith}
 use mathlib.Core.Path.{refl}
 use Rattle.job.specs.Rounding.{noiseSize}
 use Rattle.job.proofs.Sizes.{noise-small}
-use borrow.Author.Needs.{needs}
 use Rattle.job.proofs.rounding.noise_size.Statement.{statement}
 use Rattle.job.proofs.rounding.noise_size.Tie as tie
-use Rattle.job.proofs.rounding.noise_size.Reads as reads
-use Rattle.job.proofs.rounding.noise_size.Lts as lts
 
--- src/rounding.rt:24:6
 mul-result : tie.Need-mul-result
 mul-result c = omega (arith, noise-small (c .args .sigma) (c .args .size) (c .pre .0) (c .pre .1))
 
--- src/rounding.rt:24:6
 add-result : tie.Need-add-result
 add-result c = omega (arith, noise-small (c .args .sigma) (c .args .size) (c .pre .0) (c .pre .1))
 
--- src/rounding.rt:20:1
 returns : tie.Need-returns
 unfolding noiseSize
 returns c = (refl, omega (arith, noise-small (c .args .sigma) (c .args .size) (c .pre .0) (c .pre .1)))

@@ -1,73 +1,71 @@
+-- `job::shot::print_shot` meets its contract.
+use native.Mathlib.Omega.{arith}
+use mathlib.Core.Path.{ap, _∙_}
 use lib.IntN.{ℤ}
 use mir.Syntax.{w16}
 use mir.Val.{SFits}
 use mir.Facts.{toZ-ofZ}
-use Rattle.job.specs.Rounding.{noisyDistance, noisyBearing}
-use native.Mathlib.Omega.{arith}
-use mathlib.Core.Path.{_≡_, sym, ap, _∙_}
-use Rattle.job.specs.Rounding.{noisyRow}
+use Rattle.job.specs.Rounding.{noisyDistance, noisyBearing, noisyRow}
 use Rattle.job.proofs.Writing.{row-bound}
-use borrow.Author.Needs.{needs}
 use Rattle.job.proofs.shot.print_shot.Statement.{statement}
 use Rattle.job.proofs.shot.print_shot.Tie as tie
-use Rattle.job.proofs.shot.print_shot.Reads as reads
-use Rattle.job.proofs.shot.print_shot.Lts as lts
-use Rattle.job.proofs.field.part.Reads as part-reads
-use Rattle.job.proofs.print.put_shot.Reads as put-shot-reads
-use Rattle.job.proofs.rounding.noisy_bearing.Reads as noisy-bearing-reads
-use Rattle.job.proofs.rounding.noisy_distance.Reads as noisy-distance-reads
 
--- src/shot.rt:27:41
 cast-noisy-distance : tie.Need-cast-noisy-distance
 cast-noisy-distance c = omega (arith, c .before .before .before .pre .0 .distance)
 
--- src/shot.rt:27:9
 noisy-distance-requires : tie.Need-noisy-distance-requires
-noisy-distance-requires c κs = (c .before .before .before .before .pre .0 .sigma-distance, c .before .before .before .before .pre .0 .distance)
+noisy-distance-requires c κs = (
+  c .before .before .before .before .pre .0 .sigma-distance,
+  c .before .before .before .before .pre .0 .distance,
+)
 
--- src/shot.rt:28:41
 cast-noisy-bearing : tie.Need-cast-noisy-bearing
 cast-noisy-bearing c = omega (arith, c .before .before .before .before .before .before .pre .0 .bearing)
 
--- src/shot.rt:28:9
 noisy-bearing-requires : tie.Need-noisy-bearing-requires
-noisy-bearing-requires c κs = (c .before .before .before .before .before .before .before .pre .0 .sigma-bearing, c .before .before .before .before .before .before .before .pre .0 .bearing)
+noisy-bearing-requires c κs = (
+  c .before .before .before .before .before .before .before .pre .0 .sigma-bearing,
+  c .before .before .before .before .before .before .before .pre .0 .bearing,
+)
 
--- src/shot.rt:31:23
 part-requires : tie.Need-part-requires
 part-requires c κs = tt
 
--- src/shot.rt:31:41
 part-requires-2 : tie.Need-part-requires-2
 part-requires-2 c κs = tt
 
--- src/shot.rt:31:5
 put-shot-requires : tie.Need-put-shot-requires
 put-shot-requires c κs =
     let at = c .before .before .before .before .before .before .before .before .before .before .before .before .before in
     let b =
-    row-bound (c .before .part .result .now) (c .part2 .result .now) (c .before .before .before .before .before .before .before .before .noisy-distance .result) (c .before .before .before .before .before .noisy-bearing .result)
+    row-bound (c .before .part .result .now) (c .part2 .result .now)
+    (c .before .before .before .before .before .before .before .before .noisy-distance .result)
+    (c .before .before .before .before .before .noisy-bearing .result)
     (rw (c .before .part .ensures) (at .pre .0 .from)) (rw (c .part2 .ensures) (at .pre .0 .to))
-    (c .before .before .before .before .before .before .before .before .noisy-distance .ensures .1) (c .before .before .before .before .before .noisy-bearing .ensures .1) in
+    (c .before .before .before .before .before .before .before .before .noisy-distance .ensures .1)
+    (c .before .before .before .before .before .noisy-bearing .ensures .1) in
     omega (arith, b, at .pre .1)
 
--- src/shot.rt:22:1
 same-length : tie.Need-same-length
 same-length c = c .before .before .put-shot .kept .0
 
--- src/shot.rt:22:1
 returns : tie.Need-returns
 unfolding noisyRow
 returns c =
-    let at = c .before .before .before .before .before .before .before .before .before .before .before .before .before .before .before .before in
+    let at = c .before .before .before .before .before .before .before .before .before .before .before .before .before
+    .before .before .before in
     let x = at .args .x in
     let n = at .args .n in
-    let given = c .before .before .before .before .before .before .before .before .before .before .before .before .struct-told .given in
+    let given = c .before .before .before .before .before .before .before .before .before .before .before .before
+    .struct-told .given in
     let first : SFits w16 (n .first) = record { sfits = given .1 .1 .0 .1 } in
     let second : SFits w16 (n .second) = record { sfits = given .1 .1 .1 .0 .1 } in
-    let mm = c .before .before .before .before .before .before .before .before .before .before .before .noisy-distance .ensures .0 ∙ ap (λ (z : ℤ). noisyDistance (n .distance) (x .distance) z) (toZ-ofZ first) in
-    let step = c .before .before .before .before .before .before .before .before .noisy-bearing .ensures .0 ∙ ap (λ (z : ℤ). noisyBearing (n .bearing) (x .bearing) z) (toZ-ofZ second) in
-    rw (← c .before .before .before .before .part .ensures, ← c .before .before .before .part2 .ensures, ← mm, ← step) (c .before .before .put-shot .ensures)
+    let mm = c .before .before .before .before .before .before .before .before .before .before .before .noisy-distance
+    .ensures .0 ∙ ap (λ (z : ℤ). noisyDistance (n .distance) (x .distance) z) (toZ-ofZ first) in
+    let step = c .before .before .before .before .before .before .before .before .noisy-bearing .ensures .0 ∙ ap
+    (λ (z : ℤ). noisyBearing (n .bearing) (x .bearing) z) (toZ-ofZ second) in
+    rw (← c .before .before .before .before .part .ensures, ← c .before .before .before .part2 .ensures, ← mm, ← step)
+    (c .before .before .put-shot .ensures)
 
 pub print-shot-spec : {M : Type 1} → statement M
 print-shot-spec =

@@ -1,34 +1,26 @@
+-- `job::turn::listed_shot` meets its contract.
+use mathlib.Core.Path.{refl}
 use mir.Syntax.{w16}
 use mir.Val.{SFits}
 use mir.Facts.{toZ-ofZ}
-use mathlib.Core.Path.{refl}
+use borrow.Author.Needs.{needs}
 use Rattle.job.specs.Turns.{turned}
 use Rattle.job.specs.Job.{printed, settingAfter}
-use borrow.Author.Needs.{needs}
 use Rattle.job.proofs.turn.listed_shot.Statement.{statement}
 use Rattle.job.proofs.turn.listed_shot.Tie as tie
-use Rattle.job.proofs.turn.listed_shot.Reads as reads
-use Rattle.job.proofs.turn.listed_shot.Lts as lts
-use Rattle.job.proofs.shot.print_shot.Reads as print-shot-reads
-use Rattle.noise.proofs.pair.Reads as pair-reads
 
--- src/turn.rt:129:9
 pair-requires : tie.Need-pair-requires
 pair-requires c κs = search needs
 
--- src/turn.rt:136:9
 print-shot-requires : tie.Need-print-shot-requires
 print-shot-requires c κs = search needs
 
--- src/turn.rt:144:15
 add-t15 : tie.Need-add-t15
 add-t15 c = search needs
 
--- src/turn.rt:121:1
 same-length : tie.Need-same-length
 same-length c = search needs
 
--- src/turn.rt:121:1
 returns : tie.Need-returns
 unfolding turned printed settingAfter
 returns c =

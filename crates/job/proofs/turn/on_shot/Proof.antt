@@ -1,53 +1,55 @@
-use borrow.Author.Tests.{lt-ltb, le-ltb}
+-- `job::turn::on_shot` meets its contract.
 use mathlib.Core.Path.{refl}
+use borrow.Author.Tests.{lt-ltb, le-ltb}
+use borrow.Author.Needs.{needs}
 use Rattle.job.specs.Turns.{turnOf, bufferOf, turned}
 use Rattle.job.proofs.Refused.{shot-8, shot-9, shot-7, shot-0}
-use borrow.Author.Needs.{needs}
 use Rattle.job.proofs.turn.on_shot.Statement.{statement}
 use Rattle.job.proofs.turn.on_shot.Tie as tie
-use Rattle.job.proofs.turn.on_shot.Reads as reads
-use Rattle.job.proofs.turn.on_shot.Lts as lts
-use Rattle.job.proofs.turn.listed_shot.Reads as listed-shot-reads
 
--- src/turn.rt:156:9
 returns : tie.Need-returns
 unfolding turnOf bufferOf turned
-returns c = let at = c .before .before .before .before in rw (shot-8 (at .args .s .line) (at .args .x .distance) (at .args .x .bearing) _ _ (c .if1 .taken)) (refl, refl)
+returns c = let at = c .before .before .before .before in rw
+    (shot-8 (at .args .s .line) (at .args .x .distance) (at .args .x .bearing) _ _ (c .if1 .taken)) (refl, refl)
 
--- src/turn.rt:159:9
 returns-2 : tie.Need-returns-2
 unfolding turnOf bufferOf turned
-returns-2 c = let at = c .before .before .before .before .before .before in rw (shot-9 (at .args .s .line) (at .args .x .distance) (at .args .x .bearing) _ _ (c .before .before .if1 .left) (c .if2 .taken)) (refl, refl)
+returns-2 c = let at = c .before .before .before .before .before .before in rw
+    (shot-9 (at .args .s .line) (at .args .x .distance) (at .args .x .bearing) _ _ (c .before .before .if1 .left)
+    (c .if2 .taken)) (refl, refl)
 
--- src/turn.rt:162:9
 returns-3 : tie.Need-returns-3
 unfolding turnOf bufferOf turned
 returns-3 c =
     let at = c .before .before .before .before .before .before .before .before in
-    rw (shot-7 (at .args .s .line) (at .args .x .distance) (at .args .x .bearing) _ _ (c .before .before .before .before .if1 .left) (c .before .before .if2 .left) (rw (lt-ltb 1000000 (at .args .x .distance) (c .if3 .taken)))) (refl, refl)
+    rw (shot-7 (at .args .s .line) (at .args .x .distance) (at .args .x .bearing) _ _
+    (c .before .before .before .before .if1 .left) (c .before .before .if2 .left)
+    (rw (lt-ltb 1000000 (at .args .x .distance) (c .if3 .taken)))) (refl, refl)
 
--- src/turn.rt:165:9
 returns-4 : tie.Need-returns-4
 unfolding turnOf bufferOf turned
 returns-4 c =
     let at = c .before .before .before .before .before .before .before .before .before .before in
     let d = le-ltb 1000000 (at .args .x .distance) (c .before .before .if3 .left) in
-    rw (shot-7 (at .args .s .line) (at .args .x .distance) (at .args .x .bearing) _ _ (c .before .before .before .before .before .before .if1 .left) (c .before .before .before .before .if2 .left) (rw (d, lt-ltb 65535 (at .args .x .bearing) (c .if4 .taken)))) (refl, refl)
+    rw (shot-7 (at .args .s .line) (at .args .x .distance) (at .args .x .bearing) _ _
+    (c .before .before .before .before .before .before .if1 .left) (c .before .before .before .before .if2 .left)
+    (rw (d, lt-ltb 65535 (at .args .x .bearing) (c .if4 .taken)))) (refl, refl)
 
--- src/turn.rt:167:5
 listed-shot-requires : tie.Need-listed-shot-requires
 listed-shot-requires c κs = search needs
 
--- src/turn.rt:151:1
 same-length : tie.Need-same-length
 same-length c = search needs
 
--- src/turn.rt:151:1
 returns-5 : tie.Need-returns-5
 unfolding turnOf bufferOf
 returns-5 c =
     let at = c .before .before .before .before .before .before .before .before .before .before .before .before .before .before in
-    rw (shot-0 (at .args .s .line) (at .args .x .distance) (at .args .x .bearing) _ _ (c .before .before .before .before .before .before .before .before .before .before .if1 .left) (c .before .before .before .before .before .before .before .before .if2 .left) (c .before .before .before .before .before .before .if3 .left) (c .before .before .before .before .if4 .left)) (c .before .before .listed-shot .ensures)
+    rw (shot-0 (at .args .s .line) (at .args .x .distance) (at .args .x .bearing) _ _
+    (c .before .before .before .before .before .before .before .before .before .before .if1 .left)
+    (c .before .before .before .before .before .before .before .before .if2 .left)
+    (c .before .before .before .before .before .before .if3 .left) (c .before .before .before .before .if4 .left))
+    (c .before .before .listed-shot .ensures)
 
 pub on-shot-spec : {M : Type 1} → statement M
 on-shot-spec =

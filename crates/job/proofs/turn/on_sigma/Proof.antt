@@ -1,49 +1,53 @@
-use mathlib.Core.Path.{_≡_, refl, sym, ap, _∙_}
-use native.Mathlib.Omega.{arith}
-use borrow.Author.Tests.{lt-ltb, le-ltb}
+-- `job::turn::on_sigma` meets its contract.
 use native.Mathlib.Nat.{add-zero}
+use borrow.Author.Tests.{lt-ltb, le-ltb}
+use borrow.Author.Needs.{needs}
 use Rattle.job.specs.Turns.{turned}
 use Rattle.job.proofs.Refused.{sigma-8, sigma-7, sigma-0}
-use borrow.Author.Needs.{needs}
 use Rattle.job.proofs.turn.on_sigma.Statement.{statement}
 use Rattle.job.proofs.turn.on_sigma.Tie as tie
-use Rattle.job.proofs.turn.on_sigma.Reads as reads
-use Rattle.job.proofs.turn.on_sigma.Lts as lts
 
--- src/turn.rt:91:9
 returns : tie.Need-returns
 unfolding turned
-returns c = let at = c .before .before in rw (sigma-8 (at .args .s .line) (at .args .x .distance) (at .args .x .bearing) (c .if1 .taken))
+returns c = let at = c .before .before in rw
+    (sigma-8 (at .args .s .line) (at .args .x .distance) (at .args .x .bearing) (c .if1 .taken))
 
--- src/turn.rt:94:9
 returns-2 : tie.Need-returns-2
 unfolding turned
 returns-2 c =
     let at = c .before .before .before .before in
-    rw (sigma-7 (at .args .s .line) (at .args .x .distance) (at .args .x .bearing) (c .before .before .if1 .left) (rw (lt-ltb 1000 (at .args .x .distance) (c .if2 .taken))))
+    rw (sigma-7 (at .args .s .line) (at .args .x .distance) (at .args .x .bearing) (c .before .before .if1 .left)
+    (rw (lt-ltb 1000 (at .args .x .distance) (c .if2 .taken))))
 
--- src/turn.rt:97:9
 returns-3 : tie.Need-returns-3
 unfolding turned
 returns-3 c =
     let at = c .before .before .before .before .before .before in
-    rw (sigma-7 (at .args .s .line) (at .args .x .distance) (at .args .x .bearing) (c .before .before .before .before .if1 .left) (rw (le-ltb 1000 (at .args .x .distance) (c .before .before .if2 .left), lt-ltb 1000 (at .args .x .bearing) (c .if3 .taken))))
+    rw (sigma-7 (at .args .s .line) (at .args .x .distance) (at .args .x .bearing)
+    (c .before .before .before .before .if1 .left)
+    (rw (
+      le-ltb 1000 (at .args .x .distance) (c .before .before .if2 .left),
+      lt-ltb 1000 (at .args .x .bearing)
+          (c .if3 .taken),
+    )))
 
--- src/turn.rt:103:19
 cast-t8 : tie.Need-cast-t8
 cast-t8 c = search needs
 
--- src/turn.rt:104:18
 cast-t9 : tie.Need-cast-t9
 cast-t9 c = search needs
 
--- src/turn.rt:86:1
 returns-4 : tie.Need-returns-4
 unfolding turned
 returns-4 c =
     let at = c .before .before .before .before .before .before .before .before .before .before in
     let k = c .before .before .before .before .before .before .before .before .if1 .left in
-    rw (sigma-0 (at .args .s .line) (at .args .x .distance) (at .args .x .bearing) k (c .before .before .before .before .before .before .if2 .left) (c .before .before .before .before .if3 .left), k, add-zero (at .args .s .used))
+    rw (
+      sigma-0 (at .args .s .line) (at .args .x .distance) (at .args .x .bearing) k
+          (c .before .before .before .before .before .before .if2 .left) (c .before .before .before .before .if3 .left),
+      k,
+      add-zero (at .args .s .used),
+    )
 
 pub on-sigma-spec : {M : Type 1} → statement M
 on-sigma-spec = tie.close (tie.spec returns returns-2 returns-3 cast-t8 cast-t9 returns-4)

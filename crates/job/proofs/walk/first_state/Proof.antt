@@ -1,16 +1,12 @@
-use Rattle.job.specs.Job.{start}
+-- `job::walk::first_state` meets its contract.
 use borrow.Author.Needs.{needs}
+use Rattle.job.specs.Job.{start}
 use Rattle.job.proofs.walk.first_state.Statement.{statement}
 use Rattle.job.proofs.walk.first_state.Tie as tie
-use Rattle.job.proofs.walk.first_state.Reads as reads
-use Rattle.job.proofs.walk.first_state.Lts as lts
-use Rattle.streams.proofs.Generator.seed.Reads as seed-reads
 
--- src/walk.rt:25:9
 seed-requires : tie.Need-seed-requires
 seed-requires c κs = search needs
 
--- src/walk.rt:22:1
 returns : tie.Need-returns
 unfolding start
 returns c = rw (c .before .seed .ensures)

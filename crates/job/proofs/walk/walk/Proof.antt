@@ -1,17 +1,13 @@
-use mathlib.Core.Path.{sym, _∙_}
-use Rattle.job.proofs.Split.{end-within}
-use Rattle.job.proofs.Going.{steady, turn-on, turn-off, all-taken}
+-- `job::walk::walk` meets its contract.
 use Prim.Native.Nat.{_-_}
 use native.Mathlib.Omega.{arith}
+use mathlib.Core.Path.{sym, _∙_}
 use lib.ListN.{length}
+use Rattle.job.proofs.Split.{end-within}
+use Rattle.job.proofs.Going.{steady, turn-on, turn-off, all-taken}
 use Rattle.job.specs.Walks.{Going}
-use borrow.Author.Needs.{needs}
 use Rattle.job.proofs.walk.walk.Statement.{statement}
 use Rattle.job.proofs.walk.walk.Tie as tie
-use Rattle.job.proofs.walk.walk.Reads as reads
-use Rattle.job.proofs.walk.walk.Lts as lts
-use Rattle.job.proofs.text.line_end.Reads as line-end-reads
-use Rattle.job.proofs.turn.take_line.Reads as take-line-reads
 
 abbrev Inv-loop : tie.InvT-loop
 Inv-loop text out₀ s₀ at₀ out s at = Going text out s at
@@ -19,57 +15,75 @@ Inv-loop text out₀ s₀ at₀ out s at = Going text out s at
 abbrev μ-loop : tie.MeasureT-loop
 μ-loop text out₀ s₀ at₀ out s at = length text - at
 
--- src/walk.rt:45:5
 loop-holds : tie.Need-loop-holds Inv-loop μ-loop
 loop-holds c = c .before .before .pre
 
--- src/walk.rt:46:13
 line-end-requires : tie.Need-line-end-requires Inv-loop μ-loop
 line-end-requires c κs = c .loop-test .taken
 
--- src/walk.rt:47:27
 sub-take-line : tie.Need-sub-take-line Inv-loop μ-loop
 sub-take-line c = omega (arith, c .line-end .ensures)
 
--- src/walk.rt:47:27
 part-take-line-start : tie.Need-part-take-line-start Inv-loop μ-loop
 part-take-line-start c = omega (arith, c .line-end .ensures)
 
--- src/walk.rt:47:27
 part-take-line-end : tie.Need-part-take-line-end Inv-loop μ-loop
-part-take-line-end c = omega (arith, c .line-end .ensures, end-within (c .before .before .before .before .before .args .text .now) (c .before .before .loop .at) (c .before .loop-test .taken) .1)
+part-take-line-end c = omega (
+  arith,
+  c .line-end .ensures,
+  end-within
+      (c .before .before .before .before .before .args .text .now) (c .before .before .loop .at)
+      (c .before .loop-test .taken) .1,
+)
 
--- src/walk.rt:47:13
 take-line-requires : tie.Need-take-line-requires Inv-loop μ-loop
 take-line-requires c κs = steady _ _ _ _ (c .before .before .before .before .loop .inv)
 
--- src/walk.rt:50:13
 same-length : tie.Need-same-length Inv-loop μ-loop
-same-length c = c .before .before .before .take-line .kept .1 .1 .0 ∙ c .before .before .before .before .before .before .before .before .loop .inv .room ∙ sym (c .before .before .before .before .before .before .before .before .before .before .before .pre .room)
+same-length c = c .before .before .before .take-line .kept .1 .1 .0 ∙
+    c .before .before .before .before .before .before .before .before .loop .inv .room ∙ sym
+    (c .before .before .before .before .before .before .before .before .before .before .before .pre .room)
 
--- src/walk.rt:50:13
 returns : tie.Need-returns Inv-loop μ-loop
 returns c =
     let at = c .before .before .before .before .before .before .before .before in
-    let go = turn-off _ (at .loop .out) (at .loop .s) (at .loop .at) (c .before .before .before .before .before .before .line-end .result) (c .before .before .before .take-line .result) (c .before .before .before .take-line .last .1 .1 .0) (at .loop .inv) (c .before .before .before .before .before .before .before .loop-test .taken) (c .before .before .before .before .before .before .line-end .ensures) (c .before .before .before .take-line .ensures .0) (c .before .before .before .take-line .ensures .1) in
+    let go = turn-off _ (at .loop .out) (at .loop .s) (at .loop .at)
+    (c .before .before .before .before .before .before .line-end .result) (c .before .before .before .take-line .result)
+    (c .before .before .before .take-line .last .1 .1 .0) (at .loop .inv)
+    (c .before .before .before .before .before .before .before .loop-test .taken)
+    (c .before .before .before .before .before .before .line-end .ensures)
+    (c .before .before .before .take-line .ensures .0) (c .before .before .before .take-line .ensures .1) in
     go (c .if1 .taken)
 
--- src/walk.rt:45:5
 loop-less : tie.Need-loop-less Inv-loop μ-loop
-loop-less c = omega (arith, c .before .before .before .before .before .before .before .line-end .ensures, end-within (c .before .before .before .before .before .before .before .before .before .before .before .before .args .text .now) (c .before .before .before .before .before .before .before .before .before .loop .at) (c .before .before .before .before .before .before .before .before .loop-test .taken) .0, end-within (c .before .before .before .before .before .before .before .before .before .before .before .before .args .text .now) (c .before .before .before .before .before .before .before .before .before .loop .at) (c .before .before .before .before .before .before .before .before .loop-test .taken) .1)
+loop-less c = omega (
+  arith,
+  c .before .before .before .before .before .before .before .line-end .ensures,
+  end-within
+      (c .before .before .before .before .before .before .before .before .before .before .before .before .args .text .now)
+      (c .before .before .before .before .before .before .before .before .before .loop .at)
+      (c .before .before .before .before .before .before .before .before .loop-test .taken) .0,
+  end-within
+      (c .before .before .before .before .before .before .before .before .before .before .before .before .args .text .now)
+      (c .before .before .before .before .before .before .before .before .before .loop .at)
+      (c .before .before .before .before .before .before .before .before .loop-test .taken) .1,
+)
 
--- src/walk.rt:45:5
 loop-again : tie.Need-loop-again Inv-loop μ-loop
 loop-again c =
     let at = c .before .before .before .before .before .before .before .before .before in
-    let go = turn-on _ (at .loop .out) (at .loop .s) (at .loop .at) (c .before .before .before .before .before .before .before .line-end .result) (c .before .before .before .before .take-line .result) (c .before .before .before .before .take-line .last .1 .1 .0) (at .loop .inv) (c .before .before .before .before .before .before .before .before .loop-test .taken) (c .before .before .before .before .before .before .before .line-end .ensures) (c .before .before .before .before .take-line .ensures .0) (c .before .before .before .before .take-line .ensures .1) in
+    let go = turn-on _ (at .loop .out) (at .loop .s) (at .loop .at)
+    (c .before .before .before .before .before .before .before .line-end .result)
+    (c .before .before .before .before .take-line .result) (c .before .before .before .before .take-line .last .1 .1 .0)
+    (at .loop .inv) (c .before .before .before .before .before .before .before .before .loop-test .taken)
+    (c .before .before .before .before .before .before .before .line-end .ensures)
+    (c .before .before .before .before .take-line .ensures .0) (c .before .before .before .before .take-line .ensures .1)
+    in
     go (c .before .if1 .left)
 
--- src/walk.rt:39:1
 same-length-2 : tie.Need-same-length-2 Inv-loop μ-loop
 same-length-2 c = c .before .loop .inv .room ∙ sym (c .before .before .before .before .pre .room)
 
--- src/walk.rt:39:1
 returns-2 : tie.Need-returns-2 Inv-loop μ-loop
 returns-2 c = all-taken _ _ _ _ (c .before .loop .inv) (c .loop-test .left)
 
