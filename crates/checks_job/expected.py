@@ -147,10 +147,12 @@ def cases():
     yield b'(seeds (a 4294967295 4294967295 4294967295) (b 4294967295 4294967295 4294967295))\n(sigma 1000 1000)\n' + shots(500)
     yield b'(seeds (a 123456789 987654321 555555555) (b 314159265 271828182 161803398))\n(sigma 37 911)\n' + shots(300)
     # noise across the ends: distances near 0, bearings near 0 and 65535
-    yield SEEDS + b'(sigma 1000 1000)\n' + b''.join(b'(shot a b %d %d)\n' % (d, b) for d in (0, 1, 500, 1000000) for b in (0, 1, 65534, 65535)) * 8
+    ends = [b'(shot a b %d %d)\n' % (d, b) for d in (0, 1, 500, 1000000) for b in (0, 1, 65534, 65535)]
+    yield SEEDS + b'(sigma 1000 1000)\n' + b''.join(ends) * 8
     # text: none, one line, no last line feed, the longest and one byte more
     yield b''
-    for t in (SEEDS, SEEDS[:-1], HEAD[:-1], HEAD + SHOT[:-1], b'\n', SEEDS + b'\n', HEAD + b'\n', HEAD + SHOT + b'\n', HEAD + SHOT + b'('): yield t
+    yield from (SEEDS, SEEDS[:-1], HEAD[:-1], HEAD + SHOT[:-1], b'\n', SEEDS + b'\n', HEAD + b'\n')
+    yield from (HEAD + SHOT + b'\n', HEAD + SHOT + b'(')
     full = HEAD + SHOT * ((60000 - len(HEAD)) // len(SHOT))
     yield full + b'x' * (60000 - len(full))
     yield full + b'x' * (60001 - len(full))
@@ -161,7 +163,8 @@ def cases():
             n = [2, 8, 16, 2, 8, 16]; n[i] = v
             yield b'(seeds (a %d %d %d) (b %d %d %d))\n' % tuple(n) + SIGMA + SHOT
     # numbers: ranges, digits, leading zeros
-    for n in (b'0', b'00', b'01', b'1000', b'1001', b'4294967295', b'4294967296', b'9999999999', b'10000000000', b'99999999999', b'', b'-1', b'+1', b'1.0', b'0x1', b'a'):
+    for n in (b'0', b'00', b'01', b'1000', b'1001', b'4294967295', b'4294967296', b'9999999999', b'10000000000', b'99999999999',
+              b'', b'-1', b'+1', b'1.0', b'0x1', b'a'):
         yield b'(seeds (a %s 8 16) (b 2 8 16))\n' % n + SIGMA + SHOT
         yield b'(seeds (a 2 8 16) (b 2 8 %s))\n' % n + SIGMA + SHOT
         yield SEEDS + b'(sigma %s 10)\n' % n + SHOT
@@ -169,14 +172,19 @@ def cases():
     for n in (b'0', b'01', b'999999', b'1000000', b'1000001', b'9999999999', b'10000000000'): yield HEAD + b'(shot A B %s 1)\n' % n
     for n in (b'0', b'00', b'65535', b'65536', b'9999999999', b'10000000000'): yield HEAD + b'(shot A B 1 %s)\n' % n
     # names
-    for s in (b'', b'x', b'Z9', b'abcdefghijkl', b'abcdefghijklm', b'a-b', b'a_b', b'\xc3\xa9', b'a\x00', b'@', b'[', b'`', b'{', b'/', b':'):
+    for s in (b'', b'x', b'Z9', b'abcdefghijkl', b'abcdefghijklm', b'a-b', b'a_b', b'\xc3\xa9', b'a\x00',
+              b'@', b'[', b'`', b'{', b'/', b':'):
         yield HEAD + b'(shot %s B 1 1)\n' % s
         yield HEAD + b'(shot A %s 1 1)\n' % s
     # blanks and stray bytes
-    for l in (b'(shot A B 1 1 )', b'(shot  A B 1 1)', b'(shot A  B 1 1)', b' (shot A B 1 1)', b'(shot A B 1 1) ', b'(shot A B 1 1)\r', b'(shot\tA B 1 1)', b'(shot A B 1)',
-              b'(shot A B 1 1 1)', b'(SHOT A B 1 1)', b'(shot A B 1 1', b'shot A B 1 1)', b'()', b'(', b'(shot (A) B 1 1)', b'\x00', b'(shot A B 1 1)\x00', b'(shots A B 1 1)', b'# A', b'(shot # # # #)'):
+    for l in (b'(shot A B 1 1 )', b'(shot  A B 1 1)', b'(shot A  B 1 1)', b' (shot A B 1 1)', b'(shot A B 1 1) ',
+              b'(shot A B 1 1)\r', b'(shot\tA B 1 1)', b'(shot A B 1)',
+              b'(shot A B 1 1 1)', b'(SHOT A B 1 1)', b'(shot A B 1 1', b'shot A B 1 1)', b'()', b'(', b'(shot (A) B 1 1)', b'\x00',
+              b'(shot A B 1 1)\x00', b'(shots A B 1 1)', b'# A', b'(shot # # # #)'):
         yield HEAD + SHOT + l + b'\n' + SHOT
-    for l in (b'(seeds (a 2 8 16)(b 2 8 16))', b'(seeds (a 2 8 16) (b 2 8 16)', b'(seeds (b 2 8 16) (a 2 8 16))', b'(seeds (a 2 8) (b 2 8 16))', b'(seeds(a 2 8 16) (b 2 8 16))'): yield l + b'\n' + SIGMA
+    for l in (b'(seeds (a 2 8 16)(b 2 8 16))', b'(seeds (a 2 8 16) (b 2 8 16)', b'(seeds (b 2 8 16) (a 2 8 16))',
+              b'(seeds (a 2 8) (b 2 8 16))', b'(seeds(a 2 8 16) (b 2 8 16))'):
+        yield l + b'\n' + SIGMA
     # forms in the wrong place, and two causes on one line: 6 before 8, 8 before 9, 9 before 7, 8 before 7 and 1
     yield SIGMA + SEEDS
     yield SEEDS + SEEDS

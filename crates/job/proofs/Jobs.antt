@@ -1,12 +1,13 @@
 -- Jobs as lists of forms: the text that says them, its lines, and the listing.
-use Prim.Native.Nat.{ℕ, suc, _+_, _-_, _≤_}
+use Prim.Native.Nat.{ℕ, suc, _+_, _-_, _≤_, _<_}
 use native.Mathlib.Omega.{arith}
+use native.Mathlib.Nat.{add-zero}
 use mathlib.Core.Path.{_≡_, refl, sym, ap, ap₂, _∙_}
 use mathlib.Core.Bool.{Bool, true, false, cond, not, _||_, and-eq-true-iff, false≢true}
 use mathlib.Core.List.{List, [], _∷_, _++_, map, append-assoc}
 use lib.Dec.{eqb, ltb}
 use lib.ListN.{length}
-use borrow.Author.Tests.{eqb-true, eqb-false, le-ltb, ltb-false, not-true}
+use borrow.Author.Tests.{eqb-true, eqb-false, lt-ltb, le-ltb, ltb-false, not-true}
 use Rattle.job.specs.Numbers.{all, decimal}
 use Rattle.job.specs.Forms.{
   Form,
@@ -176,6 +177,41 @@ listed-lines xs h n =
     let i : 1 + length xs - 3 ≡ length xs - 2 = omega arith in
     rw (lines-text 1 xs h, outcome-accepts xs 1 start h (omega (arith, n)), i)
 
+pub refused-not-listed : (n k : ℕ) (l : List ℕ) → refused n k ≡ listed l → ⊥
+refused-not-listed n k l e = let z : _≡_ {A = ℕ} 0 1 = cc in omega arith
+
+-- accepted lines before a line that is not, and before the end of a text that lacks a line
+pub onto-refused : (a : List ℕ) (o : Outcome) (n k : ℕ) → o ≡ refused n k → onto a o ≡ refused n k
+onto-refused a (refused m j) n k e = e
+onto-refused a (listed l) n k e = absurd (refused-not-listed n k l (sym e))
+
+module _ (l : List ℕ) (ls : List (List ℕ)) where
+  pub outcome-bad : (xs : List Form) (k : ℕ) (s : Setting) → Accepts k xs → (refusal (k + length xs) (readLine l) ≡ 0 → ⊥)
+      → outcome k s (map printLine xs ++ (l ∷ ls)) ≡ refused (refusal (k + length xs) (readLine l)) (k + length xs)
+  unfolding Accepts
+  outcome-bad [] k s h b =
+      let e : k + 0 ≡ k = add-zero k in
+      rw e (outcome-no k s l ls (λ t. b (ap (λ (i : ℕ). refusal i (readLine l)) e ∙ t)))
+  outcome-bad (x ∷ xs) k s h b =
+      let e = read-printed x (h .0) in
+      let i : k + suc (length xs) ≡ k + 1 + length xs = omega arith in
+      rw i
+      (outcome-yes k s (printLine x) (map printLine xs ++ (l ∷ ls)) (ap (refusal k) e ∙ h .1)
+      ∙ rw e
+      (onto-refused (printed x s) _ _ _
+      (outcome-bad xs (k + 1) (settingAfter x s) (h .2) (λ t. b (ap (λ (j : ℕ). refusal j (readLine l)) i ∙ t)))))
+
+pub outcome-missing : (xs : List Form) (k : ℕ) (s : Setting) → Accepts k xs → k + length xs < 3
+    → outcome k s (map printLine xs) ≡ refused 8 (k + length xs)
+unfolding Accepts outcome
+outcome-missing [] k s h n = let e : k + 0 ≡ k = add-zero k in rw (e, lt-ltb k 3 (omega (arith, n)))
+outcome-missing (x ∷ xs) k s h n =
+    let e = read-printed x (h .0) in
+    let i : k + suc (length xs) ≡ k + 1 + length xs = omega arith in
+    rw i
+    (outcome-yes k s (printLine x) (map printLine xs) (ap (refusal k) e ∙ h .1)
+    ∙ rw e (onto-refused (printed x s) _ _ _ (outcome-missing xs (k + 1) (settingAfter x s) (h .2) (omega (arith, n)))))
+
 -- The other way: lines that are listed are accepted lines
 join : List (List ℕ) → List ℕ
 join [] = []
@@ -207,9 +243,6 @@ pub record Says (k : ℕ) (s : Setting) (ls : List (List ℕ)) (bytes : List ℕ
   pub enough : 3 ≤ k + length forms
   pub printed-lines : map printLine forms ≡ ls
   pub listing : bytes ≡ rows s forms ++ endRow (k + length forms - 3)
-
-pub refused-not-listed : (n k : ℕ) (l : List ℕ) → refused n k ≡ listed l → ⊥
-refused-not-listed n k l e = let z : _≡_ {A = ℕ} 0 1 = cc in omega arith
 
 pub onto-listed : (a : List ℕ) (o : Outcome) (b : List ℕ) → onto a o ≡ listed b → (r : List ℕ) × (o ≡ listed r) × (b ≡ a ++ r)
 onto-listed a (refused n k) b e = absurd (refused-not-listed n k b e)

@@ -3,18 +3,18 @@ use Prim.Native.Nat.{ℕ, suc, _+_, _-_, _*_, _%_, _≤_, _<_}
 use native.Mathlib.Omega.{arith}
 use mathlib.Core.Path.{_≡_, refl, sym, ap, _∙_}
 use mathlib.Core.Bool.{Bool, true, false, cond}
-use mathlib.Core.List.{List, [], _∷_}
+use mathlib.Core.List.{List, map, [], _∷_, _++_}
 use lib.Dec.{eqb, ltb}
 use lib.IntN.{ℤ, pos, negsuc}
 use lib.ListN.{length, length-append}
 use borrow.Author.Tests.{eqb-true, eqb-false, le-leb}
-use Rattle.job.specs.Forms.{Form, readLine}
+use Rattle.job.specs.Forms.{Form, readLine, printLine}
 use Rattle.job.specs.Lines.{lines}
 use Rattle.job.specs.Listing.{header, endRow}
 use Rattle.job.specs.Rounding.{noiseSize, noisyDistance, noisyBearing}
 use Rattle.job.specs.Refusals.{formless, misplaced, tooMany, beyond, unfit, refusal}
 use Rattle.job.specs.Job.{Outcome, refused, listed, onto, outcome, start, listingOf, jobOf, answerOf, settingAfter, printed}
-use Rattle.job.specs.Theorems.{Theorems}
+use Rattle.job.specs.Theorems.{Theorems, Accepts}
 use Rattle.job.specs.declared.turn.Setting.{Setting}
 use Rattle.job.proofs.Decimal.{numeral-decimal, value-decimal, decimal-value, decimal-head, decimal-length}
 use Rattle.job.proofs.RoundTrip.{read-printed, printed-read}
@@ -22,7 +22,18 @@ use Rattle.job.proofs.Writing.{end-length}
 use Rattle.job.proofs.Bounds.{steps}
 use Rattle.job.proofs.Going.{outcome-yes, outcome-no, header-length}
 use Rattle.job.proofs.Answered.{job-short}
-use Rattle.job.proofs.Jobs.{line-first, line-last, listed-lines, listed-says, onto-listed, refused-not-listed, bytes-same}
+use Rattle.job.proofs.Jobs.{
+  line-first,
+  line-last,
+  onto-refused,
+  outcome-bad,
+  outcome-missing,
+  listed-lines,
+  listed-says,
+  onto-listed,
+  refused-not-listed,
+  bytes-same,
+}
 
 -- ---- the noise
 
@@ -167,6 +178,18 @@ never-too-long text e = go (jobOf text) refl (job-small text) e
     go (refused n k) p h e = omega (arith, h, e)
     go (listed bytes) p h e = let t = rw (le-leb (length bytes) 20480 (fits text bytes p)) at e in omega (arith, t)
 
+first-bad : (text l : List ℕ) (xs : List Form) (ls : List (List ℕ)) → length text ≤ 60000 → Accepts 1 xs
+    → lines text ≡ map printLine xs ++ (l ∷ ls) → (refusal (1 + length xs) (readLine l) ≡ 0 → ⊥)
+    → jobOf text ≡ refused (refusal (1 + length xs) (readLine l)) (1 + length xs)
+unfolding listingOf
+first-bad text l xs ls n h e b = job-short text n ∙ rw e (onto-refused header _ _ _ (outcome-bad l ls xs 1 start h b))
+
+missing-line : (text : List ℕ) (xs : List Form) → length text ≤ 60000 → Accepts 1 xs → lines text ≡ map printLine xs
+    → length xs < 2 → jobOf text ≡ refused 8 (1 + length xs)
+unfolding listingOf
+missing-line text xs n h e s =
+    job-short text n ∙ rw e (onto-refused header _ _ _ (outcome-missing xs 1 start h (omega (arith, s))))
+
 pub theorems : Theorems
 theorems = record {
   numbers = λ n h. (numeral-decimal n h, value-decimal n);
@@ -186,6 +209,8 @@ theorems = record {
   bearing-down = bearing-down;
   listed-job = λ xs a n l. job-short _ l ∙ listed-lines xs a n;
   job-listed = λ text bytes e. listed-says text bytes (short-job text bytes e);
+  first-bad = first-bad;
+  missing-line = missing-line;
   fits = fits;
   never-too-long = never-too-long;
 }

@@ -2,7 +2,7 @@
 use Prim.Native.Nat.{ℕ, suc, _+_, _-_, _*_, _%_, _^_, _≤_, _<_}
 use mathlib.Core.Path.{_≡_}
 use mathlib.Core.Bool.{Bool, true, not}
-use mathlib.Core.List.{List, [], _∷_, _++_}
+use mathlib.Core.List.{List, [], _∷_, _++_, map}
 use lib.Dec.{eqb}
 use lib.IntN.{ℤ, pos, negsuc}
 use lib.ListN.{length, getD}
@@ -12,7 +12,7 @@ use Rattle.job.specs.Lines.{lines}
 use Rattle.job.specs.Listing.{header, endRow}
 use Rattle.job.specs.Rounding.{noiseSize, noisyDistance, noisyBearing}
 use Rattle.job.specs.Refusals.{refusal}
-use Rattle.job.specs.Job.{listed, start, jobOf, answerOf, printed, settingAfter}
+use Rattle.job.specs.Job.{refused, listed, start, jobOf, answerOf, printed, settingAfter}
 use Rattle.job.specs.declared.turn.Setting.{Setting}
 
 -- the text that says these forms, a line each
@@ -65,6 +65,12 @@ pub record Theorems : Type 0 where
   pub job-listed : (text bytes : List ℕ) → jobOf text ≡ listed bytes
       → (xs : List Form) × Accepts 1 xs × (2 ≤ length xs) × (textOf xs ≡ text) ×
       (bytes ≡ header ++ (rows start xs ++ endRow (length xs - 2)))
+  -- the first line that is not accepted gives number and line; a text of accepted lines that ends before line 2 lacks the next
+  pub first-bad : (text l : List ℕ) (xs : List Form) (ls : List (List ℕ)) → length text ≤ 60000 → Accepts 1 xs
+      → lines text ≡ map printLine xs ++ (l ∷ ls) → (refusal (1 + length xs) (readLine l) ≡ 0 → ⊥)
+      → jobOf text ≡ refused (refusal (1 + length xs) (readLine l)) (1 + length xs)
+  pub missing-line : (text : List ℕ) (xs : List Form) → length text ≤ 60000 → Accepts 1 xs → lines text ≡ map printLine xs
+      → length xs < 2 → jobOf text ≡ refused 8 (1 + length xs)
   -- a listing fits 20,480 bytes, so the listing program never prints 10
   pub fits : (text bytes : List ℕ) → jobOf text ≡ listed bytes → length bytes ≤ 20480
   pub never-too-long : (text : List ℕ) → answerOf (jobOf text) 20480 .number ≡ 10 → ⊥
