@@ -45,13 +45,15 @@ fn draws(tables: &Tables, random: &mut Random) -> String {
 
 fn histories(tables: &Tables, random: &mut Random) -> String {
     let (count, length) = (400, 2000);
-    for _ in 0..count {
+    let mut run = 0;
+    while run < count {
         let record = inputs::seeds(random);
         if stream::accepted(&record) {
             same(tables, &History(record, length));
+            run += 1;
         }
     }
-    format!("up to {count} seeds, {length} draws from each stream against the recurrence on single bits")
+    format!("{count} accepted seeds, {length} draws from each stream against the recurrence on single bits")
 }
 
 fn samples(tables: &Tables, random: &mut Random) -> String {
@@ -64,7 +66,8 @@ fn samples(tables: &Tables, random: &mut Random) -> String {
         let (k, v) = (inputs::k(random), inputs::v(random));
         refused += u32::from(same(tables, &Sample(k, v)).0 != 0);
     }
-    format!("{} samples of k and v, {refused} calls refused", 2 * count + 4 * 65536)
+    let calls = count + 2 * 65536;
+    format!("{calls} calls from k and v, {refused} refused, {} samples", 2 * (calls - refused))
 }
 
 fn pairs(tables: &Tables, random: &mut Random) -> String {
