@@ -212,8 +212,8 @@ struct Pair {
 }
 
 // The number under the logarithm: k = 0 is read as 1. The quotient is 1 for k = 0 alone. (Where the compiler can see that the
-// number is not 0, it takes the leading zeros by an instruction that waits for the pair before, and a pair takes nearly twice
-// the time.)
+// number is not 0, it takes the leading zeros by an instruction that waits for the pair before, and a pair took 1.6 times as
+// long.)
 fn numerator(k: u64) -> u64
     requires { ⌜ k < 2 ^ 48 ⌝ }
     ensures { λ r. ⌜ r ≡ numerator k ⌝ }
