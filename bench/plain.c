@@ -1,6 +1,7 @@
 /* The steps of document 01 in plain C: no contract, no proof, compiled with -O3. */
 #include "plain.h"
 #include <math.h>
+#include <string.h>
 
 static uint64_t A[256], B[256], C[128], D[128], c[128], s[128], K;
 
@@ -39,8 +40,16 @@ uint32_t plain_draw_a(uint32_t *registers, uint32_t *draw) {
     return 0;
 }
 
+/* From the exponent of k, below 2^53, as a double: x86's bit scan would wait for that of the pair before. */
+static inline int top_bit(uint64_t k) {
+    double exact = (double)(int64_t)k;
+    uint64_t bits;
+    memcpy(&bits, &exact, sizeof bits);
+    return (int)(bits >> 52) - 1023;
+}
+
 static inline uint64_t root_double(uint64_t x) {
-    return (uint64_t)sqrt((double)x);
+    return (uint64_t)(int64_t)sqrt((double)(int64_t)x);
 }
 
 static inline uint64_t root_bits(uint64_t x) {
@@ -56,16 +65,17 @@ static inline uint64_t root_bits(uint64_t x) {
     return root;
 }
 
-static inline int16_t sample(uint64_t F, int64_t G) {
-    uint64_t size = (F * (uint64_t)(G < 0 ? -G : G) + ((uint64_t)1 << 38)) >> 39;
-    return (int16_t)(G < 0 ? -(int64_t)size : (int64_t)size);
+/* The size of F times G, negated where sign is all ones. */
+static inline int16_t sample(uint64_t F, uint64_t G, uint64_t sign) {
+    uint64_t size = (F * G + ((uint64_t)1 << 38)) >> 39;
+    return (int16_t)((size ^ sign) - sign);
 }
 
 static inline void pair(uint64_t k, uint32_t v, int16_t *out, uint64_t (*root)(uint64_t)) {
     if (k == 0) {
         k = 1;
     }
-    int e = 63 - __builtin_clzll(k);
+    int e = top_bit(k);
     uint64_t M = k << (47 - e);
     uint64_t h = M >> 39, d = M & (((uint64_t)1 << 39) - 1);
     uint64_t i = d / (h << 23), r = d - i * (h << 23);
@@ -73,10 +83,11 @@ static inline void pair(uint64_t k, uint32_t v, int16_t *out, uint64_t (*root)(u
     int64_t Q = (int64_t)((uint64_t)(48 - e) * K - A[h - 256] - B[i] - S);
     uint64_t F = root(2 * (uint64_t)(Q < 0 ? 0 : Q));
     uint32_t q = v >> 14, w = v & 16383, a = w >> 7, b = w & 127;
-    int64_t cosine = (int64_t)((C[a] * c[b] - D[a] * s[b]) >> 30), sine = (int64_t)((D[a] * c[b] + C[a] * s[b]) >> 30);
-    int64_t first = q & 1 ? cosine : sine, second = q & 1 ? -sine : cosine;
-    out[0] = sample(F, q & 2 ? -first : first);
-    out[1] = sample(F, q & 2 ? -second : second);
+    uint64_t cosine = (C[a] * c[b] - D[a] * s[b]) >> 30, sine = (D[a] * c[b] + C[a] * s[b]) >> 30;
+    /* the quarters by masks: odd ones swap sine and cosine, and each member has its sign */
+    uint64_t swap = (sine ^ cosine) & -(uint64_t)(q & 1);
+    out[0] = sample(F, sine ^ swap, -(uint64_t)(q >> 1));
+    out[1] = sample(F, cosine ^ swap, -(uint64_t)((q ^ q >> 1) & 1));
 }
 
 static inline uint32_t block_by(uint32_t *registers, int16_t *block, size_t length, uint64_t (*root)(uint64_t)) {
@@ -90,10 +101,17 @@ static inline uint32_t block_by(uint32_t *registers, int16_t *block, size_t leng
     for (int j = 0; j < 6; j++) {
         r[j] = registers[j];
     }
-    for (size_t at = 0; at < length; at += 2) {
-        uint64_t a = step(r);
-        uint32_t b = step(r + 3);
-        pair(a << 16 | b >> 16, b & 65535, block + at, root);
+    /* by stretches: the draws of 512 pairs, then their samples */
+    uint64_t drawn[512];
+    for (size_t at = 0; at < length;) {
+        size_t pairs = (length - at) / 2 < 512 ? (length - at) / 2 : 512;
+        for (size_t j = 0; j < pairs; j++) {
+            uint64_t a = step(r);
+            drawn[j] = a << 32 | step(r + 3);
+        }
+        for (size_t j = 0; j < pairs; j++, at += 2) {
+            pair(drawn[j] >> 16, drawn[j] & 65535, block + at, root);
+        }
     }
     for (int j = 0; j < 6; j++) {
         registers[j] = r[j];
