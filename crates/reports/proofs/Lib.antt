@@ -1,1 +1,3 @@
 mod Samples
+mod Checksums
+mod Registers

@@ -1,7 +1,8 @@
 // What the check programs print: numbers, records, samples and running checksums, on standard output.
-ghost use Prim.Native.Nat.{_+_, _*_, _%_, _^_, _≤_};
+ghost use Prim.Native.Nat.{_≤_};
 ghost use mathlib.Core.Path.{_≡_};
 ghost use lib.IntN.{natAbs};
+ghost use Rattle.reports.specs.Reports.{mix, mixSample, mixAll, leastAt, registerOf, streamOf, recordOf};
 use streams::Generator;
 use streams::Stream;
 
@@ -15,8 +16,9 @@ pub fn line_end() {
     io::write_all(1, b"\n");
 }
 
+// A stream of three registers.
 pub fn stream_of(s0: u32, s1: u32, s2: u32) -> Stream
-    ensures { λ r. ⌜ (r .s0 ≡ s0) × (r .s1 ≡ s1) × (r .s2 ≡ s2) ⌝ }
+    ensures { λ r. ⌜ r ≡ streamOf s0 s1 s2 ⌝ }
 {
     Stream { s0, s1, s2 }
 }
@@ -57,13 +59,15 @@ pub fn show_sample(sample: i16) {
 
 // A running checksum, one word on.
 pub fn mixed(sum: u64, word: u64) -> u64
-    ensures { λ r. ⌜ r ≡ (sum % 2 ^ 32 * 1664525 + word % 2 ^ 48) % 2 ^ 32 ⌝ }
+    ensures { λ r. ⌜ r ≡ mix sum word ⌝ }
 {
     (sum % 4294967296 * 1664525 + word % 281474976710656) % 4294967296
 }
 
 // A running checksum, one sample on.
-pub fn mixed_sample(sum: u64, sample: i16) -> u64 {
+pub fn mixed_sample(sum: u64, sample: i16) -> u64
+    ensures { λ r. ⌜ r ≡ mixSample sum sample ⌝ }
+{
     let n = size(sample);
     if sample < 0 {
         mixed(sum, 65536 - n)
@@ -73,7 +77,9 @@ pub fn mixed_sample(sum: u64, sample: i16) -> u64 {
 }
 
 // The checksum of a slice of samples.
-pub fn mixed_slice(sum: u64, samples: &[i16]) -> u64 {
+pub fn mixed_slice(sum: u64, samples: &[i16]) -> u64
+    ensures { λ r. ⌜ r ≡ mixAll sum (now (samples .entry)) ⌝ }
+{
     let mut all = sum;
     for i in 0..samples.len() {
         let x = samples[i];
@@ -84,38 +90,41 @@ pub fn mixed_slice(sum: u64, samples: &[i16]) -> u64 {
 
 // The minimum of the register at a place of the record.
 fn least_at(place: u64) -> u64
-    ensures { λ r. ⌜ r ≤ 16 ⌝ }
+    ensures { λ r. ⌜ (r ≡ leastAt place) × (r ≤ 16) ⌝ }
 {
-    let n = place % 3;
-    match n {
-        0 => 2,
-        1 => 8,
-        _ => 16,
-    }
+    let minima = [2, 8, 16];
+    minima[(place % 3) as usize]
 }
 
 // The register at a place of record number case: the extreme ones first, then scattered ones.
-fn register(case: u64, place: u64) -> u32 {
+fn register(case: u64, place: u64) -> u32
+    ensures { λ r. ⌜ r ≡ registerOf case place ⌝ }
+{
     let least = least_at(place);
-    let scattered = mixed(mixed(12345, case), place);
-    let n = match case {
-        0 => least,
-        1 => 4294967295,
-        2 => 2147483648,
-        3 => 2147483647,
-        4 => 2 * least + 4294967295,
-        5 => 1431655765,
-        6 => 2863311530,
-        7 => 4294967296 - least,
-        8 => 2 * least,
-        9 => 65536,
-        _ => scattered,
-    };
-    (n % 4294967296) as u32
+    let extremes = [
+        least,
+        4294967295,
+        2147483648,
+        2147483647,
+        2 * least + 4294967295,
+        1431655765,
+        2863311530,
+        4294967296 - least,
+        2 * least,
+        65536,
+    ];
+    if case < 10 {
+        let n = extremes[case as usize];
+        return (n % 4294967296) as u32;
+    }
+    let n = mixed(mixed(12345, case), place);
+    n as u32
 }
 
 // Record number case.
-pub fn record_of(case: u64) -> Generator {
+pub fn record_of(case: u64) -> Generator
+    ensures { λ r. ⌜ r ≡ recordOf case ⌝ }
+{
     let a = stream_of(register(case, 0), register(case, 1), register(case, 2));
     let b = stream_of(register(case, 3), register(case, 4), register(case, 5));
     Generator { a, b }

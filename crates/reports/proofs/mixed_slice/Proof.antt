@@ -1,12 +1,20 @@
--- The loop counts to the length.
+-- The loop counts to the length, and the samples ahead take its sum to the whole list's.
 use Prim.Native.Nat.{_≤_, _-_}
-use lib.ListN.{length}
+use native.Mathlib.Omega.{arith}
+use mathlib.Core.Path.{_≡_, sym, _∙_}
+use lib.IntN.{pos}
+use lib.ListN.{length, getD, drop}
+use mir.Syntax.{w16}
+use mir.Val.{toZ, ofZ}
+use mir.Facts.{toZ-ofZ}
 use borrow.Author.Needs.{needs}
+use Rattle.reports.specs.Reports.{mixAll}
+use Rattle.reports.proofs.Checksums.{mix-ahead, mix-end}
 use Rattle.reports.proofs.mixed_slice.Statement.{statement}
 use Rattle.reports.proofs.mixed_slice.Tie as tie
 
 abbrev Inv-loop : tie.InvT-loop
-Inv-loop sum samples all₀ i₀ i-end all i = i ≤ length samples
+Inv-loop sum samples all₀ i₀ i-end all i = (i ≤ length samples) × (mixAll all (drop i samples) ≡ mixAll sum samples)
 
 abbrev μ-loop : tie.MeasureT-loop
 μ-loop sum samples all₀ i₀ i-end all i = length samples - i
@@ -30,10 +38,16 @@ loop-less : tie.Need-loop-less Inv-loop μ-loop
 loop-less c = search needs
 
 loop-again : tie.Need-loop-again Inv-loop μ-loop
-loop-again c = search needs
+loop-again c =
+    let at = c .before .before .before in
+    let l = at .before .args .samples .now in
+    let x = getD l (at .loop .i) (pos 0) in
+    let same : toZ w16 (ofZ w16 x) ≡ x = toZ-ofZ (record { sfits = c .before .x .given }) in
+    let ahead = mix-ahead (at .loop .all) l (at .loop .i) (pos 0) (c .before .before .loop-test .taken) in
+    (omega arith, rw (c .mixed-sample .ensures, same) (sym ahead ∙ at .loop .inv .1))
 
 returns : tie.Need-returns Inv-loop μ-loop
-returns c = search needs
+returns c = sym (mix-end _ _ (c .before .loop .i) (c .loop-test .left)) ∙ c .before .loop .inv .1
 
 pub mixed-slice-spec : {M : Type 1} → statement M
 mixed-slice-spec =
