@@ -16,7 +16,8 @@ use Rattle.sample.specs.Steps.{numerator, radius}
 use Rattle.sample.specs.Sample.{nineSixteenths, radiusOf, rotationOf, firstOf, secondOf, samplesOf}
 use Rattle.sample.specs.declared.Samples.{Samples}
 use Rattle.sample.proofs.Margin.Rounding.{member-close}
-use Rattle.sample.proofs.Margin.Radius.{Logs, enclosure-low, enclosure-high, radius-small}
+use Rattle.sample.proofs.Margin.Radius.{Logs, enclosure-low, enclosure-high}
+use Rattle.sample.proofs.Ranges.{radius-range}
 use Rattle.sample.proofs.Margin.Members.{members-near}
 
 logs : Promise → Logs (entryOf logCoarse 256) (entryOf logFine 0) lnTwo
@@ -32,7 +33,7 @@ by-promise promise bounds k v hk hv =
     let narrow : 48 ≤ 60 = omega arith in
     let below : max 1 k < 2 ^ 48 = omega arith in
     let F = radius A B lnTwo 48 (numerator k) in
-    let small = radius-small A B lnTwo 48 k wide narrow below (logs promise) (omega (arith, bounds .ln-two)) in
+    let small : F < 2 ^ 24 = omega (arith, radius-range A B (numerator k)) in
     let near = members-near promise bounds v in
     let g : RadiusEnclosure 48 k =
     record {

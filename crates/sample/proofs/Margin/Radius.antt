@@ -2,11 +2,10 @@
 -- Assumes nothing.
 use mathlib.Core.Path.{_≡_, refl, ap, sym, _∙_}
 use Prim.Native.Nat.{ℕ, _+_, _-_, _*_, _/_, _%_, _^_, _≤_, _<_, max}
-use native.Mathlib.Nat.{mul-pos, mul-le-mul-right, mul-lt-mul-of-pos-right, div-add-mod, mod-lt, lt-of-le-of-lt}
+use native.Mathlib.Nat.{mul-pos, mul-lt-mul-of-pos-right, div-add-mod, mod-lt}
 use native.Mathlib.Omega.{arith}
 use lib.Pow.{pow-pos, pow-add}
 use Rattle.exact.specs.Fraction.{whole, dyadic}
-use Rattle.exact.specs.RootLaws.{lt-of-square-lt}
 use Rattle.exact.specs.Radius.{AtMostRadius, AtLeastRadius}
 use Rattle.tables.specs.Promise.{NearestLn}
 use Rattle.sample.specs.Steps.{numerator, topBit, mantissa, coarse, rest, fine, remainder, correction, logarithm, radius}
@@ -133,13 +132,3 @@ module _ (A B : ℕ → ℕ) (K b n : ℕ) (wide : 25 ≤ b) (narrow : b ≤ 60)
   pub enclosure-high : AtLeastRadius b n (dyadic 20 (radius A B K b (numerator n) + 20))
   unfolding logarithm radius numbers
   enclosure-high = radius-at-least numbers (omega arith) _ (whole-root _ .1)
-
-  -- F is below 2^24
-  pub radius-small : 2 * (b * K) < 2 ^ 48 → radius A B K b (numerator n) < 2 ^ 24
-  unfolding radius logarithm
-  radius-small h = lt-of-square-lt _ (2 ^ 24) (lt-of-le-of-lt (whole-root _ .0) (lt-of-le-of-lt (few (topBit (max 1 n)) _ _ _) h))
-    where
-      few : (e x y z : ℕ) → 2 * ((b - e) * K - x - y - z) ≤ 2 * (b * K)
-      few e x y z =
-          let t : b - e ≤ b = omega arith in
-          omega (arith, mul-le-mul-right K t)
