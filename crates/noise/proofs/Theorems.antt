@@ -6,7 +6,7 @@ use Prim.Native.Nat.{ℕ, zero, suc, _+_, _*_, _/_, _%_, _<_}
 use native.Mathlib.Omega.{arith}
 use lib.Dec.{eqb}
 use lib.IntN.{ℤ}
-use lib.ListN.{length, getD, length-append}
+use lib.ListN.{length, getD, drop, length-append}
 use borrow.Author.Tests.{eq-eqb}
 use Rattle.exact.specs.Pair.{Close}
 use Rattle.streams.specs.declared.Generator.{Generator}
@@ -18,6 +18,8 @@ use Rattle.streams.proofs.Theorems.{uniforms-accepted}
 use Rattle.streams.proofs.Theorems.{readings as draw-readings}
 use Rattle.sample.specs.Sample.{nineSixteenths, samplesOf}
 use Rattle.sample.specs.Readings.{Reading, readings, readings-hold}
+use Rattle.sample.specs.declared.Samples.{Samples}
+use Rattle.noise.specs.Readings.{Check, of-samples, of-draw, AllHold, twelve}
 use Rattle.sample.proofs.Closeness.{samples-close}
 use Rattle.noise.specs.declared.PairAnswer.{PairAnswer}
 use Rattle.noise.specs.declared.BlockAnswer.{BlockAnswer}
@@ -163,9 +165,18 @@ pair-numbers n g h =
     let drawn = uniforms-accepted (moved n n g) (moved-sound n n g h) in
     rw (after-moved n g h, drawn, next-draw n (g .a), next-draw n (g .b)) (refl, refl)
 
--- ---- The twelve readings of document 01: (k, v) to samples, and the first two draws of the registers 2, 8, 16
-pub twelve-readings : (map (λ (r : Reading). samplesOf (r .k) (r .v)) readings
-    ≡ map (λ (r : Reading). record { number = 0; first = r .first; second = r .second }) readings)
-    × (drawAt (record { s0 = 2; s1 = 8; s2 = 16 }) 1 ≡ 0x00202080)
-    × (drawAt (record { s0 = 2; s1 = 8; s2 = 16 }) 2 ≡ 0x02002C80)
-twelve-readings = (readings-hold, draw-readings .0, draw-readings .1)
+-- ---- The twelve readings of document 01
+
+-- an equation of two lists holds at each place
+each-holds : (l : List Reading) → map (λ (r : Reading). samplesOf (r .k) (r .v)) l
+    ≡ map (λ (r : Reading). record { number = 0; first = r .first; second = r .second }) l
+    → (rest : List Check) → AllHold rest → AllHold (map of-samples l ++ rest)
+unfolding map _++_
+each-holds [] e rest h = h
+each-holds (r ∷ l) e rest h =
+    (ap (λ (s : List Samples). getD s 0 (samplesOf 0 0)) e, each-holds l (ap (λ (s : List Samples). drop 1 s) e) rest h)
+
+pub twelve-readings : AllHold twelve
+unfolding twelve
+twelve-readings =
+    each-holds readings readings-hold (of-draw 1 0x00202080 ∷ of-draw 2 0x02002C80 ∷ []) (draw-readings .0, (draw-readings .1, tt))

@@ -1,3 +1,4 @@
 pub mod Noise
 pub mod Private
 pub mod Runs
+pub mod Readings
