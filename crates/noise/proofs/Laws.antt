@@ -1,49 +1,56 @@
--- Laws of "n pairs on": the record and the samples. Assumes nothing.
+-- Laws of "n pairs on": the record and the samples.
 use mathlib.Core.Path.{_≡_, refl, sym, ap, _∙_}
 use mathlib.Core.Bool.{Bool, true, false}
-use mathlib.Core.List.{List, _∷_, _++_}
+use mathlib.Core.List.{List, [], _∷_, _++_}
 use Prim.Native.Nat.{ℕ, zero, suc, _+_, _*_, _/_, _%_, _^_, _<_}
 use native.Mathlib.Nat.{zero-add, suc-add}
 use native.Mathlib.Omega.{arith}
-use borrow.Author.Tests.{lt-leb, le-ltb}
+use borrow.Author.Tests.{lt-leb, le-ltb, eqb-true, eqb-false}
+use lib.Dec.{eqb}
 use lib.IntN.{ℤ}
 use lib.ListN.{length}
 use Rattle.streams.specs.declared.Generator.{Generator}
 use Rattle.streams.specs.declared.Uniforms.{Uniforms}
-use Rattle.streams.specs.Streams.{accepted, pick, uniformsOf}
-use Rattle.streams.specs.Recurrence.{Sound, nextOf}
-use Rattle.streams.specs.Recurrence.Call.{numbers as pairNumbers}
-use Rattle.streams.proofs.Theorems.{sound-accepted, call-sound, numbers-bounded}
+use Rattle.streams.specs.Streams.{recordNumber, firstCause, uniformsOf}
+use Rattle.streams.specs.Recurrence.{Sound, moved, repeat}
+use Rattle.streams.proofs.Theorems.{uniforms-accepted, numbers-moves, moved-sound, moved-add, numbers-bounded}
 use Rattle.sample.specs.Sample.{samplesOf, firstOf, secondOf}
 use Rattle.sample.specs.FillLaws.{samplesAt}
-use Rattle.noise.specs.declared.PairAnswer.{PairAnswer}
-use Rattle.noise.specs.Noise.{pairOf, after, samples}
+use Rattle.noise.specs.Noise.{pairOf, after, samples, lengthNumber, blockNumber}
 use Rattle.noise.specs.Private.{numbers}
 
-pick-true : {A : Type 0} {t : Bool} (x y : A) → t ≡ true → pick t x y ≡ x
-pick-true x y h = rw h
+-- ---- Causes
 
-pick-false : {A : Type 0} {t : Bool} (x y : A) → t ≡ false → pick t x y ≡ y
-pick-false x y h = rw h
+pub lone-cause : (number : ℕ) → firstCause (number ∷ []) ≡ number
+lone-cause number = by-test (eqb number 0) refl
+  where
+    by-test : (t : Bool) → eqb number 0 ≡ t → firstCause (number ∷ []) ≡ number
+    by-test true e = rw e (sym (eqb-true number 0 e))
+    by-test false e = rw e
 
-pub pick-map : {A B : Type 0} (f : A → B) (t : Bool) (x y : A) → f (pick t x y) ≡ pick t (f x) (f y)
-pick-map f true x y = refl
-pick-map f false x y = refl
+-- A block that is accepted has an accepted record and an even length.
+pub block-accepted : (g : Generator) (n : ℕ) → blockNumber g n ≡ 0 → (recordNumber g ≡ 0) × (n % 2 ≡ 0)
+unfolding blockNumber lengthNumber
+block-accepted g n z = by-record (eqb (recordNumber g) 0) refl
+  where
+    by-length : (t : Bool) → eqb (n % 2) 0 ≡ t → lengthNumber n ≡ 0 → n % 2 ≡ 0
+    by-length true e h = eqb-true (n % 2) 0 e
+    by-length false e h = absurd (omega (arith, rw (lengthNumber, e) at h))
+
+    by-record : (t : Bool) → eqb (recordNumber g) 0 ≡ t → (recordNumber g ≡ 0) × (n % 2 ≡ 0)
+    by-record true e =
+        (eqb-true _ _ e, by-length (eqb (n % 2) 0) refl (sym (lone-cause (lengthNumber n)) ∙ rw (blockNumber, e) at z))
+    by-record false e = absurd (eqb-false _ _ e (rw (blockNumber, e) at z))
 
 -- ---- One pair
 
 -- The record after a pair is the one after its two draws, refused or not.
 pub pair-next : (g : Generator) → pairOf g .next ≡ uniformsOf g .next
-pair-next g = by-test (accepted g) refl
-  where
-    by-test : (t : Bool) → accepted g ≡ t → pairOf g .next ≡ uniformsOf g .next
-    by-test true e = unfold pairOf in ap (λ (p : PairAnswer). p .next) (pick-true _ _ e)
-    by-test false e =
-        unfold pairOf uniformsOf in
-        ap (λ (p : PairAnswer). p .next) (pick-false _ _ e) ∙ sym (ap (λ (p : Uniforms). p .next) (pick-false _ _ e))
+unfolding pairOf
+pair-next g = refl
 
 pub next-sound : (g : Generator) → Sound g → Sound (pairOf g .next)
-next-sound g h = rw (pair-next g) (unfold nextOf in call-sound pairNumbers g h)
+next-sound g h = rw (pair-next g, numbers-moves g h) (moved-sound 1 1 g h)
 
 -- ---- n pairs on
 
@@ -66,6 +73,15 @@ pub after-sound : (n : ℕ) (g : Generator) → Sound g → Sound (after n g)
 unfolding after
 after-sound zero g h = h
 after-sound (suc n) g h = after-sound n (pairOf g .next) (next-sound g h)
+
+-- Each stream is then n draws on.
+pub after-moved : (n : ℕ) (g : Generator) → Sound g → after n g ≡ moved n n g
+unfolding after repeat
+after-moved zero g h = refl
+after-moved (suc n) g h =
+    let one-more : 1 + n ≡ suc n = omega arith in
+    after-moved n (pairOf g .next) (next-sound g h)
+    ∙ rw (pair-next g, numbers-moves g h) (rw one-more at (moved-add 1 1 n n g))
 
 -- ---- The numbers behind the samples
 
@@ -95,7 +111,8 @@ pub pair-is : (g : Generator) → Sound g
 unfolding pairOf
 pair-is g h =
     let (hk, hv) = numbers-bounded g h in
-    pick-true _ _ (sound-accepted g h) ∙ rw (accepts (uniformsOf g .k) (uniformsOf g .v) hk hv)
+    let accepted : uniformsOf g .number ≡ 0 = ap (λ (u : Uniforms). u .number) (uniforms-accepted g h) in
+    rw (pairOf, accepted, accepts (uniformsOf g .k) (uniformsOf g .v) hk hv)
 
 pub samples-numbers : (n : ℕ) (g : Generator) → Sound g → samples n g ≡ samplesAt (numbers n g)
 unfolding samples numbers samplesAt

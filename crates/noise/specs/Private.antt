@@ -1,4 +1,4 @@
--- What the private functions return and leave in lent memory. Assumes nothing.
+-- What the private functions return and leave in lent memory.
 use mathlib.Core.List.{List, [], _∷_}
 use mathlib.Core.Path.{_≡_}
 use Prim.Native.Nat.{ℕ, zero, suc, _+_, _*_}
@@ -6,6 +6,10 @@ use lib.IntN.{ℤ}
 use Rattle.streams.specs.declared.Generator.{Generator}
 use Rattle.streams.specs.Streams.{uniformsOf}
 use Rattle.noise.specs.Noise.{after, samples}
+
+-- The most samples in a stretch.
+abbrev pub stretchLength : ℕ
+stretchLength = 1024
 
 -- The numbers 65536 k + v of n pairs.
 unfoldable pub numbers : ℕ → Generator → List ℕ

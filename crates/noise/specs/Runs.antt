@@ -1,23 +1,66 @@
--- Runs of calls on a record, each passed what the one before returned. Assumes nothing.
+-- Runs of calls on a record, each passed what the one before returned.
 use mathlib.Core.List.{List, [], _∷_}
-use Prim.Native.Nat.{ℕ}
+use Prim.Native.Nat.{ℕ, _+_, _/_}
 use Rattle.streams.specs.declared.Generator.{Generator}
-use Rattle.streams.specs.Recurrence.{Call, nextOf}
-use Rattle.noise.specs.Noise.{pairOf, blockOf}
+use Rattle.streams.specs.Streams.{ifAccepted, drawA, drawB, uniformsOf}
+use Rattle.noise.specs.Noise.{lengthNumber, pairOf, blockOf}
 
--- A call on a record: a draw or the numbers of a pair (`streams`), a pair, or a block of some length.
-pub data NoiseCall : Type 0 where
-  of-streams : Call → NoiseCall
-  a-pair : NoiseCall
-  a-block : ℕ → NoiseCall
+-- A call on a record: a draw from a, one from b, the numbers of a pair, a pair, or a block of n elements.
+pub data Call : Type 0 where
+  draw-a draw-b numbers a-pair : Call
+  a-block : ℕ → Call
 
--- The record that a call returns.
-unfoldable pub nextRecord : NoiseCall → Generator → Generator
-nextRecord (of-streams c) g = nextOf c g
-nextRecord a-pair g = pairOf g .next
-nextRecord (a-block n) g = blockOf g n .next
+-- Its number, and the record that it returns.
+unfoldable pub numberOf : Call → Generator → ℕ
+numberOf draw-a g = drawA g .number
+numberOf draw-b g = drawB g .number
+numberOf numbers g = uniformsOf g .number
+numberOf a-pair g = pairOf g .number
+numberOf (a-block n) g = blockOf g n .number
+
+unfoldable pub nextOf : Call → Generator → Generator
+nextOf draw-a g = drawA g .next
+nextOf draw-b g = drawB g .next
+nextOf numbers g = uniformsOf g .next
+nextOf a-pair g = pairOf g .next
+nextOf (a-block n) g = blockOf g n .next
 
 -- The record after a run of calls.
-unfoldable pub runAll : List NoiseCall → Generator → Generator
-runAll [] g = g
-runAll (c ∷ l) g = runAll l (nextRecord c g)
+unfoldable pub run : List Call → Generator → Generator
+run [] g = g
+run (c ∷ l) g = run l (nextOf c g)
+
+-- A sum over a run, of a figure of each call and the record passed to it.
+unfoldable pub sumOver : (Call → Generator → ℕ) → List Call → Generator → ℕ
+sumOver f [] g = 0
+sumOver f (c ∷ l) g = f c g + sumOver f l (nextOf c g)
+
+-- How often an accepted call draws from stream a, and from stream b.
+unfoldable pub fromA : Call → ℕ
+fromA draw-a = 1
+fromA draw-b = 0
+fromA numbers = 1
+fromA a-pair = 1
+fromA (a-block n) = n / 2
+
+unfoldable pub fromB : Call → ℕ
+fromB draw-a = 0
+fromB draw-b = 1
+fromB numbers = 1
+fromB a-pair = 1
+fromB (a-block n) = n / 2
+
+-- How often any call does: refused, it draws from neither.
+unfoldable pub drawsA : Call → Generator → ℕ
+drawsA c g = ifAccepted (numberOf c g) (fromA c) 0
+
+unfoldable pub drawsB : Call → Generator → ℕ
+drawsB c g = ifAccepted (numberOf c g) (fromB c) 0
+
+-- Why a call may be refused although its record is accepted: a block for its length, no other call.
+unfoldable pub ownNumber : Call → ℕ
+ownNumber draw-a = 0
+ownNumber draw-b = 0
+ownNumber numbers = 0
+ownNumber a-pair = 0
+ownNumber (a-block n) = lengthNumber n

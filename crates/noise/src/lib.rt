@@ -1,11 +1,10 @@
 // A pair of samples, and a block of them in lent memory, from a generator record.
 ghost use mathlib.Core.Path.{_≡_};
-ghost use mathlib.Core.Bool.{true};
 ghost use Prim.Native.Nat.{_+_, _*_, _/_, _%_, _≤_, min};
 ghost use lib.ListN.{length};
-ghost use Rattle.streams.specs.Streams.{accepted};
-ghost use Rattle.noise.specs.Noise.{pairOf, after, blockOf, blockHolds};
-ghost use Rattle.noise.specs.Private.{numbers, PairsDrawn};
+ghost use Rattle.streams.specs.Streams.{recordNumber};
+ghost use Rattle.noise.specs.Noise.{pairOf, after, blockNumber, blockOf, blockHolds};
+ghost use Rattle.noise.specs.Private.{stretchLength, numbers, PairsDrawn};
 use streams::Generator;
 
 pub struct PairAnswer {
@@ -24,28 +23,28 @@ pub struct BlockAnswer {
 pub fn pair(g: Generator) -> PairAnswer
     ensures { λ r. ⌜ r ≡ pairOf g ⌝ }
 {
-    if g.is_accepted() {
-        let drawn = g.uniforms();
-        let s = sample::sample(drawn.k, drawn.v);
-        let next = drawn.next;
+    let drawn = g.uniforms();
+    let next = drawn.next;
+    if drawn.number != 0 {
         return PairAnswer {
-            number: 0,
-            first: s.first,
-            second: s.second,
+            number: drawn.number,
+            first: 0,
+            second: 0,
             next,
         };
     }
+    let s = sample::sample(drawn.k, drawn.v);
     PairAnswer {
-        number: 1,
-        first: 0,
-        second: 0,
-        next: g,
+        number: 0,
+        first: s.first,
+        second: s.second,
+        next,
     }
 }
 
 // The numbers 65536 k + v of as many pairs as z has elements, and the record after them.
 fn draw_numbers(g: Generator, z: &mut [u64]) -> Generator
-    requires { ⌜ accepted g ≡ true ⌝ }
+    requires { ⌜ recordNumber g ≡ 0 ⌝ }
     ensures { λ r. ⌜ (r ≡ after (length (now (z .entry))) g) × (now (z .exit) ≡ numbers (length (now (z .entry))) g) ⌝ }
 {
     let mut state = g;
@@ -61,7 +60,7 @@ fn draw_numbers(g: Generator, z: &mut [u64]) -> Generator
 
 // The samples of as many pairs as z has elements, by way of their numbers in z.
 fn draw_samples(g: Generator, z: &mut [u64], out: &mut [i16]) -> Generator
-    requires { ⌜ (accepted g ≡ true) × (length (now out) ≡ 2 * length (now z)) ⌝ }
+    requires { ⌜ (recordNumber g ≡ 0) × (length (now out) ≡ 2 * length (now z)) ⌝ }
     ensures { λ r. ⌜ PairsDrawn (length (now (z .entry))) g r (now (out .exit)) ⌝ }
 {
     let next = draw_numbers(g, z);
@@ -69,12 +68,15 @@ fn draw_samples(g: Generator, z: &mut [u64], out: &mut [i16]) -> Generator
     next
 }
 
-// A stretch of at most 1024 samples: the tables are loaded once for all of them.
+// The most samples in a stretch.
+const STRETCH: usize = 1024;
+
+// A stretch: the tables are loaded once for all of its samples.
 fn stretch(g: Generator, out: &mut [i16]) -> Generator
-    requires { ⌜ (accepted g ≡ true) × (length (now out) % 2 ≡ 0) × (length (now out) ≤ 1024) ⌝ }
+    requires { ⌜ (recordNumber g ≡ 0) × (length (now out) % 2 ≡ 0) × (length (now out) ≤ stretchLength) ⌝ }
     ensures { λ r. ⌜ PairsDrawn (length (now (out .entry)) / 2) g r (now (out .exit)) ⌝ }
 {
-    let mut z = [0u64; 512];
+    let mut z = [0u64; STRETCH / 2];
     let count = out.len() / 2;
     draw_samples(g, &mut z[0..count], out)
 }
@@ -82,14 +84,14 @@ fn stretch(g: Generator, out: &mut [i16]) -> Generator
 // Where the stretch that begins at a place of n ends.
 fn stretch_end(at: usize, n: usize) -> usize
     requires { ⌜ at ≤ n ⌝ }
-    ensures { λ r. ⌜ r ≡ min n (at + 1024) ⌝ }
+    ensures { λ r. ⌜ r ≡ min n (at + stretchLength) ⌝ }
 {
-    if n - at < 1024 { n } else { at + 1024 }
+    if n - at < STRETCH { n } else { at + STRETCH }
 }
 
 // A block of even length on an accepted record, stretch by stretch.
 fn stretches(g: Generator, out: &mut [i16]) -> Generator
-    requires { ⌜ (accepted g ≡ true) × (length (now out) % 2 ≡ 0) ⌝ }
+    requires { ⌜ (recordNumber g ≡ 0) × (length (now out) % 2 ≡ 0) ⌝ }
     ensures { λ r. ⌜ PairsDrawn (length (now (out .entry)) / 2) g r (now (out .exit)) ⌝ }
 {
     let mut state = g;
@@ -103,17 +105,29 @@ fn stretches(g: Generator, out: &mut [i16]) -> Generator
     state
 }
 
+// The number of a block of n elements.
+fn block_number(g: Generator, n: usize) -> u32
+    ensures { λ r. ⌜ r ≡ blockNumber g n ⌝ }
+{
+    let number = g.record_number();
+    if number != 0 {
+        return number;
+    }
+    if n % 2 != 0 {
+        return 4;
+    }
+    0
+}
+
 // A block of samples, first and second of each pair alternating.
 pub fn block(g: Generator, out: &mut [i16]) -> BlockAnswer
     ensures { λ r. ⌜ r ≡ blockOf g (length (now (out .entry))) ⌝ }
     ensures { λ r. ⌜ now (out .exit) ≡ blockHolds g (now (out .entry)) ⌝ }
 {
-    if g.is_accepted() {
-        if out.len() % 2 == 0 {
-            let next = stretches(g, out);
-            return BlockAnswer { number: 0, next };
-        }
-        return BlockAnswer { number: 4, next: g };
+    let number = block_number(g, out.len());
+    if number != 0 {
+        return BlockAnswer { number, next: g };
     }
-    BlockAnswer { number: 1, next: g }
+    let next = stretches(g, out);
+    BlockAnswer { number, next }
 }

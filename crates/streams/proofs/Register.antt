@@ -1,5 +1,5 @@
 -- The family of registers over (k, q, s): one step in masks, shifts and exclusive-or is the recurrence, s places on.
--- Every law is proved once, for any parameters that meet `Params`. Assumes nothing.
+-- Every law is proved once, for any parameters that meet `Params`.
 use mathlib.Core.Path.{_≡_, refl, sym, ap, _∙_}
 use Prim.Native.Nat.{ℕ, zero, suc, _+_, _-_, _*_, _/_, _%_, _^_, _≤_, _<_}
 use native.Mathlib.Nat.{mod-lt, add-assoc, zero-add, suc-add, le-dest, lt-of-le-of-lt, zero-div, div-lt-iff-lt-mul}

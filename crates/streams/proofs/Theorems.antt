@@ -1,26 +1,21 @@
 -- What is proved of the streams and of the calls on a record. The register laws behind it are in `Register`, once over (k, q, s).
--- Assumes nothing.
+-- Runs of calls are in `noise`, which has all of them.
 use mathlib.Core.Path.{_≡_, refl, ap, _∙_}
-use mathlib.Core.Bool.{Bool, true, false, _&&_}
-use mathlib.Core.List.{List, [], _∷_}
+use mathlib.Core.Bool.{Bool, true, false, cond, _&&_}
 use mathlib.Core.Logic.{_↔_}
 use Prim.Native.Nat.{ℕ, zero, suc, _+_, _*_, _/_, _%_, _^_, _<_}
 use native.Mathlib.Nat.{zero-add, suc-add}
 use native.Mathlib.Numerals.{add-one}
 use native.Mathlib.Omega.{arith}
 use lib.Bits.{bitXor, xor-lt}
-use lib.Dec.{leb}
-use borrow.Author.Tests.{leb-true, le-leb}
+use lib.Dec.{leb, eqb}
+use borrow.Author.Tests.{leb-true, le-leb, eqb-true}
 use Rattle.streams.specs.declared.Stream.{Stream}
 use Rattle.streams.specs.declared.Generator.{Generator}
-use Rattle.streams.specs.declared.Seeded.{Seeded}
 use Rattle.streams.specs.declared.Drawn.{Drawn}
 use Rattle.streams.specs.declared.Uniforms.{Uniforms}
-use Rattle.streams.specs.Streams.{step, advance, output, fit, accepted, pick, seedOf, refusedDraw, drawA, drawB}
-use Rattle.streams.specs.Streams.{uniformsOf}
-use Rattle.streams.specs.Recurrence.{top, sequence, combined, Params, repeat, drawAt, Call, nextOf, numberOf, run, drawsA}
-use Rattle.streams.specs.Recurrence.{drawsB, sumOver, moved, InRange, Minima, Sound}
-use Rattle.streams.specs.Recurrence.Call.{draw-a, draw-b, numbers}
+use Rattle.streams.specs.Streams.{step, advance, output, fit, fresh, withStreams, recordNumber, drawA, drawB, uniformsOf}
+use Rattle.streams.specs.Recurrence.{top, sequence, combined, Params, repeat, drawAt, moved, InRange, Minima, Sound}
 use Rattle.streams.proofs.Register.{step-lt, history, minimum-kept, one-to-one-reached, top-xor, sequence-starts}
 use Rattle.streams.proofs.Register.{sequence-follows}
 
@@ -84,43 +79,32 @@ fit-minima u = (
   λ m. rw (le-leb 2 (u .s0) (m .s0-least), le-leb 8 (u .s1) (m .s1-least), le-leb 16 (u .s2) (m .s2-least)),
 )
 
+cond-zero : (t : Bool) → _≡_ {A = ℕ} (cond t 0 1) 0 → t ≡ true
+cond-zero true e = refl
+cond-zero false e = absurd (omega (arith, e))
+
 -- A record is accepted where both of its streams are fit.
-pub accepted-minima : (g : Generator) → (accepted g ≡ true) ↔ (Minima (g .a) × Minima (g .b))
-unfolding accepted
+pub accepted-minima : (g : Generator) → (recordNumber g ≡ 0) ↔ (Minima (g .a) × Minima (g .b))
+unfolding recordNumber
 accepted-minima g = (
-  λ h. let (p, q) = and-true (fit (g .a)) (fit (g .b)) h in (fit-minima (g .a) .0 p, fit-minima (g .b) .0 q),
+  λ h.
+      let (p, q) = and-true (fit (g .a)) (fit (g .b)) (cond-zero (fit (g .a) && fit (g .b)) h) in
+      (fit-minima (g .a) .0 p, fit-minima (g .b) .0 q),
   λ m. rw (fit-minima (g .a) .1 (m .0), fit-minima (g .b) .1 (m .1)),
 )
 
-pick-map : {A B : Type 0} (f : A → B) (t : Bool) (x y : A) → f (pick t x y) ≡ pick t (f x) (f y)
-pick-map f true x y = refl
-pick-map f false x y = refl
-
--- A call is refused for the record's state and for nothing else.
-pub refused-for-state : (c : Call) (g : Generator) → numberOf c g ≡ pick (accepted g) 0 1
-unfolding numberOf drawA drawB uniformsOf refusedDraw
-refused-for-state draw-a g = pick-map (λ (d : Drawn). d .number) (accepted g) _ _
-refused-for-state draw-b g = pick-map (λ (d : Drawn). d .number) (accepted g) _ _
-refused-for-state numbers g = pick-map (λ (d : Uniforms). d .number) (accepted g) _ _
-
--- Seeding is refused for the six numbers and for nothing else.
-pub seeding-refused : (g : Generator)
-    → seedOf (g .a .s0) (g .a .s1) (g .a .s2) (g .b .s0) (g .b .s1) (g .b .s2) .number ≡ pick (accepted g) 0 1
-unfolding seedOf
-seeding-refused g = pick-map (λ (d : Seeded). d .number) (accepted g) _ _
-
 -- 2, 8 and 16 are accepted, and one below in any of the six registers is not.
 abbrev registers : ℕ → ℕ → ℕ → ℕ → ℕ → ℕ → Generator
-registers a0 a1 a2 b0 b1 b2 = record { a = record { s0 = a0; s1 = a1; s2 = a2 }; b = record { s0 = b0; s1 = b1; s2 = b2 } }
+registers a0 a1 a2 b0 b1 b2 = fresh (record { s0 = a0; s1 = a1; s2 = a2 }) (record { s0 = b0; s1 = b1; s2 = b2 })
 
-pub edges : (accepted (registers 2 8 16 2 8 16) ≡ true)
-    × (accepted (registers 1 8 16 2 8 16) ≡ false)
-    × (accepted (registers 2 7 16 2 8 16) ≡ false)
-    × (accepted (registers 2 8 15 2 8 16) ≡ false)
-    × (accepted (registers 2 8 16 1 8 16) ≡ false)
-    × (accepted (registers 2 8 16 2 7 16) ≡ false)
-    × (accepted (registers 2 8 16 2 8 15) ≡ false)
-unfolding accepted fit
+pub edges : (recordNumber (registers 2 8 16 2 8 16) ≡ 0)
+    × (recordNumber (registers 1 8 16 2 8 16) ≡ 1)
+    × (recordNumber (registers 2 7 16 2 8 16) ≡ 1)
+    × (recordNumber (registers 2 8 15 2 8 16) ≡ 1)
+    × (recordNumber (registers 2 8 16 1 8 16) ≡ 1)
+    × (recordNumber (registers 2 8 16 2 7 16) ≡ 1)
+    × (recordNumber (registers 2 8 16 2 8 15) ≡ 1)
+unfolding recordNumber fit
 edges = (refl, refl, refl, refl, refl, refl, refl)
 
 -- ---- Accepted stays accepted
@@ -143,12 +127,12 @@ advance-minima u h m =
       s2-least = minimum-kept params2 (u .s2) (h .s2-range) (m .s2-least);
     }
 
-pub sound : (g : Generator) → InRange (g .a) → InRange (g .b) → accepted g ≡ true → Sound g
+pub sound : (g : Generator) → InRange (g .a) → InRange (g .b) → recordNumber g ≡ 0 → Sound g
 sound g ra rb h =
     let (ma, mb) = accepted-minima g .0 h in
     record { range-a = ra; range-b = rb; minima-a = ma; minima-b = mb }
 
-pub sound-accepted : (g : Generator) → Sound g → accepted g ≡ true
+pub sound-accepted : (g : Generator) → Sound g → recordNumber g ≡ 0
 sound-accepted g h = accepted-minima g .1 (h .minima-a, h .minima-b)
 
 -- however far the streams are moved
@@ -167,77 +151,45 @@ moved-sound m n g h =
     let fb : Fit (repeat advance n (g .b)) = repeat-kept Fit fit-advance n (g .b) (h .range-b, h .minima-b) in
     record { range-a = fa .0; range-b = fb .0; minima-a = fa .1; minima-b = fb .1 }
 
--- A draw n steps after m steps is one m + n steps on.
+-- ---- Each call on an accepted record draws from its own streams, and leaves the other where it is.
+
+pub draw-a-moves : (g : Generator) → Sound g → drawA g .next ≡ moved 1 0 g
+unfolding drawA repeat
+draw-a-moves g h = rw (sound-accepted g h)
+
+pub draw-b-moves : (g : Generator) → Sound g → drawB g .next ≡ moved 0 1 g
+unfolding drawB repeat
+draw-b-moves g h = rw (sound-accepted g h)
+
+pub numbers-moves : (g : Generator) → Sound g → uniformsOf g .next ≡ moved 1 1 g
+unfolding uniformsOf repeat
+numbers-moves g h = rw (sound-accepted g h)
+
+-- n draws after m are m + n draws: of a stream,
 pub repeat-add : {A : Type 0} (f : A → A) (m n : ℕ) (x : A) → repeat f n (repeat f m x) ≡ repeat f (m + n) x
 unfolding repeat
 repeat-add f zero n x = rw (zero-add n)
 repeat-add f (suc m) n x = repeat-add f m n (f x) ∙ rw (suc-add m n)
 
-pick-true : {A : Type 0} {t : Bool} (x y : A) → t ≡ true → pick t x y ≡ x
-pick-true x y h = rw h
+-- and of both streams of a record.
+pub moved-add : (m n m′ n′ : ℕ) (g : Generator) → moved m′ n′ (moved m n g) ≡ moved (m + m′) (n + n′) g
+moved-add m n m′ n′ g = λ i. withStreams g (repeat-add advance m m′ (g .a) i) (repeat-add advance n n′ (g .b) i)
 
--- Each call on an accepted record draws from its own streams, and leaves the other where it is.
-pub call-moves : (c : Call) (g : Generator) → Sound g → nextOf c g ≡ moved (drawsA c) (drawsB c) g
-unfolding nextOf drawA drawB uniformsOf drawsA drawsB repeat
-call-moves draw-a g h = ap (λ (d : Drawn). d .next) (pick-true _ _ (sound-accepted g h))
-call-moves draw-b g h = ap (λ (d : Drawn). d .next) (pick-true _ _ (sound-accepted g h))
-call-moves numbers g h = ap (λ (d : Uniforms). d .next) (pick-true _ _ (sound-accepted g h))
-
--- What a call on an accepted record returns is accepted.
-pub call-sound : (c : Call) (g : Generator) → Sound g → Sound (nextOf c g)
-call-sound c g h = rw (call-moves c g h) (moved-sound (drawsA c) (drawsB c) g h)
-
--- A record once accepted is accepted after any run of calls,
-pub run-sound : (l : List Call) (g : Generator) → Sound g → Sound (run l g)
-unfolding run
-run-sound [] g h = h
-run-sound (c ∷ l) g h = run-sound l (nextOf c g) (call-sound c g h)
-
--- and so no call of a run is ever refused.
-pub never-refused : (l : List Call) (c : Call) (g : Generator) → Sound g → numberOf c (run l g) ≡ 0
-never-refused l c g h = refused-for-state c (run l g) ∙ rw (sound-accepted (run l g) (run-sound l g h))
-
--- After any run each stream has moved as often as the run has drawn from it, whatever was drawn from the other.
-pub run-moved : (l : List Call) (g : Generator) → Sound g → run l g ≡ moved (sumOver drawsA l) (sumOver drawsB l) g
-unfolding run sumOver
-run-moved [] g h = unfold repeat in refl
-run-moved (c ∷ l) g h =
-    run-moved l (nextOf c g) (call-sound c g h)
-    ∙ rw (call-moves c g h)
-    (λ i.
-    record {
-      a = repeat-add advance (drawsA c) (sumOver drawsA l) (g .a) i;
-      b = repeat-add advance (drawsB c) (sumOver drawsB l) (g .b) i;
-    })
-
--- ---- Demand 2, of the calls: what a draw after any run of calls returns
+-- ---- Demand 2, of the calls
 
 -- The draw after n moves is draw n + 1.
 pub next-draw : (n : ℕ) (u : Stream) → output (advance (repeat advance n u)) ≡ drawAt u (suc n)
 unfolding drawAt repeat
 next-draw n u = ap output (repeat-add advance n 1 u ∙ rw (add-one n))
 
--- A draw from a is the next one of stream a, and so for b.
-pub draw-a-is : (l : List Call) (g : Generator) → Sound g → drawA (run l g) .draw ≡ drawAt (g .a) (suc (sumOver drawsA l))
+-- m and n draws on, a draw from a is draw m + 1 of stream a, and one from b draw n + 1 of stream b.
+pub draw-a-is : (m n : ℕ) (g : Generator) → Sound g → drawA (moved m n g) .draw ≡ drawAt (g .a) (suc m)
 unfolding drawA
-draw-a-is l g h =
-    ap (λ (d : Drawn). d .draw) (pick-true _ _ (sound-accepted (run l g) (run-sound l g h)))
-    ∙ rw (run-moved l g h) (next-draw (sumOver drawsA l) (g .a))
+draw-a-is m n g h = rw (sound-accepted (moved m n g) (moved-sound m n g h)) (next-draw m (g .a))
 
-pub draw-b-is : (l : List Call) (g : Generator) → Sound g → drawB (run l g) .draw ≡ drawAt (g .b) (suc (sumOver drawsB l))
+pub draw-b-is : (m n : ℕ) (g : Generator) → Sound g → drawB (moved m n g) .draw ≡ drawAt (g .b) (suc n)
 unfolding drawB
-draw-b-is l g h =
-    ap (λ (d : Drawn). d .draw) (pick-true _ _ (sound-accepted (run l g) (run-sound l g h)))
-    ∙ rw (run-moved l g h) (next-draw (sumOver drawsB l) (g .b))
-
--- Each bit of each draw of any run is L'Ecuyer's.
-pub draw-a-history : (l : List Call) (g : Generator) → Sound g → (i : ℕ) → i < 32
-    → top (drawA (run l g) .draw) i ≡ combined (g .a) (suc (sumOver drawsA l)) i
-draw-a-history l g h i hi = rw (draw-a-is l g h) (stream-history (g .a) (h .range-a) (sumOver drawsA l) i hi)
-
-pub draw-b-history : (l : List Call) (g : Generator) → Sound g → (i : ℕ) → i < 32
-    → top (drawB (run l g) .draw) i ≡ combined (g .b) (suc (sumOver drawsB l)) i
-draw-b-history l g h i hi = rw (draw-b-is l g h) (stream-history (g .b) (h .range-b) (sumOver drawsB l) i hi)
+draw-b-is m n g h = rw (sound-accepted (moved m n g) (moved-sound m n g h)) (next-draw n (g .b))
 
 -- The numbers of a pair are those of a draw from a and then one from b, refused or not; so their bits are L'Ecuyer's too.
 pub record OfDraws (a b : Drawn) (p : Uniforms) : Type 0 where
@@ -246,16 +198,19 @@ pub record OfDraws (a b : Drawn) (p : Uniforms) : Type 0 where
   pub v-is : p .v ≡ b .draw % 65536
   pub next-is : p .next ≡ b .next
 
+accepted-after-a : (g : Generator) → Sound g → recordNumber (withStreams g (advance (g .a)) (g .b)) ≡ 0
+unfolding repeat
+accepted-after-a g h = sound-accepted (moved 1 0 g) (moved-sound 1 0 g h)
+
 pub numbers-of-draws : (g : Generator) → InRange (g .a) → InRange (g .b)
     → OfDraws (drawA g) (drawB (drawA g .next)) (uniformsOf g)
-unfolding drawA drawB uniformsOf refusedDraw
-numbers-of-draws g ra rb = by-test (accepted g) refl
+unfolding drawA drawB uniformsOf
+numbers-of-draws g ra rb = by-test (eqb (recordNumber g) 0) refl
   where
-    by-test : (t : Bool) → accepted g ≡ t → OfDraws (drawA g) (drawB (drawA g .next)) (uniformsOf g)
+    by-test : (t : Bool) → eqb (recordNumber g) 0 ≡ t → OfDraws (drawA g) (drawB (drawA g .next)) (uniformsOf g)
     by-test true e =
-        let later : accepted (record { a = advance (g .a); b = g .b }) ≡ true
-        = unfold repeat in sound-accepted (moved 1 0 g) (moved-sound 1 0 g (sound g ra rb e)) in
-        rw (drawA, uniformsOf, e, drawB, later) (record { number-is = refl; k-is = refl; v-is = refl; next-is = refl })
+        let z : recordNumber g ≡ 0 = eqb-true _ _ e in
+        rw (drawA, uniformsOf, z, drawB, accepted-after-a g (sound g ra rb z)) (record { number-is = refl; k-is = refl; v-is = refl; next-is = refl })
     by-test false e =
         rw (drawA, uniformsOf, e, drawB, e) (record { number-is = refl; k-is = refl; v-is = refl; next-is = refl })
 
@@ -270,10 +225,17 @@ pub uniforms-accepted : (g : Generator) → Sound g
       number = 0;
       k = output (advance (g .a)) * 65536 + output (advance (g .b)) / 65536;
       v = output (advance (g .b)) % 65536;
-      next = record { a = advance (g .a); b = advance (g .b) };
+      next = withStreams g (advance (g .a)) (advance (g .b));
     }
 unfolding uniformsOf
-uniforms-accepted g h = pick-true _ _ (sound-accepted g h)
+uniforms-accepted g h = rw (uniformsOf, sound-accepted g h)
+
+-- m and n draws on, the numbers of a pair are those of draw m + 1 of stream a and draw n + 1 of stream b.
+pub numbers-are : (m n : ℕ) (g : Generator) → Sound g
+    → (uniformsOf (moved m n g) .k ≡ drawAt (g .a) (suc m) * 65536 + drawAt (g .b) (suc n) / 65536)
+    × (uniformsOf (moved m n g) .v ≡ drawAt (g .b) (suc n) % 65536)
+numbers-are m n g h =
+    rw (uniforms-accepted (moved m n g) (moved-sound m n g h), next-draw m (g .a), next-draw n (g .b)) (refl, refl)
 
 pub numbers-bounded : (g : Generator) → Sound g → (uniformsOf g .k < 2 ^ 48) × (uniformsOf g .v < 65536)
 numbers-bounded g h =

@@ -3,14 +3,13 @@
 -- x_(m+k) = x_(m+q) + x_m mod 2, and its t-th word has the bits x_(ts), x_(ts+1), .., the first one highest (in the paper, over
 -- L bits: u_n = x_(ns) 2^-1 + x_(ns+1) 2^-2 + .. + x_(ns+L-1) 2^-L). A combined generator takes the bitwise exclusive-or of
 -- several. Here L = 32 and the parameters (k, q, s) are (31, 13, 12), (29, 2, 4), (28, 3, 17).
--- Assumes nothing.
 use mathlib.Core.Path.{_≡_}
-use mathlib.Core.List.{List, [], _∷_}
+use mathlib.Core.Bool.{cond}
 use Prim.Native.Nat.{ℕ, zero, suc, _+_, _-_, _*_, _/_, _%_, _^_, _≤_, _<_}
 use lib.Dec.{ltb}
 use Rattle.streams.specs.declared.Stream.{Stream}
 use Rattle.streams.specs.declared.Generator.{Generator}
-use Rattle.streams.specs.Streams.{pick, advance, output, drawA, drawB, uniformsOf}
+use Rattle.streams.specs.Streams.{advance, output, withStreams}
 
 -- ---- Sequences of bits
 
@@ -24,7 +23,7 @@ Follows k q x = (m : ℕ) → x (m + k) ≡ (x (m + q) + x m) % 2
 
 -- The k first bits w one place on: the first bit leaves, and the recurrence gives the last.
 unfoldable pub shifted : ℕ → ℕ → (ℕ → ℕ) → ℕ → ℕ
-shifted k q w i = pick (ltb (i + 1) k) (w (i + 1)) ((w q + w 0) % 2)
+shifted k q w i = cond (ltb (i + 1) k) (w (i + 1)) ((w q + w 0) % 2)
 
 -- The sequence that starts with the k bits w and goes on by the recurrence.
 unfoldable pub sequenceFrom : ℕ → ℕ → (ℕ → ℕ) → ℕ → ℕ
@@ -48,7 +47,7 @@ pub record Params (k q s : ℕ) : Type 0 where
   pub s-room : s + q ≤ k
   pub cleared : 32 + q + s ≤ k + k
 
--- ---- Runs of draws and of calls
+-- ---- Runs of draws
 
 -- f, n times.
 unfoldable pub repeat : {A : Type 0} → (A → A) → ℕ → A → A
@@ -61,41 +60,7 @@ drawAt u t = output (repeat advance t u)
 
 -- The record with stream a moved m draws on, and stream b n.
 abbrev pub moved : ℕ → ℕ → Generator → Generator
-moved m n g = record { a = repeat advance m (g .a); b = repeat advance n (g .b) }
-
--- The calls on a record, the record that each returns and its number.
-pub data Call : Type 0 where
-  draw-a draw-b numbers : Call
-
-unfoldable pub nextOf : Call → Generator → Generator
-nextOf draw-a g = drawA g .next
-nextOf draw-b g = drawB g .next
-nextOf numbers g = uniformsOf g .next
-
-unfoldable pub numberOf : Call → Generator → ℕ
-numberOf draw-a g = drawA g .number
-numberOf draw-b g = drawB g .number
-numberOf numbers g = uniformsOf g .number
-
--- The record after a run of calls, each passed what the one before returned.
-unfoldable pub run : List Call → Generator → Generator
-run [] g = g
-run (c ∷ l) g = run l (nextOf c g)
-
--- How often a call, and a run of calls, draws from stream a, and from stream b.
-unfoldable pub drawsA : Call → ℕ
-drawsA draw-a = 1
-drawsA draw-b = 0
-drawsA numbers = 1
-
-unfoldable pub drawsB : Call → ℕ
-drawsB draw-a = 0
-drawsB draw-b = 1
-drawsB numbers = 1
-
-unfoldable pub sumOver : (Call → ℕ) → List Call → ℕ
-sumOver f [] = 0
-sumOver f (c ∷ l) = f c + sumOver f l
+moved m n g = withStreams g (repeat advance m (g .a)) (repeat advance n (g .b))
 
 -- ---- Registers of 32 bits, and their minima
 

@@ -1,10 +1,10 @@
 -- The two streams: registers, records, calls and refusals (document 01, "The two streams", "A job and its listing").
--- A register is a number below 2 ^ 32, and every call gives 0 where it is accepted and 1 where it is refused.
--- Assumes nothing.
+-- A register is a number below 2 ^ 32.
 use Prim.Native.Nat.{ℕ, _+_, _-_, _*_, _/_, _%_, _^_}
-use mathlib.Core.Bool.{Bool, true, false, _&&_}
+use mathlib.Core.Bool.{Bool, cond, _&&_}
+use mathlib.Core.List.{List, [], _∷_}
 use lib.Bits.{bitAnd, bitXor}
-use lib.Dec.{leb}
+use lib.Dec.{leb, eqb}
 use Rattle.streams.specs.declared.Stream.{Stream}
 use Rattle.streams.specs.declared.Generator.{Generator}
 use Rattle.streams.specs.declared.Seeded.{Seeded}
@@ -25,51 +25,69 @@ advance u = record { s0 = step 31 13 12 (u .s0); s1 = step 29 2 4 (u .s1); s2 = 
 unfoldable pub output : Stream → ℕ
 output u = bitXor (bitXor (u .s0) (u .s1)) (u .s2)
 
--- ---- Which record is accepted ("s0 at least 2, s1 at least 8 and s2 at least 16 in both")
+-- ---- Records
 
+-- A record as seeding makes it.
+abbrev pub fresh : Stream → Stream → Generator
+fresh a b = record { a = a; b = b }
+
+-- The same record with other streams.
+abbrev pub withStreams : Generator → Stream → Stream → Generator
+withStreams g a b = record { a = a; b = b }
+
+-- "s0 at least 2, s1 at least 8 and s2 at least 16"
 unfoldable pub fit : Stream → Bool
 fit u = leb 2 (u .s0) && (leb 8 (u .s1) && leb 16 (u .s2))
 
-unfoldable pub accepted : Generator → Bool
-accepted g = fit (g .a) && fit (g .b)
+-- A record's number: 0, or why every call on it is refused ("a register below its minimum in either stream").
+unfoldable pub recordNumber : Generator → ℕ
+recordNumber g = cond (fit (g .a) && fit (g .b)) 0 1
 
-abbrev pub pick : {A : Type 0} → Bool → A → A → A
-pick true yes-value no-value = yes-value
-pick false yes-value no-value = no-value
+-- ---- The calls, refusals included
 
--- ---- The calls, refusals included (the table, number 1)
+-- The number of a call: the first of its causes, each 0 where it does not apply, in the order that they are tested.
+abbrev pub firstCause : List ℕ → ℕ
+firstCause [] = 0
+firstCause (cause ∷ causes) = cond (eqb cause 0) (firstCause causes) cause
+
+-- What a call with that number returns: the first where it is accepted (0), else the second.
+abbrev pub ifAccepted : {A : Type 0} → ℕ → A → A → A
+ifAccepted number yes-value no-value = cond (eqb number 0) yes-value no-value
 
 -- Seeding from six numbers: the record, or six zeros.
 unfoldable pub seedOf : ℕ → ℕ → ℕ → ℕ → ℕ → ℕ → Seeded
 seedOf a0 a1 a2 b0 b1 b2 =
-    let g : Generator = record { a = record { s0 = a0; s1 = a1; s2 = a2 }; b = record { s0 = b0; s1 = b1; s2 = b2 } } in
+    let g : Generator = fresh (record { s0 = a0; s1 = a1; s2 = a2 }) (record { s0 = b0; s1 = b1; s2 = b2 }) in
     let none : Stream = record { s0 = 0; s1 = 0; s2 = 0 } in
-    pick (accepted g) (record { number = 0; next = g }) (record { number = 1; next = record { a = none; b = none } })
+    record { number = recordNumber g; next = ifAccepted (recordNumber g) g (fresh none none) }
 
 -- A draw moves its own stream alone; refused, it gives 0 and the record passed in.
-unfoldable pub refusedDraw : Generator → Drawn
-refusedDraw g = record { number = 1; draw = 0; next = g }
-
 unfoldable pub drawA : Generator → Drawn
 drawA g =
     let a′ : Stream = advance (g .a) in
-    pick (accepted g) (record { number = 0; draw = output a′; next = record { a = a′; b = g .b } }) (refusedDraw g)
+    record {
+      number = recordNumber g;
+      draw = ifAccepted (recordNumber g) (output a′) 0;
+      next = ifAccepted (recordNumber g) (withStreams g a′ (g .b)) g;
+    }
 
 unfoldable pub drawB : Generator → Drawn
 drawB g =
     let b′ : Stream = advance (g .b) in
-    pick (accepted g) (record { number = 0; draw = output b′; next = record { a = g .a; b = b′ } }) (refusedDraw g)
+    record {
+      number = recordNumber g;
+      draw = ifAccepted (recordNumber g) (output b′) 0;
+      next = ifAccepted (recordNumber g) (withStreams g (g .a) b′) g;
+    }
 
 -- The two numbers of a pair, one draw from a and then one from b: k is a × 65536 + floor(b / 65536), v is b mod 65536.
 unfoldable pub uniformsOf : Generator → Uniforms
 uniformsOf g =
     let a′ : Stream = advance (g .a) in
     let b′ : Stream = advance (g .b) in
-    pick (accepted g)
-    (record {
-      number = 0;
-      k = output a′ * 65536 + output b′ / 65536;
-      v = output b′ % 65536;
-      next = record { a = a′; b = b′ };
-    })
-    (record { number = 1; k = 0; v = 0; next = g })
+    record {
+      number = recordNumber g;
+      k = ifAccepted (recordNumber g) (output a′ * 65536 + output b′ / 65536) 0;
+      v = ifAccepted (recordNumber g) (output b′ % 65536) 0;
+      next = ifAccepted (recordNumber g) (withStreams g a′ b′) g;
+    }

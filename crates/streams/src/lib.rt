@@ -1,11 +1,13 @@
 // The two Tausworthe streams of L'Ecuyer (1996): seeding, single draws, and the two numbers of a pair.
-// A generator record goes in by value and comes back as it then is, beside the call's number: 0 accepted, 1 refused.
+// A generator record goes in by value and comes back as it then is, beside the call's number, 0 where it is accepted.
 ghost use mathlib.Core.Path.{_≡_};
 ghost use Rattle.streams.specs.Streams.{
   advance,
   output,
   fit,
-  accepted,
+  fresh,
+  withStreams,
+  recordNumber,
   seedOf,
   drawA,
   drawB,
@@ -81,16 +83,36 @@ impl Stream {
 }
 
 impl Generator {
-    // Whether both streams are fit: a call on this record is accepted.
-    pub fn is_accepted(self) -> bool
-        ensures { λ r. ⌜ r ≡ accepted self ⌝ }
+    // A record as seeding makes it.
+    fn fresh_record(a: Stream, b: Stream) -> Generator
+        ensures { λ r. ⌜ r ≡ fresh a b ⌝ }
+    {
+        Generator { a, b }
+    }
+
+    // The same record with other streams.
+    fn with_streams(self, a: Stream, b: Stream) -> Generator
+        ensures { λ r. ⌜ r ≡ withStreams self a b ⌝ }
+    {
+        let mut next = self;
+        next.a = a;
+        next.b = b;
+        next
+    }
+
+    // The record's number: 0, or why a call on it is refused.
+    pub fn record_number(self) -> u32
+        ensures { λ r. ⌜ r ≡ recordNumber self ⌝ }
     {
         let a = self.a;
         let b = self.b;
-        if a.is_fit() {
-            return b.is_fit();
+        if !a.is_fit() {
+            return 1;
         }
-        false
+        if !b.is_fit() {
+            return 1;
+        }
+        0
     }
 
     // A record from six numbers.
@@ -107,18 +129,19 @@ impl Generator {
             s1: b1,
             s2: b2,
         };
-        let g = Generator { a, b };
-        if g.is_accepted() {
-            return Seeded { number: 0, next: g };
+        let g = Generator::fresh_record(a, b);
+        let number = g.record_number();
+        if number == 0 {
+            return Seeded { number, next: g };
         }
         let none = Stream {
             s0: 0,
             s1: 0,
             s2: 0,
         };
-        let zeros = Generator { a: none, b: none };
+        let zeros = Generator::fresh_record(none, none);
         Seeded {
-            number: 1,
+            number,
             next: zeros,
         }
     }
@@ -127,20 +150,21 @@ impl Generator {
     pub fn draw_a(self) -> Drawn
         ensures { λ r. ⌜ r ≡ drawA self ⌝ }
     {
-        if self.is_accepted() {
-            let moved = self.a.advanced();
-            let other = self.b;
-            let next = Generator { a: moved, b: other };
+        let number = self.record_number();
+        if number != 0 {
             return Drawn {
-                number: 0,
-                draw: moved.word(),
-                next,
+                number,
+                draw: 0,
+                next: self,
             };
         }
+        let moved = self.a.advanced();
+        let other = self.b;
+        let next = self.with_streams(moved, other);
         Drawn {
-            number: 1,
-            draw: 0,
-            next: self,
+            number,
+            draw: moved.word(),
+            next,
         }
     }
 
@@ -148,20 +172,21 @@ impl Generator {
     pub fn draw_b(self) -> Drawn
         ensures { λ r. ⌜ r ≡ drawB self ⌝ }
     {
-        if self.is_accepted() {
-            let other = self.a;
-            let moved = self.b.advanced();
-            let next = Generator { a: other, b: moved };
+        let number = self.record_number();
+        if number != 0 {
             return Drawn {
-                number: 0,
-                draw: moved.word(),
-                next,
+                number,
+                draw: 0,
+                next: self,
             };
         }
+        let other = self.a;
+        let moved = self.b.advanced();
+        let next = self.with_streams(other, moved);
         Drawn {
-            number: 1,
-            draw: 0,
-            next: self,
+            number,
+            draw: moved.word(),
+            next,
         }
     }
 
@@ -169,25 +194,25 @@ impl Generator {
     pub fn uniforms(self) -> Uniforms
         ensures { λ r. ⌜ r ≡ uniformsOf self ⌝ }
     {
-        if self.is_accepted() {
-            let a = self.a.advanced();
-            let b = self.b.advanced();
-            let next = Generator { a, b };
-            let high = a.word() as u64;
-            let low = b.word();
-            let k = high * 65536 + (low / 65536) as u64;
+        let number = self.record_number();
+        if number != 0 {
             return Uniforms {
-                number: 0,
-                k,
-                v: low % 65536,
-                next,
+                number,
+                k: 0,
+                v: 0,
+                next: self,
             };
         }
+        let a = self.a.advanced();
+        let b = self.b.advanced();
+        let next = self.with_streams(a, b);
+        let high = a.word() as u64;
+        let low = b.word();
         Uniforms {
-            number: 1,
-            k: 0,
-            v: 0,
-            next: self,
+            number,
+            k: high * 65536 + (low / 65536) as u64,
+            v: low % 65536,
+            next,
         }
     }
 }

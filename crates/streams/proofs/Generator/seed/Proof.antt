@@ -1,19 +1,37 @@
--- `Generator::seed` is `seedOf`: each return rewrites with the test of the record.
+-- `Generator::seed` is `seedOf`: each return rewrites with the record's number.
 use borrow.Author.Needs.{needs}
+use borrow.Author.Tests.{ne-eqb}
 use Rattle.streams.specs.Streams.{seedOf}
 use Rattle.streams.proofs.Generator.seed.Statement.{statement}
 use Rattle.streams.proofs.Generator.seed.Tie as tie
 
-is-accepted-requires : tie.Need-is-accepted-requires
-is-accepted-requires c κs = search needs
+fresh-record-requires : tie.Need-fresh-record-requires
+fresh-record-requires c κs = search needs
+
+record-number-requires : tie.Need-record-number-requires
+record-number-requires c κs = search needs
 
 returns : tie.Need-returns
 unfolding seedOf
-returns c = rw (← c .before .is-accepted .ensures, c .if1 .taken)
+returns c =
+    let number-is = rw (c .before .before .fresh-record .ensures) at (c .before .record-number .ensures) in
+    rw (← number-is, c .if1 .taken) (cc)
+
+fresh-record-requires-2 : tie.Need-fresh-record-requires-2
+fresh-record-requires-2 c κs = search needs
 
 returns-2 : tie.Need-returns-2
 unfolding seedOf
-returns-2 c = rw (← c .before .is-accepted .ensures, c .if1 .left)
+returns-2 c =
+    let number-is = rw (c .before .before .before .fresh-record .ensures) at (c .before .before .record-number .ensures) in
+    rw (← number-is, ne-eqb _ _ (c .before .if1 .left)) (cc)
 
 pub seed-spec : {M : Type 1} → statement M
-seed-spec = tie.close (tie.spec is-accepted-requires returns returns-2)
+seed-spec =
+    tie.close
+    (tie.spec
+    fresh-record-requires
+    record-number-requires
+    returns
+    fresh-record-requires-2
+    returns-2)

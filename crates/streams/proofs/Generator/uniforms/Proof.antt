@@ -1,17 +1,25 @@
--- `Generator::uniforms` is `uniformsOf`: each return rewrites with the test of the record.
+-- `Generator::uniforms` is `uniformsOf`: each return rewrites with the record's number.
 use borrow.Author.Needs.{needs}
+use borrow.Author.Tests.{ne-eqb}
 use Rattle.streams.specs.Streams.{uniformsOf}
 use Rattle.streams.proofs.Generator.uniforms.Statement.{statement}
 use Rattle.streams.proofs.Generator.uniforms.Tie as tie
 
-is-accepted-requires : tie.Need-is-accepted-requires
-is-accepted-requires c κs = search needs
+record-number-requires : tie.Need-record-number-requires
+record-number-requires c κs = search needs
+
+returns : tie.Need-returns
+unfolding uniformsOf
+returns c = rw (← c .before .record-number .ensures, ne-eqb _ _ (c .if1 .taken))
 
 advanced-requires : tie.Need-advanced-requires
 advanced-requires c κs = search needs
 
 advanced-requires-2 : tie.Need-advanced-requires-2
 advanced-requires-2 c κs = search needs
+
+with-streams-requires : tie.Need-with-streams-requires
+with-streams-requires c κs = search needs
 
 word-requires : tie.Need-word-requires
 word-requires c κs = search needs
@@ -22,37 +30,32 @@ cast-high c = search needs
 word-requires-2 : tie.Need-word-requires-2
 word-requires-2 c κs = search needs
 
-mul-k : tie.Need-mul-k
-mul-k c = search needs
+mul-t10 : tie.Need-mul-t10
+mul-t10 c = search needs
 
-cast-k : tie.Need-cast-k
-cast-k c = search needs
+cast-t11 : tie.Need-cast-t11
+cast-t11 c = search needs
 
-add-k : tie.Need-add-k
-add-k c = search needs
-
-returns : tie.Need-returns
-unfolding uniformsOf
-returns c =
-    let test = c .before .before .before .before .before .is-accepted .ensures in
-    rw (← test, c .before .before .before .before .if1 .taken) (cc)
+add-t12 : tie.Need-add-t12
+add-t12 c = search needs
 
 returns-2 : tie.Need-returns-2
 unfolding uniformsOf
-returns-2 c = rw (← c .before .is-accepted .ensures, c .if1 .left)
+returns-2 c = rw (← c .before .before .before .before .before .before .record-number .ensures, c .before .before .before .before .before .if1 .left) (cc)
 
 pub uniforms-spec : {M : Type 1} → statement M
 uniforms-spec =
     tie.close
     (tie.spec
-    is-accepted-requires
+    record-number-requires
+    returns
     advanced-requires
     advanced-requires-2
+    with-streams-requires
     word-requires
     cast-high
     word-requires-2
-    mul-k
-    cast-k
-    add-k
-    returns
+    mul-t10
+    cast-t11
+    add-t12
     returns-2)
