@@ -1,5 +1,4 @@
 -- Fractions that are not negative. Document 01, 'What "exact" means': "compared in fractions" (demand 3).
--- Assumes nothing.
 use Prim.Native.Nat.{ℕ, zero, _+_, _*_, _^_, _≤_, _<_}
 use native.Mathlib.Nat.{mul-pos}
 use native.Mathlib.Omega.{arith}

@@ -1,19 +1,6 @@
+-- What "exact" means (document 01), in fractions. The laws of these definitions are in proofs/.
 pub mod Fraction
-pub mod FractionLaws
 pub mod Series
-pub mod SeriesLaws
-pub mod SeriesSums
-pub mod LogarithmLaws
 pub mod Radius
-pub mod RadiusLaws
 pub mod Rotation
-pub mod RootLaws
-pub mod RotationLaws
-pub mod RotationWidth
-pub mod RotationBits
-pub mod Limit
-pub mod RotationLimit
-pub mod RotationLength
 pub mod Pair
-pub mod MemberLaws
-pub mod PairLaws

@@ -1,5 +1,4 @@
 -- The exact radius of a first number m over 2 ^ b. Document 01, 'What "exact" means'.
--- Assumes nothing.
 use Prim.Native.Nat.{ℕ, zero, _^_, _<_, max}
 use native.Mathlib.Omega.{arith}
 use Rattle.exact.specs.Fraction.{Fraction, square, halved}

@@ -1,5 +1,4 @@
 -- Rotations at n fraction bits, every root rounded outward. Document 01, 'What "exact" means'.
--- Assumes nothing.
 use Prim.Native.Nat.{ℕ, zero, suc, _+_, _-_, _*_, _/_, _%_, _^_, min}
 use mathlib.Core.Bool.{Bool, true, false}
 use lib.Dec.{leb}

@@ -1,5 +1,4 @@
 -- The exponential series, and the logarithm as a cut. Document 01, 'What "exact" means'.
--- Assumes nothing.
 use Prim.Native.Nat.{ℕ, zero, suc, _*_, _^_, _<_}
 use native.Mathlib.Nat.{mul-pos, one-le-pow, zero-lt-suc}
 use native.Mathlib.Omega.{arith}

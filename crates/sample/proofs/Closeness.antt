@@ -1,5 +1,4 @@
 -- Demand 3: each sample is less than nine sixteenths of a unit from its member of the exact pair.
--- Assumes nothing.
 use mathlib.Core.Path.{_≡_}
 use Prim.Native.Nat.{ℕ, suc, _+_, _-_, _*_, _^_, _≤_, _<_, max}
 use native.Mathlib.Nat.{le-refl, le-of-suc-le-suc}

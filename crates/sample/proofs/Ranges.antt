@@ -1,5 +1,4 @@
 -- The ranges of the radius and of the rotation at the tables, from the tables' bounds.
--- Assumes nothing.
 use mathlib.Core.Path.{refl}
 use mathlib.Core.List.{List}
 use Prim.Native.Nat.{ℕ, _*_, _^_, _≤_, _<_}
@@ -8,8 +7,8 @@ use native.Mathlib.Omega.{arith}
 use Rattle.tables.specs.Tables.{entryOf, cosCoarse, sinCoarse, cosFine, sinFine, lnTwo}
 use Rattle.tables.proofs.Bounds.{bounds}
 use Rattle.sample.specs.Steps.{logarithm, radius, coarseAngle, fineAngle, sine, cosine}
-use Rattle.sample.specs.StepLaws.{logarithm-range, whole-root}
-use Rattle.sample.specs.Parts.{Rotations, Loaded}
+use Rattle.sample.proofs.StepLaws.{logarithm-range, whole-root}
+use Rattle.sample.specs.Private.{Rotations, Loaded}
 
 pub ln-two-range : lnTwo < 2 ^ 40
 ln-two-range = omega (arith, bounds .ln-two)

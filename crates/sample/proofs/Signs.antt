@@ -1,5 +1,4 @@
 -- A size with its sign apart, as a signed number of the machine.
--- Assumes nothing.
 use mathlib.Core.Path.{_≡_, refl}
 use mathlib.Core.Bool.{Bool, true, false}
 use Prim.Native.Nat.{ℕ, zero, suc, _^_, _≤_, _<_}
@@ -9,8 +8,8 @@ use mir.Syntax.{Width}
 use mir.Val.{SFits, hbits, toZ, ofZ}
 use mir.Facts.{toZ-pos, toZ-ofZ}
 use Rattle.sample.specs.Steps.{size, rounded}
-use Rattle.sample.specs.StepLaws.{rounded-neg}
-use Rattle.sample.specs.Parts.{withSign}
+use Rattle.sample.proofs.StepLaws.{rounded-neg}
+use Rattle.sample.specs.Private.{withSign}
 
 -- the sample of a number with its sign apart is the size with that sign
 pub rounded-apart : (f F : ℕ) → f ≤ 49 → (negative : Bool) (g : ℕ) →

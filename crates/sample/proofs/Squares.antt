@@ -1,9 +1,8 @@
 -- Squares and quotients of plain numbers, for the root.
--- Assumes nothing.
 use Prim.Native.Nat.{ℕ, zero, suc, _*_, _/_, _^_, _≤_, _<_}
 use native.Mathlib.Nat.{zero-lt-suc, div-lt-iff-lt-mul}
 use native.Mathlib.Omega.{arith}
-use Rattle.exact.specs.RootLaws.{lt-of-square-lt}
+use Rattle.exact.proofs.RootLaws.{lt-of-square-lt}
 
 -- a number whose square is above another is above 0
 pub square-pos : (x r : ℕ) → x < r * r → 0 < r

@@ -1,5 +1,4 @@
 -- The theorems of specs/Theorems.antt.
--- Assumes nothing.
 use mathlib.Core.Path.{_≡_, refl, sym, ap, ap₂, _∙_}
 use mathlib.Core.Bool.{Bool, true, false}
 use Prim.Native.Nat.{ℕ, zero, suc, _+_, _/_, _%_, _^_, _≤_, _<_, zero-le}
@@ -12,7 +11,7 @@ use lib.IntN.{ℤ, pos, negsuc, negℤ, natAbs, negℤ-negℤ}
 use borrow.Author.Tests.{le-ltb}
 use Rattle.exact.specs.Pair.{turn}
 use Rattle.sample.specs.Steps.{pick, rotation, size, rounded}
-use Rattle.sample.specs.StepLaws.{rounded-neg, size-range}
+use Rattle.sample.proofs.StepLaws.{rounded-neg, size-range}
 use Rattle.sample.specs.Sample.{radiusOf, rotationOf, firstOf, secondOf, refused, samplesOf}
 use Rattle.sample.specs.Theorems.{opposite, negated, Theorems}
 use Rattle.sample.specs.Readings.{Reading, readings, readings-hold}

@@ -1,8 +1,6 @@
--- The whole-number steps from k and v to two samples, their laws, and what the calls return.
+-- The whole-number steps from k and v to two samples, and what the calls return.
 pub mod Steps
-pub mod StepLaws
 pub mod Sample
-pub mod FillLaws
-pub mod Parts
+pub mod Private
 pub mod Readings
 pub mod Theorems

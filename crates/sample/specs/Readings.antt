@@ -1,5 +1,4 @@
 -- Readings 1 to 10 of document 01, 'Twelve readings to check': (k, v) to samples. (11 and 12 are of the streams.)
--- Assumes nothing.
 use mathlib.Core.Path.{_≡_, refl}
 use mathlib.Core.List.{List, [], _∷_, map}
 use Prim.Native.Nat.{ℕ, _-_, _^_}

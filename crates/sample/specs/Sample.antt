@@ -1,6 +1,5 @@
 -- What the calls return (document 01, 'Radius', 'Angle and sample' and the table of refusals): the steps at the tables, at 48
 -- bits and 11 fraction bits.
--- Assumes nothing.
 use mathlib.Core.List.{List, [], _∷_}
 use Prim.Native.Nat.{ℕ, _/_, _%_, _^_}
 use native.Mathlib.Omega.{arith}
@@ -46,6 +45,11 @@ firstAt z = firstOf (z / 65536) (z % 65536)
 
 abbrev pub secondAt : ℕ → ℤ
 secondAt z = secondOf (z / 65536) (z % 65536)
+
+-- The samples of some z, first and second alternating.
+unfoldable pub samplesAt : List ℕ → List ℤ
+samplesAt [] = []
+samplesAt (z ∷ zs) = firstAt z ∷ secondAt z ∷ samplesAt zs
 
 -- Each z has its two samples, as far as there is room for both; every other element stays.
 unfoldable pub filled : List ℕ → List ℤ → List ℤ

@@ -1,7 +1,6 @@
 -- The whole-number steps from k and v to two samples (document 01, 'Radius' and 'Angle and sample'), in the document's order.
 -- The radius is over a numerator m and a width b (48 is used), the rounding over a number of fraction bits f (11 is used).
 -- A, B, C, D, c, s are any tables, each a function of the document's own index, and K is any number.
--- Assumes nothing.
 use mathlib.Core.Bool.{Bool, true, false}
 use Prim.Native.Nat.{ℕ, _+_, _-_, _*_, _/_, _%_, _^_, max}
 use lib.Count.{leadingZeros}

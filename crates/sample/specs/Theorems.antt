@@ -1,5 +1,4 @@
 -- What a buyer can rely on beyond the steps: proofs/Theorems.antt proves it.
--- Assumes nothing.
 use mathlib.Core.Path.{_≡_}
 use Prim.Native.Nat.{ℕ, _+_, _%_, _≤_, _<_}
 use lib.IntN.{pos, negℤ, natAbs}

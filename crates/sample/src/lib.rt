@@ -4,7 +4,7 @@ ghost use Prim.Native.Nat.{_+_, _-_, _*_, _/_, _^_, _≤_, _<_, min};
 ghost use Rattle.tables.specs.Tables.{entryOf};
 ghost use Rattle.sample.specs.Steps.{pick, numerator, topBit, mantissa, coarse, fine, correction, logarithm};
 ghost use Rattle.sample.specs.Steps.{wholeRoot, radius, rounded};
-ghost use Rattle.sample.specs.Parts.{Rotations, Loaded, AngleIn, TurnedBy, withSign};
+ghost use Rattle.sample.specs.Private.{Rotations, Loaded, AngleIn, TurnedBy, withSign};
 ghost use Rattle.sample.specs.Sample.{firstAt, secondAt, samplesOf, nineSixteenths, filled};
 ghost use Rattle.exact.specs.Pair.{Close};
 

@@ -1,7 +1,7 @@
--- A rule of a table, proved at all of its entries by one test that antt computes, one entry after the other.
--- Assumes nothing.
-use mathlib.Core.Path.{_≡_}
-use mathlib.Core.Bool.{Bool, true, false}
+-- The entries of a table, and a rule of a table, proved at all of its entries by one test that antt computes, one entry after the
+-- other.
+use mathlib.Core.Path.{_≡_, refl, _∙_}
+use mathlib.Core.Bool.{Bool, true, false, _&&_}
 use mathlib.Core.Logic.{_⊎_, inl, inr}
 use mathlib.Core.List.{List, [], _∷_}
 use Prim.Native.Nat.{ℕ, zero, suc, _+_, _-_, _<_, _≤_}
@@ -9,34 +9,46 @@ use native.Mathlib.Nat.{add-zero, add-suc, suc-add, add-sub-of-le, le-of-suc-le-
 use native.Mathlib.Decide.{decLe, decLt}
 use native.Mathlib.Omega.{arith}
 use lib.Dec.{T, leb, leb→le}
-use lib.ListN.{length, getD}
-use Rattle.tables.specs.Tables.{entryOf, entry-below, entry-at, entry-past}
+use lib.ListN.{length, getD, List·getD-eq-default}
+use store.Enc.{and-l, and-r}
+use borrow.Author.Tests.{le-leb, lt-leb}
+use Rattle.tables.specs.Values.{logCoarseList, logFineList, cosCoarseList, sinCoarseList, cosFineList, sinFineList}
+use Rattle.tables.specs.Tables.{entryOf, logCoarse, logFine, cosCoarse, sinCoarse, cosFine, sinFine}
+use Rattle.tables.specs.Tables.{logCoarse-is, logFine-is, cosCoarse-is, sinCoarse-is, cosFine-is, sinFine-is}
 
-abbrev pub both : Bool → Bool → Bool
-both true b = b
-both false b = false
+pub entry-below : (table : List ℕ) (first index : ℕ) → index < first → entryOf table first index ≡ 0
+unfolding entryOf
+entry-below table first index h = rw (lt-leb first index h)
 
-pub both-left : (a b : Bool) → T (both a b) → T a
-both-left true b t = tt
-both-left false b t = t
+pub entry-at : (table : List ℕ) (first index : ℕ) → first ≤ index → entryOf table first index ≡ getD table (index - first) 0
+unfolding entryOf
+entry-at table first index h = rw (le-leb first index h)
 
-pub both-right : (a b : Bool) → T (both a b) → T b
-both-right true b t = t
-both-right false b t = absurd t
+pub entry-past : (table : List ℕ) (first index : ℕ) → first + length table ≤ index → entryOf table first index ≡ 0
+entry-past table first index h =
+    entry-at table first index (omega arith) ∙ List·getD-eq-default table 0 (omega arith)
+
+-- How many entries each table has.
+pub lengths :
+    (length logCoarse ≡ 256) × (length logFine ≡ 256) ×
+    (length cosCoarse ≡ 128) × (length sinCoarse ≡ 128) × (length cosFine ≡ 128) × (length sinFine ≡ 128)
+unfolding logCoarseList logFineList cosCoarseList sinCoarseList cosFineList sinFineList
+lengths =
+    rw (logCoarse-is, logFine-is, cosCoarse-is, sinCoarse-is, cosFine-is, sinFine-is) (refl, refl, refl, refl, refl, refl)
 
 -- the test f passes at each entry of the table and its index, counted from first
 abbrev pub every : (ℕ → ℕ → Bool) → ℕ → List ℕ → Bool
 every f first [] = true
-every f first (x ∷ table) = both (f first x) (every f (suc first) table)
+every f first (x ∷ table) = f first x && every f (suc first) table
 
 from :
     (f : ℕ → ℕ → Bool) (table : List ℕ) (first : ℕ) → T (every f first table) →
     (k : ℕ) → k < length table → T (f (first + k) (getD table k 0))
 from f [] first t k h = absurd (not-suc-le-zero h)
-from f (x ∷ table) first t zero h = rw add-zero (both-left (f first x) (every f (suc first) table) t)
+from f (x ∷ table) first t zero h = rw add-zero (and-l (f first x) (every f (suc first) table) t)
 from f (x ∷ table) first t (suc k) h =
     rw (add-suc, ← suc-add first k)
-    (from f table (suc first) (both-right (f first x) (every f (suc first) table) t) k (le-of-suc-le-suc h))
+    (from f table (suc first) (and-r (f first x) (every f (suc first) table) t) k (le-of-suc-le-suc h))
 
 -- the test at an entry, by the table's own index
 pub at :

@@ -1,7 +1,7 @@
 pub mod Entries
 pub mod Bounds
-pub mod Rotations
 pub mod NearestLogarithms
+pub mod NearestRotations
 pub mod Angles
 pub mod Points
 pub mod Promise

@@ -1,8 +1,7 @@
 -- The logarithm tables and ln 2 hold the nearest whole numbers: one test over any index and scale, which antt computes with 20 terms
 -- of the series, and one lemma that carries it to each entry.
--- Assumes nothing.
 use mathlib.Core.Path.{_≡_, refl}
-use mathlib.Core.Bool.{Bool}
+use mathlib.Core.Bool.{Bool, _&&_}
 use mathlib.Core.Logic.{_⊎_, inl, inr}
 use mathlib.Core.List.{List}
 use Prim.Native.Nat.{ℕ, zero, suc, _+_, _*_, _-_, _^_, _<_, _≤_}
@@ -11,21 +10,22 @@ use native.Mathlib.Decide.{decLt}
 use native.Mathlib.Omega.{arith}
 use lib.Dec.{T, leb, leb→le}
 use lib.ListN.{length}
+use store.Enc.{and-l, and-r}
 use Rattle.exact.specs.Fraction.{Fraction, whole, dyadic, _+ᶠ_, _≤ᶠ_, _<ᶠ_}
-use Rattle.exact.specs.FractionLaws.{≤ᶠ-refl, <ᶠ-≤ᶠ-trans, ≤ᶠ-<ᶠ-trans}
+use Rattle.exact.proofs.FractionLaws.{≤ᶠ-refl, <ᶠ-≤ᶠ-trans, ≤ᶠ-<ᶠ-trans}
 use Rattle.exact.specs.Series.{AtMostLn, AtLeastLn, partialSum, term}
-use Rattle.exact.specs.SeriesLaws.{scaledTop, scaledBottom}
-use Rattle.exact.specs.LogarithmLaws.{ln-at-least-mono, ln-at-least-scaled, tail}
+use Rattle.exact.proofs.SeriesLaws.{scaledTop, scaledBottom}
+use Rattle.exact.proofs.LogarithmLaws.{ln-at-least-mono, ln-at-least-scaled, tail}
 use Rattle.tables.specs.Values.{logCoarseList, logFineList, lnTwoValue}
-use Rattle.tables.specs.Tables.{entryOf, lengths, logCoarse, logFine, lnTwo, logCoarse-is, logFine-is, lnTwo-is}
+use Rattle.tables.specs.Tables.{entryOf, logCoarse, logFine, lnTwo, logCoarse-is, logFine-is, lnTwo-is}
 use Rattle.tables.specs.Promise.{NearestLn, lower, upper}
-use Rattle.tables.proofs.Entries.{both, both-left, both-right, every, at}
+use Rattle.tables.proofs.Entries.{lengths, every, at}
 
 -- y is at most ln z: n terms and the last once more are at most z, and from there on the terms at least halve
 most : ℕ → Fraction → Fraction → Bool
 most n y z =
-    both (leb (2 * y .top) (suc n * y .bottom))
-    (leb ((scaledTop (y .top) (y .bottom) n + y .top ^ n) * z .bottom) (z .top * scaledBottom (y .bottom) n))
+    leb (2 * y .top) (suc n * y .bottom)
+    && leb ((scaledTop (y .top) (y .bottom) n + y .top ^ n) * z .bottom) (z .top * scaledBottom (y .bottom) n)
 
 -- y is at least ln z: n terms are at least z
 least : ℕ → Fraction → Fraction → Bool
@@ -34,39 +34,39 @@ least n y z = leb (z .top * scaledBottom (y .bottom) n) (scaledTop (y .top) (y .
 most-is : (n : ℕ) (y z : Fraction) → T (most n y z) → AtMostLn y z
 unfolding most
 most-is n y z t =
-    tail y z n (leb→le _ _ (both-left (leb (2 * y .top) (suc n * y .bottom)) _ t))
-    (leb→le _ _ (both-right (leb (2 * y .top) (suc n * y .bottom)) _ t))
+    tail y z n (leb→le _ _ (and-l (leb (2 * y .top) (suc n * y .bottom)) _ t))
+    (leb→le _ _ (and-r (leb (2 * y .top) (suc n * y .bottom)) _ t))
 
 least-is : (n : ℕ) (y z : Fraction) → T (least n y z) → AtLeastLn y z
 unfolding least
 least-is n y z t = ln-at-least-scaled y z n (leb→le _ _ t)
 
 -- the test of an entry x for the logarithm of z, at f fraction bits
-nearest : ℕ → ℕ → Fraction → ℕ → Bool
-nearest n f z x = both (most n (lower f x) z) (least n (upper f x) z)
+isNearestLn : ℕ → ℕ → Fraction → ℕ → Bool
+isNearestLn n f z x = most n (lower f x) z && least n (upper f x) z
 
-nearest-is : (n f : ℕ) (z : Fraction) (x : ℕ) → T (nearest n f z x) → NearestLn f z x
-unfolding nearest
-nearest-is n f z x t = record {
-  low = most-is n _ z (both-left (most n (lower f x) z) _ t);
-  high = least-is n _ z (both-right (most n (lower f x) z) _ t);
+nearest-ln : (n f : ℕ) (z : Fraction) (x : ℕ) → T (isNearestLn n f z x) → NearestLn f z x
+unfolding isNearestLn
+nearest-ln n f z x t = record {
+  low = most-is n _ z (and-l (most n (lower f x) z) _ t);
+  high = least-is n _ z (and-r (most n (lower f x) z) _ t);
 }
 
 test : ℕ → ℕ → (ℕ → Fraction) → ℕ → List ℕ → Bool
-test n f number first table = every (λ i x. nearest n f (number i) x) first table
+test n f number first table = every (λ i x. isNearestLn n f (number i) x) first table
 
 carried :
     (n f : ℕ) (number : ℕ → Fraction) (first : ℕ) (table : List ℕ) → T (test n f number first table) →
     (i : ℕ) → first ≤ i → i < first + length table → NearestLn f (number i) (entryOf table first i)
 unfolding test
 carried n f number first table t i low high =
-    nearest-is n f (number i) _ (at (λ i x. nearest n f (number i) x) first table t i low high)
+    nearest-ln n f (number i) _ (at (λ i x. isNearestLn n f (number i) x) first table t i low high)
 
 tested :
     T (test 20 40 (λ h. dyadic 8 h) 256 logCoarse) ×
     T (test 20 40 (λ i. dyadic 16 (65536 + i)) 0 logFine) ×
-    T (nearest 20 40 (whole 2) lnTwo)
-unfolding logCoarseList logFineList lnTwoValue test nearest most least scaledTop scaledBottom
+    T (isNearestLn 20 40 (whole 2) lnTwo)
+unfolding logCoarseList logFineList lnTwoValue test isNearestLn most least scaledTop scaledBottom
 tested = rw (logCoarse-is, logFine-is, lnTwo-is) (tt, tt, tt)
 
 pub log-coarse : (h : ℕ) → 256 ≤ h → h < 512 → NearestLn 40 (dyadic 8 h) (entryOf logCoarse 256 h)
@@ -76,7 +76,7 @@ pub log-fine : (i : ℕ) → i < 256 → NearestLn 40 (dyadic 16 (65536 + i)) (e
 log-fine i high = carried 20 40 (λ i. dyadic 16 (65536 + i)) 0 logFine (tested .1) i (omega arith) (omega (arith, lengths))
 
 pub ln-two : NearestLn 40 (whole 2) lnTwo
-ln-two = nearest-is 20 40 (whole 2) lnTwo (tested .2)
+ln-two = nearest-ln 20 40 (whole 2) lnTwo (tested .2)
 
 -- Uniqueness, at any scale and for any number: the partial sums of a fraction above 0 grow for ever, so that it is not both at most
 -- and at least one logarithm.

@@ -1,6 +1,5 @@
 -- Half a unit at the ends of an enclosure is half a unit at every point of it. Two enclosures that overlap are less than half a unit
 -- from one whole number alone.
--- Assumes nothing.
 use mathlib.Core.Path.{_≡_}
 use mathlib.Core.Bool.{false}
 use Prim.Native.Nat.{ℕ, suc, _+_, _*_, _^_, _<_, _≤_}

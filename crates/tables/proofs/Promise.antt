@@ -1,11 +1,7 @@
 -- What the tables promise, whole: a value of each record of specs/Promise.antt.
--- Assumes nothing.
 use native.Mathlib.Omega.{arith}
-use Rattle.exact.specs.RotationLaws.{rotations-overlap}
+use Rattle.exact.proofs.RotationLaws.{rotations-overlap}
 use Rattle.tables.specs.Tables.{
-  entry-below,
-  entry-past,
-  lengths,
   logCoarse,
   logFine,
   cosCoarse,
@@ -14,8 +10,9 @@ use Rattle.tables.specs.Tables.{
   sinFine,
 }
 use Rattle.tables.specs.Promise.{Promise, Nearest, Lacking}
+use Rattle.tables.proofs.Entries.{entry-below, entry-past, lengths}
 use Rattle.tables.proofs.NearestLogarithms.{log-coarse, log-fine, ln-two, ln-unique}
-use Rattle.tables.proofs.Rotations.{cos-coarse, sin-coarse, cos-fine, sin-fine}
+use Rattle.tables.proofs.NearestRotations.{cos-coarse, sin-coarse, cos-fine, sin-fine}
 use Rattle.tables.proofs.Angles.{coarse-is, fine-is}
 use Rattle.tables.proofs.Points.{points, in-unique}
 pub use Rattle.tables.proofs.Bounds.{bounds, exact-entries}

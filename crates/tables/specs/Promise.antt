@@ -1,6 +1,5 @@
 -- What the tables promise (document 01, 'Radius' and 'Angle and sample'), in the words of `exact`; the crates above use nothing else
 -- of an entry. proofs/Promise.antt has a value of each record.
--- Assumes nothing.
 use mathlib.Core.Path.{_≡_}
 use mathlib.Core.Bool.{false}
 use Prim.Native.Nat.{ℕ, suc, _+_, _*_, _-_, _^_, _≤_, _<_}

@@ -1,5 +1,4 @@
 -- The entries of the tables, each the nearest whole number to its exact value (document 01, 'Radius' and 'Angle and sample').
--- Assumes nothing.
 use Prim.Native.Nat.{ℕ}
 use mathlib.Core.List.{List, [], _∷_}
 

@@ -1,5 +1,4 @@
 -- How far the table-made cosine and sine are from the exact rotation, in whole numbers.
--- Assumes nothing.
 use Prim.Native.Nat.{ℕ, _+_, _-_, _*_, _≤_, _<_}
 use native.Mathlib.Nat.{mul-le-mul, mul-le-mul-right, mul-le-mul-left, mul-pos, add-sub-of-le, le-of-mul-le-mul-left}
 use native.Mathlib.Decide.{decLe}

@@ -1,5 +1,4 @@
 -- How far Q is from the exact logarithm, and F from the exact radius, as facts on whole numbers.
--- Assumes nothing.
 use mathlib.Core.Path.{_≡_, refl, ap, sym, _∙_}
 use mathlib.Core.Logic.{_⊎_, inl, inr}
 use Prim.Native.Nat.{ℕ, zero, suc, _+_, _-_, _*_, _^_, _≤_, _<_, max}
@@ -8,7 +7,7 @@ use native.Mathlib.Nat.{le-refl, eq-zero-or-pos, lt-of-not-le, mul-le-mul-right,
 use native.Mathlib.Omega.{arith}
 use Rattle.exact.specs.Fraction.{Fraction, _≤ᶠ_, whole, dyadic, halved, square, _+ᶠ_, _*ᶠ_}
 use Rattle.exact.specs.Series.{AtMostLn, AtLeastLn}
-use Rattle.exact.specs.LogarithmLaws.{
+use Rattle.exact.proofs.LogarithmLaws.{
   ln-at-most-mono,
   ln-at-least-mono,
   ln-sum-at-most,

@@ -1,5 +1,4 @@
 -- The cosine and the sine of w from the tables, against the exact rotation.
--- Assumes nothing.
 use mathlib.Core.Path.{_≡_, refl, ap}
 use Prim.Native.Nat.{ℕ, _+_, _-_, _*_, _/_, _%_, _^_, _≤_, _<_, min}
 use native.Mathlib.Nat.{div-add-mod, mod-lt, min-le-right, mul-le-mul-left, mul-le-mul, zero-mul, mul-zero, lt-of-mul-lt-mul-left}
@@ -10,7 +9,7 @@ use lib.Pow.{pow-pos}
 use Rattle.exact.specs.Fraction.{dyadic, _≤ᶠ_}
 use Rattle.exact.specs.Rotation.{rotation, compose, coarse, fine, quotientUp}
 use Rattle.exact.specs.Pair.{negate, sineOf, cosineOf, members}
-use Rattle.exact.specs.MemberLaws.{turn-keeps}
+use Rattle.exact.proofs.MemberLaws.{turn-keeps}
 use Rattle.tables.specs.Promise.{Promise, Bounds, NearestIn}
 use Rattle.tables.specs.Tables.{cosCoarse, sinCoarse, cosFine, sinFine, entryOf}
 use Rattle.sample.specs.Steps.{cosine, sine}

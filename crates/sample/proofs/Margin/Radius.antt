@@ -1,5 +1,4 @@
 -- The steps of document 01 from a first number to F, against the exact radius, for any tables with the promise of `tables`.
--- Assumes nothing.
 use mathlib.Core.Path.{_≡_, refl, ap, sym, _∙_}
 use Prim.Native.Nat.{ℕ, _+_, _-_, _*_, _/_, _%_, _^_, _≤_, _<_, max}
 use native.Mathlib.Nat.{mul-pos, mul-lt-mul-of-pos-right, div-add-mod, mod-lt}
@@ -9,7 +8,7 @@ use Rattle.exact.specs.Fraction.{whole, dyadic}
 use Rattle.exact.specs.Radius.{AtMostRadius, AtLeastRadius}
 use Rattle.tables.specs.Promise.{NearestLn}
 use Rattle.sample.specs.Steps.{numerator, topBit, mantissa, coarse, rest, fine, remainder, correction, logarithm, radius}
-use Rattle.sample.specs.StepLaws.{top-below, mantissa-split, coarse-range, fine-range, rest-split, whole-root}
+use Rattle.sample.proofs.StepLaws.{top-below, mantissa-split, coarse-range, fine-range, rest-split, whole-root}
 use Rattle.sample.proofs.Margin.Logarithm.{Numbers, radius-at-most, radius-at-least}
 
 -- r 2^(65-b) over h (65536 + i), with both sides times 2^(b-25)

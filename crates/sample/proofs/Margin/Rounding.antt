@@ -1,5 +1,4 @@
 -- From the radius F and a member G of the rotation, each within its margin, to the sample: the error of the rounding.
--- Assumes nothing.
 use mathlib.Core.Path.{_≡_, refl, ap, sym, _∙_}
 use mathlib.Core.Bool.{Bool, true, false, not}
 use Prim.Native.Nat.{ℕ, zero, suc, _+_, _-_, _*_, _^_, _≤_, _<_}
@@ -8,11 +7,11 @@ use native.Mathlib.Omega.{arith}
 use lib.IntN.{ℤ, pos, negℤ, negℤ-negℤ}
 use lib.Pow.{pow-pos, pow-add}
 use Rattle.exact.specs.Fraction.{Fraction, _≤ᶠ_, dyadic, _*ᶠ_}
-use Rattle.exact.specs.FractionLaws.{≤ᶠ-trans, *ᶠ-mono}
+use Rattle.exact.proofs.FractionLaws.{≤ᶠ-trans, *ᶠ-mono}
 use Rattle.exact.specs.Radius.{RadiusEnclosure}
 use Rattle.exact.specs.Pair.{Enclosure, negate, times, Within, along, CloseTo}
 use Rattle.sample.specs.Steps.{size, rounded}
-use Rattle.sample.specs.Parts.{withSign}
+use Rattle.sample.specs.Private.{withSign}
 use Rattle.sample.proofs.Signs.{rounded-apart}
 
 -- F at 2^20 is at most 8 above and 20 below the radius, G at 2^30 less than 3 from the member: what that does to their product

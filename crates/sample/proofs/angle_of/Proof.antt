@@ -1,5 +1,4 @@
 -- `sample::angle_of` meets its contract: the products are those of the tables' entries, whose bounds are asked of the caller.
--- Assumes nothing.
 use Prim.Native.Nat.{_+_, _*_, _^_, _≤_}
 use native.Mathlib.Nat.{mul-le-mul}
 use native.Mathlib.Omega.{arith}
@@ -19,8 +18,6 @@ entry-requires-3 c κs = search needs
 
 entry-requires-4 : tie.Need-entry-requires-4
 entry-requires-4 c κs = search needs
-
--- src/lib.rt:156:16
 
 -- the bounds of the tables at the four entries: C and D, then c and s
 module _ (c : tie.After-entry4) where

@@ -1,13 +1,12 @@
 -- `sample::cell_of` meets its contract: each local is its step of document 01, and the steps' ranges keep every product within
 -- 64 bits.
--- Assumes nothing.
 use mathlib.Core.Path.{refl}
 use Prim.Native.Nat.{_*_, _/_, _%_}
 use native.Mathlib.Nat.{div-mul-le-self}
 use native.Mathlib.Omega.{arith}
 use borrow.Author.Needs.{needs}
 use Rattle.sample.specs.Steps.{mantissa, coarse, rest, fine, remainder, correction}
-use Rattle.sample.specs.StepLaws.{fine-range, divisor-pos, divisor-range}
+use Rattle.sample.proofs.StepLaws.{fine-range, divisor-pos, divisor-range}
 use Rattle.sample.proofs.cell_of.Statement.{statement}
 use Rattle.sample.proofs.cell_of.Tie as tie
 

@@ -1,5 +1,4 @@
 -- `sample::cut` meets its contract: a difference of ℕ is 0 where it would be below 0.
--- Assumes nothing.
 use native.Mathlib.Omega.{arith}
 use Rattle.sample.proofs.cut.Statement.{statement}
 use Rattle.sample.proofs.cut.Tie as tie

@@ -1,6 +1,5 @@
 -- `sample::fill_with` meets its contract. The invariant of its loop: the slice is filled for the first i of the z. The measure
 -- is n - i.
--- Assumes nothing.
 use mathlib.Core.Path.{_≡_, refl, _∙_}
 use Prim.Native.Nat.{_+_, _*_, _-_, _≤_, _<_}
 use native.Mathlib.Numerals.{add-one}
@@ -10,7 +9,7 @@ use mir.Syntax.{w16}
 use mir.Facts.{toZ-ofZ}
 use lib.ListN.{length, take, length-set}
 use Rattle.sample.specs.Sample.{filled}
-use Rattle.sample.specs.FillLaws.{filled-all, filled-step}
+use Rattle.sample.proofs.FillLaws.{filled-all, filled-step}
 use Rattle.sample.proofs.fill_with.Statement.{statement}
 use Rattle.sample.proofs.fill_with.Tie as tie
 

@@ -1,35 +1,28 @@
 -- `sample::logarithm` meets its contract: it is step 5 at what its callees return, and 48 times a number below 2^40 fits.
--- Assumes nothing.
 use Prim.Native.Nat.{_≤_, _-_}
 use native.Mathlib.Nat.{mul-le-mul}
 use native.Mathlib.Omega.{arith}
 use Rattle.sample.specs.Steps.{logarithm}
-use Rattle.sample.specs.StepLaws.{top-below}
+use Rattle.sample.proofs.StepLaws.{top-below}
 use borrow.Author.Needs.{needs}
 use Rattle.sample.proofs.logarithm.Statement.{statement}
 use Rattle.sample.proofs.logarithm.Tie as tie
 
--- src/lib.rt:66:13
 top-bit-requires : tie.Need-top-bit-requires
 top-bit-requires c κs = search needs
 
--- src/lib.rt:66:13
 cast-e : tie.Need-cast-e
 cast-e c = search needs
 
--- src/lib.rt:67:9
 cell-of-requires : tie.Need-cell-of-requires
 cell-of-requires c κs = search needs
 
--- src/lib.rt:68:9
 entry-requires : tie.Need-entry-requires
 entry-requires c κs = search needs
 
--- src/lib.rt:69:9
 entry-requires-2 : tie.Need-entry-requires-2
 entry-requires-2 c κs = search needs
 
--- src/lib.rt:70:18
 sub-cut : tie.Need-sub-cut
 sub-cut c =
     let pre = c .before .before .before .before .before .before .pre in
@@ -37,26 +30,21 @@ sub-cut c =
     let below = top-below 48 m (omega arith) (omega arith) (pre .0) (pre .1) in
     omega (arith, below, c .before .before .before .top-bit .ensures .0)
 
--- src/lib.rt:70:17
 mul-cut : tie.Need-mul-cut
 mul-cut c =
     let pre = c .before .before .before .before .before .before .pre in
     let factor : 48 - c .before .before .before .top-bit .result ≤ 48 = omega arith in
     omega (arith, mul-le-mul factor (pre .2))
 
--- src/lib.rt:70:13
 cut-requires : tie.Need-cut-requires
 cut-requires c κs = search needs
 
--- src/lib.rt:70:9
 cut-requires-2 : tie.Need-cut-requires-2
 cut-requires-2 c κs = search needs
 
--- src/lib.rt:70:5
 cut-requires-3 : tie.Need-cut-requires-3
 cut-requires-3 c κs = search needs
 
--- src/lib.rt:62:1
 returns : tie.Need-returns
 unfolding logarithm
 returns c = cc

@@ -1,5 +1,4 @@
 -- `sample::lowered` meets its contract. The invariant of its loop: r is below 2^24. The measure is r.
--- Assumes nothing.
 use Prim.Native.Nat.{_<_, _^_}
 use native.Mathlib.Nat.{mul-le-mul, le-of-lt}
 use native.Mathlib.Omega.{arith}
@@ -14,27 +13,21 @@ Inv-loop x guess r₀ r = r < 2 ^ 24
 abbrev μ-loop : tie.MeasureT-loop
 μ-loop x guess r₀ r = r
 
--- src/lib.rt:95:5
 loop-holds : tie.Need-loop-holds Inv-loop μ-loop
 loop-holds c = search needs
 
--- src/lib.rt:95:15
 mul-loop : tie.Need-mul-loop Inv-loop μ-loop
 mul-loop c = omega (arith, mul-le-mul (le-of-lt (c .loop .inv)) (le-of-lt (c .loop .inv)))
 
--- src/lib.rt:96:9
 sub-r : tie.Need-sub-r Inv-loop μ-loop
 sub-r c = omega (arith, square-pos (c .before .before .args .x) (c .before .loop .r) (c .loop-test .taken))
 
--- src/lib.rt:95:5
 loop-less : tie.Need-loop-less Inv-loop μ-loop
 loop-less c = omega (arith, square-pos (c .before .before .args .x) (c .before .loop .r) (c .loop-test .taken))
 
--- src/lib.rt:95:5
 loop-again : tie.Need-loop-again Inv-loop μ-loop
 loop-again c = search needs
 
--- src/lib.rt:90:1
 returns : tie.Need-returns Inv-loop μ-loop
 returns c = search needs
 

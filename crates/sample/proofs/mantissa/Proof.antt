@@ -1,10 +1,9 @@
 -- `sample::mantissa` meets its contract: the shift loses no bit, since the result is below 2^48.
--- Assumes nothing.
 use native.Mathlib.Nat.{mod-eq-of-lt}
 use native.Mathlib.Omega.{arith}
 use borrow.Author.Needs.{needs}
 use Rattle.sample.specs.Steps.{mantissa}
-use Rattle.sample.specs.StepLaws.{top-below, mantissa-range}
+use Rattle.sample.proofs.StepLaws.{top-below, mantissa-range}
 use Rattle.sample.proofs.mantissa.Statement.{statement}
 use Rattle.sample.proofs.mantissa.Tie as tie
 

@@ -1,5 +1,4 @@
 -- `sample::newton` meets its contract: the divisor is at least 2^28, so that the quotient is below 2^36.
--- Assumes nothing.
 use native.Mathlib.Omega.{arith}
 use borrow.Author.Needs.{needs}
 use Rattle.sample.proofs.Squares.{quotient-small}

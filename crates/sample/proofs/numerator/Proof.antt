@@ -1,5 +1,4 @@
 -- `sample::numerator` meets its contract: (2^48 - k) / 2^48 is 1 for k = 0 and 0 for every other k.
--- Assumes nothing.
 use native.Mathlib.Omega.{arith}
 use Rattle.sample.proofs.numerator.Statement.{statement}
 use Rattle.sample.proofs.numerator.Tie as tie

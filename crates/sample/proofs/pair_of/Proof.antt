@@ -1,5 +1,4 @@
 -- `sample::pair_of` meets its contract: what its callees return is the radius and the rotation at the tables.
--- Assumes nothing.
 use mathlib.Core.Path.{_≡_, ap₂, _∙_}
 use Prim.Native.Nat.{ℕ, _/_, _%_, _<_, _^_}
 use native.Mathlib.Omega.{arith}
@@ -9,7 +8,7 @@ use mir.Syntax.{w16}
 use mir.Facts.{toZ-ofZ}
 use Rattle.exact.specs.Pair.{turn}
 use Rattle.sample.specs.Steps.{rotation, rounded}
-use Rattle.sample.specs.Parts.{valueOf}
+use Rattle.sample.specs.Private.{valueOf}
 use Rattle.sample.specs.Sample.{radiusOf, rotationOf, firstOf, secondOf}
 use Rattle.sample.proofs.Ranges.{ln-two-range, radius-range, loaded-rotations, sine-range, cosine-range}
 use Rattle.sample.proofs.pair_of.Statement.{statement}

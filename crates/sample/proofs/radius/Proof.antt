@@ -1,10 +1,9 @@
 -- `sample::radius` meets its contract: the root of twice the logarithm, which is at most 48 times a number below 2^40.
--- Assumes nothing.
 use Prim.Native.Nat.{_*_, _≤_}
 use native.Mathlib.Omega.{arith}
 use borrow.Author.Needs.{needs}
 use Rattle.sample.specs.Steps.{radius}
-use Rattle.sample.specs.StepLaws.{logarithm-range}
+use Rattle.sample.proofs.StepLaws.{logarithm-range}
 use Rattle.sample.proofs.radius.Statement.{statement}
 use Rattle.sample.proofs.radius.Tie as tie
 

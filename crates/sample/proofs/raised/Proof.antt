@@ -1,9 +1,8 @@
 -- `sample::raised` meets its contract. The invariant of its loop: the square of r is at most x, and r is below 2^24. The
 -- measure is 2^24 - r.
--- Assumes nothing.
 use Prim.Native.Nat.{_<_, _≤_, _^_, _*_, _-_, _+_}
 use native.Mathlib.Omega.{arith}
-use Rattle.sample.specs.StepLaws.{whole-root-unique}
+use Rattle.sample.proofs.StepLaws.{whole-root-unique}
 use Rattle.sample.proofs.Squares.{square-small}
 use borrow.Author.Needs.{needs}
 use Rattle.sample.proofs.raised.Statement.{statement}
@@ -15,35 +14,27 @@ Inv-loop x low r₀ r = (r * r ≤ x) × (r < 2 ^ 24)
 abbrev μ-loop : tie.MeasureT-loop
 μ-loop x low r₀ r = 2 ^ 24 - r
 
--- src/lib.rt:107:5
 loop-holds : tie.Need-loop-holds Inv-loop μ-loop
 loop-holds c = search needs
 
--- src/lib.rt:107:12
 add-loop : tie.Need-add-loop Inv-loop μ-loop
 add-loop c = search needs
 
--- src/lib.rt:107:22
 add-loop-2 : tie.Need-add-loop-2 Inv-loop μ-loop
 add-loop-2 c = search needs
 
--- src/lib.rt:107:11
 mul-loop : tie.Need-mul-loop Inv-loop μ-loop
 mul-loop c = search needs
 
--- src/lib.rt:108:9
 add-r : tie.Need-add-r Inv-loop μ-loop
 add-r c = search needs
 
--- src/lib.rt:107:5
 loop-less : tie.Need-loop-less Inv-loop μ-loop
 loop-less c = search needs
 
--- src/lib.rt:107:5
 loop-again : tie.Need-loop-again Inv-loop μ-loop
 loop-again c = (c .loop-test .taken, square-small (c .before .loop .r + 1) (omega arith))
 
--- src/lib.rt:102:1
 returns : tie.Need-returns Inv-loop μ-loop
 returns c =
     whole-root-unique (c .before .before .args .x) (c .before .loop .r) (c .before .loop .inv .0) (c .loop-test .left)

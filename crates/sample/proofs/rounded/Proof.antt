@@ -1,12 +1,11 @@
 -- `sample::rounded` meets its contract: the size is at most 16706, so that it and its negative fit 16 bits.
--- Assumes nothing.
 use Prim.Native.Nat.{_+_, _*_, _/_, _≤_, _<_, _^_}
 use native.Mathlib.Nat.{mul-le-mul, le-of-lt}
 use native.Mathlib.Omega.{arith}
 use mir.Syntax.{w16}
 use mir.Facts.{toZ-pos}
 use Rattle.sample.specs.Steps.{size}
-use Rattle.sample.specs.StepLaws.{size-range}
+use Rattle.sample.proofs.StepLaws.{size-range}
 use Rattle.sample.proofs.Signs.{rounded-apart, minus-fits, minus-reads}
 use Rattle.sample.proofs.rounded.Statement.{statement}
 use Rattle.sample.proofs.rounded.Tie as tie

@@ -1,5 +1,4 @@
 -- `sample::sample` meets its contract: the two refusals, then the pair at z = 65536 k + v.
--- Assumes nothing.
 use mathlib.Core.Path.{_≡_, refl, ap₂, _∙_}
 use Prim.Native.Nat.{ℕ, _+_, _*_, _/_, _%_, _^_, _≤_}
 use native.Mathlib.Omega.{arith}

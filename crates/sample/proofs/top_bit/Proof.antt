@@ -1,10 +1,9 @@
 -- `sample::top_bit` meets its contract: a number that is not 0 has a set bit, so that its leading zeros are at most 63.
--- Assumes nothing.
 use mathlib.Core.Path.{refl}
 use native.Mathlib.Omega.{arith}
 use lib.Count.{leading-top}
 use Rattle.sample.specs.Steps.{topBit}
-use Rattle.sample.specs.StepLaws.{top-bit}
+use Rattle.sample.proofs.StepLaws.{top-bit}
 use Rattle.sample.proofs.top_bit.Statement.{statement}
 use Rattle.sample.proofs.top_bit.Tie as tie
 

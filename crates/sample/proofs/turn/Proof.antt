@@ -1,12 +1,11 @@
 -- `sample::turn` meets its contract: the tests on q give each of the four quarters.
--- Assumes nothing.
 use mathlib.Core.Path.{refl}
 use Prim.Native.Nat.{ℕ, zero, suc, _+_, _/_, _%_, _^_, _≤_, _<_}
 use native.Mathlib.Omega.{arith}
 use borrow.Author.Needs.{needs}
 use lib.Dec.{eqb}
 use Rattle.sample.specs.Steps.{pick}
-use Rattle.sample.specs.Parts.{TurnedBy}
+use Rattle.sample.specs.Private.{TurnedBy}
 use Rattle.sample.proofs.turn.Statement.{statement}
 use Rattle.sample.proofs.turn.Tie as tie
 

@@ -1,5 +1,4 @@
 -- `tables::cos_coarse` meets its contract: the constant's entries are the definition's.
--- Assumes nothing.
 use mathlib.Core.Path.{sym}
 use Rattle.tables.specs.Values.{cosCoarseList}
 use Rattle.tables.specs.Tables.{cosCoarse-is}

@@ -1,5 +1,4 @@
 -- `tables::cos_fine` meets its contract: the constant's entries are the definition's.
--- Assumes nothing.
 use mathlib.Core.Path.{sym}
 use Rattle.tables.specs.Values.{cosFineList}
 use Rattle.tables.specs.Tables.{cosFine-is}

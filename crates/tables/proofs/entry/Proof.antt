@@ -1,9 +1,8 @@
 -- `tables::entry` meets its contract, by the definition's three cases: below the table, in it, past it.
--- Assumes nothing.
 use mathlib.Core.Path.{sym}
 use native.Mathlib.Omega.{arith}
 use borrow.Author.Needs.{needs}
-use Rattle.tables.specs.Tables.{entry-below, entry-at, entry-past}
+use Rattle.tables.proofs.Entries.{entry-below, entry-at, entry-past}
 use Rattle.tables.proofs.entry.Statement.{statement}
 use Rattle.tables.proofs.entry.Tie as tie
 

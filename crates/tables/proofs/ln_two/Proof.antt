@@ -1,5 +1,4 @@
 -- `tables::ln_two` meets its contract: the constant's entries are the definition's.
--- Assumes nothing.
 use mathlib.Core.Path.{sym}
 use Rattle.tables.specs.Values.{lnTwoValue}
 use Rattle.tables.specs.Tables.{lnTwo-is}

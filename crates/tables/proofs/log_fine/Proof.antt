@@ -1,5 +1,4 @@
 -- `tables::log_fine` meets its contract: the constant's entries are the definition's.
--- Assumes nothing.
 use mathlib.Core.Path.{sym}
 use Rattle.tables.specs.Values.{logFineList}
 use Rattle.tables.specs.Tables.{logFine-is}

@@ -1,5 +1,4 @@
 -- `tables::sin_coarse` meets its contract: the constant's entries are the definition's.
--- Assumes nothing.
 use mathlib.Core.Path.{sym}
 use Rattle.tables.specs.Values.{sinCoarseList}
 use Rattle.tables.specs.Tables.{sinCoarse-is}

@@ -1,5 +1,4 @@
 -- `tables::sin_fine` meets its contract: the constant's entries are the definition's.
--- Assumes nothing.
 use mathlib.Core.Path.{sym}
 use Rattle.tables.specs.Values.{sinFineList}
 use Rattle.tables.specs.Tables.{sinFine-is}

@@ -1,5 +1,4 @@
 -- A rotation composes what document 01 says: no turn changes nothing, and a single bit of w turns by its own half-angle rotation.
--- Assumes nothing.
 use mathlib.Core.Path.{_≡_, refl, ap, _∙_}
 use Prim.Native.Nat.{ℕ, zero, suc, _+_, _-_, _*_, _/_, _%_, _^_, _≤_, _<_, min}
 use native.Mathlib.Nat.{sub-zero, suc-sub-suc, pow-succ', mul-div-cancel-left, mul-mod-right, mod-eq-of-lt}
@@ -8,7 +7,7 @@ use native.Mathlib.Decide.{decLt}
 use native.Mathlib.Omega.{arith}
 use lib.Pow.{pow-pos, pow-lt, pow-add}
 use Rattle.exact.specs.Rotation.{Rotation, quotientUp, none, compose, halving, bitRotation, bitsRotation, rotation}
-use Rattle.exact.specs.RotationLaws.{Good, good-none, good-halving}
+use Rattle.exact.proofs.RotationLaws.{Good, good-none, good-halving}
 
 -- a product by N over N
 pub floor-exact : (N x k : ℕ) → zero < N → x ≡ k * N → x / N ≡ k
@@ -44,7 +43,7 @@ compose-none-left n g =
     (ceiling-exact (2 ^ n) _ _ (pow-pos n) (omega arith) (g .sineMost))
 
 -- no bit set
-bits-of-zero : (n j count : ℕ) → bitsRotation n j count 0 ≡ none n
+pub bits-of-zero : (n j count : ℕ) → bitsRotation n j count 0 ≡ none n
 unfolding bitsRotation bitRotation
 bits-of-zero n j zero = refl
 bits-of-zero n j (suc count) = rw (bits-of-zero n j count) (compose-none-right n (good-none n))

@@ -1,5 +1,4 @@
 -- Laws of the sine and the cosine of the exact rotation for v, turned by quarters with their signs (`members` of Pair.antt).
--- Assumes nothing.
 use mathlib.Core.Path.{_≡_, refl, sym, ap, ap₂}
 use mathlib.Core.Bool.{false, not}
 use Prim.Native.Nat.{ℕ, zero, suc, _/_, _%_, _+_, _-_, _*_, _^_, _≤_, _<_, min}
@@ -8,9 +7,9 @@ use lib.Pow.{pow-pos}
 use native.Mathlib.Omega.{arith}
 use Rattle.exact.specs.Fraction.{Fraction, whole, dyadic, _≤ᶠ_, _<ᶠ_, _+ᶠ_}
 use Rattle.exact.specs.Rotation.{Rotation, quarter, compose, quotientUp, rotation}
-use Rattle.exact.specs.RotationLaws.{Good, rotation-good, rotations-overlap}
-use Rattle.exact.specs.RotationBits.{floor-exact, ceiling-exact}
-use Rattle.exact.specs.RotationWidth.{rotation-narrow}
+use Rattle.exact.proofs.RotationLaws.{Good, rotation-good, rotations-overlap}
+use Rattle.exact.proofs.RotationBits.{floor-exact, ceiling-exact}
+use Rattle.exact.proofs.RotationWidth.{rotation-narrow}
 use Rattle.exact.specs.Pair.{Enclosure, turn, negate, sineOf, cosineOf, members}
 
 -- Quarter turns follow each other: q + 1 of them are one more after q, and a fourth one gives back the pair.

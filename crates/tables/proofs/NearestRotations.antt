@@ -1,13 +1,13 @@
 -- The rotation tables hold the nearest whole numbers: one test over any index and scale, which antt computes at 96 fraction bits, and
 -- one lemma that carries it to each entry.
--- Assumes nothing.
 use mathlib.Core.Path.{_≡_, refl, ap₂}
-use mathlib.Core.Bool.{Bool}
+use mathlib.Core.Bool.{Bool, _&&_}
 use mathlib.Core.List.{List, [], _∷_}
 use Prim.Native.Nat.{ℕ, zero, suc, _+_, _*_, _/_, _%_, _^_, _<_, _≤_}
 use native.Mathlib.Omega.{arith}
 use lib.Dec.{T, ltb, ltb→lt}
 use lib.ListN.{length}
+use store.Enc.{and-l, and-r}
 use Rattle.exact.specs.Rotation.{
   Rotation,
   none,
@@ -25,7 +25,6 @@ use Rattle.exact.specs.Rotation.{
 use Rattle.tables.specs.Values.{cosCoarseList, sinCoarseList, cosFineList, sinFineList}
 use Rattle.tables.specs.Tables.{
   entryOf,
-  lengths,
   cosCoarse,
   sinCoarse,
   cosFine,
@@ -36,57 +35,57 @@ use Rattle.tables.specs.Tables.{
   sinFine-is,
 }
 use Rattle.tables.specs.Promise.{NearestIn, NearestCos, NearestSin}
-use Rattle.tables.proofs.Entries.{both, both-left, both-right, every, at}
+use Rattle.tables.proofs.Entries.{lengths, every, at}
 
 -- The rotation of an index from the halvings that its bits choose, which all entries share.
 halvings : ℕ → ℕ → ℕ → List Rotation
 halvings n j zero = []
 halvings n j (suc count) = halving n (j + suc count) ∷ halvings n j count
 
-chosen : ℕ → Rotation → ℕ → Rotation
-chosen n h zero = none n
-chosen n h (suc bit) = h
+bitBy : ℕ → Rotation → ℕ → Rotation
+bitBy n h zero = none n
+bitBy n h (suc bit) = h
 
 rotationBy : ℕ → List Rotation → ℕ → Rotation
 rotationBy n [] x = none n
-rotationBy n (h ∷ hs) x = compose n (rotationBy n hs (x / 2)) (chosen n h (x % 2))
+rotationBy n (h ∷ hs) x = compose n (rotationBy n hs (x / 2)) (bitBy n h (x % 2))
 
-chosen-is : (n j bit : ℕ) → chosen n (halving n j) bit ≡ bitRotation n j bit
-unfolding chosen bitRotation
-chosen-is n j zero = refl
-chosen-is n j (suc bit) = refl
+bit-by-is : (n j bit : ℕ) → bitBy n (halving n j) bit ≡ bitRotation n j bit
+unfolding bitBy bitRotation
+bit-by-is n j zero = refl
+bit-by-is n j (suc bit) = refl
 
 rotationBy-is : (n j count x : ℕ) → rotationBy n (halvings n j count) x ≡ bitsRotation n j count x
 unfolding rotationBy halvings bitsRotation
 rotationBy-is n j zero x = refl
-rotationBy-is n j (suc count) x = ap₂ (compose n) (rotationBy-is n j count (x / 2)) (chosen-is n (j + suc count) (x % 2))
+rotationBy-is n j (suc count) x = ap₂ (compose n) (rotationBy-is n j count (x / 2)) (bit-by-is n (j + suc count) (x % 2))
 
-near : ℕ → ℕ → ℕ → ℕ → ℕ → Bool
-near f n low high x =
-    both (ltb (2 * (x * 2 ^ n)) (2 * (2 ^ f * low) + 2 ^ n)) (ltb (2 * (2 ^ f * high)) (2 * (x * 2 ^ n) + 2 ^ n))
+isNearestIn : ℕ → ℕ → ℕ → ℕ → ℕ → Bool
+isNearestIn f n low high x =
+    ltb (2 * (x * 2 ^ n)) (2 * (2 ^ f * low) + 2 ^ n) && ltb (2 * (2 ^ f * high)) (2 * (x * 2 ^ n) + 2 ^ n)
 
-near-is : (f n low high x : ℕ) → T (near f n low high x) → NearestIn f n low high x
-unfolding near
-near-is f n low high x t = record {
-  below = ltb→lt _ _ (both-left (ltb (2 * (x * 2 ^ n)) (2 * (2 ^ f * low) + 2 ^ n)) _ t);
-  above = ltb→lt _ _ (both-right (ltb (2 * (x * 2 ^ n)) (2 * (2 ^ f * low) + 2 ^ n)) _ t);
+nearest-in : (f n low high x : ℕ) → T (isNearestIn f n low high x) → NearestIn f n low high x
+unfolding isNearestIn
+nearest-in f n low high x t = record {
+  below = ltb→lt _ _ (and-l (ltb (2 * (x * 2 ^ n)) (2 * (2 ^ f * low) + 2 ^ n)) _ t);
+  above = ltb→lt _ _ (and-r (ltb (2 * (x * 2 ^ n)) (2 * (2 ^ f * low) + 2 ^ n)) _ t);
 }
 
 -- the test of an entry against the ends of its cosine or its sine
-nearest : ℕ → ℕ → (Rotation → ℕ) → (Rotation → ℕ) → List Rotation → ℕ → ℕ → Bool
-nearest f n low high hs i x = let r : Rotation = rotationBy n hs i in near f n (low r) (high r) x
+isNearestOf : ℕ → ℕ → (Rotation → ℕ) → (Rotation → ℕ) → List Rotation → ℕ → ℕ → Bool
+isNearestOf f n low high hs i x = let r : Rotation = rotationBy n hs i in isNearestIn f n (low r) (high r) x
 
 test : ℕ → ℕ → (Rotation → ℕ) → (Rotation → ℕ) → List Rotation → List ℕ → Bool
-test f n low high hs table = every (nearest f n low high hs) 0 table
+test f n low high hs table = every (isNearestOf f n low high hs) 0 table
 
 carried :
     (f n j count : ℕ) (low high : Rotation → ℕ) (table : List ℕ) → T (test f n low high (halvings n j count) table) →
     (i : ℕ) → i < length table →
     NearestIn f n (low (bitsRotation n j count i)) (high (bitsRotation n j count i)) (entryOf table 0 i)
-unfolding test nearest
+unfolding test isNearestOf
 carried f n j count low high table t i h =
     rw (← rotationBy-is n j count i)
-    (near-is f n _ _ _ (at (nearest f n low high (halvings n j count)) 0 table t i (omega arith) (omega arith)))
+    (nearest-in f n _ _ _ (at (isNearestOf f n low high (halvings n j count)) 0 table t i (omega arith) (omega arith)))
 
 abbrev tested : ℕ → List ℕ → List ℕ → Type 0
 tested j cosines sines =
@@ -94,11 +93,11 @@ tested j cosines sines =
     T (test 30 96 (λ r. r .sinLow) (λ r. r .sinHigh) (halvings 96 j 7) sines)
 
 coarse-tested : tested 0 cosCoarse sinCoarse
-unfolding cosCoarseList sinCoarseList test nearest near rotationBy chosen halvings halving half compose rootDown rootUp rootDigits
+unfolding cosCoarseList sinCoarseList test isNearestOf isNearestIn rotationBy bitBy halvings halving half compose rootDown rootUp rootDigits
 coarse-tested = rw (cosCoarse-is, sinCoarse-is) (tt, tt)
 
 fine-tested : tested 7 cosFine sinFine
-unfolding cosFineList sinFineList test nearest near rotationBy chosen halvings halving half compose rootDown rootUp rootDigits
+unfolding cosFineList sinFineList test isNearestOf isNearestIn rotationBy bitBy halvings halving half compose rootDown rootUp rootDigits
 fine-tested = rw (cosFine-is, sinFine-is) (tt, tt)
 
 pub cos-coarse : (a : ℕ) → a < 128 → NearestCos 30 96 (coarse 96 a) (entryOf cosCoarse 0 a)

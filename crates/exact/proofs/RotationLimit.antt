@@ -1,14 +1,14 @@
--- The half-angle and the addition formulas hold in the limit, of the high ends of the enclosures. Assumes nothing.
+-- The half-angle and the addition formulas hold in the limit, of the high ends of the enclosures.
 use mathlib.Core.Path.{_≡_, ap}
 use Prim.Native.Nat.{ℕ, zero, suc, _+_, _-_, _*_, _^_, _≤_, _<_, min}
 use native.Mathlib.Nat.{le-refl, min-le-right, div-mul-le-self, mul-le-mul, mul-le-mul-left, mul-le-mul-right}
 use native.Mathlib.Omega.{arith}
 use lib.Pow.{pow-pos}
 use Rattle.exact.specs.Rotation.{Rotation, rootDown, rootUp, quotientUp, half, compose}
-use Rattle.exact.specs.RootLaws.{lt-of-square-lt, root-down-at-most, root-down-le-root-up, root-up-at-least}
-use Rattle.exact.specs.RootLaws.{root-up-previous}
-use Rattle.exact.specs.RotationLaws.{Good, good-half, quotient-up-at-least, scaled-min}
-use Rattle.exact.specs.Limit.{Below, below-sum, below-by, below-slack, below-times, below-halve, below-excess, below-root}
+use Rattle.exact.proofs.RootLaws.{lt-of-square-lt, root-down-at-most, root-down-le-root-up, root-up-at-least}
+use Rattle.exact.proofs.RootLaws.{root-up-previous}
+use Rattle.exact.proofs.RotationLaws.{Good, good-half, quotient-up-at-least, scaled-min}
+use Rattle.exact.proofs.Limit.{Below, below-sum, below-by, below-slack, below-times, below-halve, below-excess, below-root}
 
 -- a rotation at every n, and the high ends of its cosine and its sine
 abbrev pub Family : Type 0

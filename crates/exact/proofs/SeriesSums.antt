@@ -1,14 +1,13 @@
 -- The partial sums of a sum against the product of the partial sums, without binomials.
--- Assumes nothing.
 use mathlib.Core.Path.{_≡_, refl, ap, _∙_}
 use Prim.Native.Nat.{ℕ, zero, suc, _+_, _*_, _^_, _≤_, _<_}
 use native.Mathlib.Nat.{mul-pos, mul-le-mul-left, mul-le-mul-right, pow-zero, pow-suc, le-refl, add-zero, add-suc, zero-add}
 use native.Mathlib.Omega.{arith}
 use Rattle.exact.specs.Fraction.{Fraction, _+ᶠ_, _*ᶠ_, _≤ᶠ_}
-use Rattle.exact.specs.FractionLaws.{*ᶠ-mono, _≤ᶠ⟨_⟩_, _∎ᶠ, chained}
+use Rattle.exact.proofs.FractionLaws.{*ᶠ-mono, _≤ᶠ⟨_⟩_, _∎ᶠ, chained}
 use Rattle.exact.specs.Series.{partialSum}
-use Rattle.exact.specs.SeriesLaws.{scaledTop, scaledBottom, scaledSum, scaled-grows, partialSum-mono}
-use Rattle.exact.specs.SeriesLaws.{partialSum-at-most-scaled, scaled-at-most-partialSum}
+use Rattle.exact.proofs.SeriesLaws.{scaledTop, scaledBottom, scaledSum, scaled-grows, partialSum-mono}
+use Rattle.exact.proofs.SeriesLaws.{partialSum-at-most-scaled, scaled-at-most-partialSum}
 
 -- Read c n as a number in place of the power Xⁿ. Then `blend c b m j n` stands in place of (X + b)ʲ Xⁿ, of whose expansion
 -- only the powers of b up to bᵐ are kept.

@@ -1,6 +1,5 @@
 -- The squares of the high ends of a rotation's cosine and sine sum to at least 1. The cosine of a composition must not be cut at 0
 -- for that, and it is not: the angles of a rotation's bits, and the next half angle, sum to at most a quarter turn.
--- Assumes nothing.
 use mathlib.Core.Path.{_≡_, sym, ap, subst, fun-ext}
 use Prim.Native.Nat.{ℕ, zero, suc, _+_, _*_, _/_, _%_, _^_, _≤_, _<_, min}
 use native.Mathlib.Nat.{add-zero, add-suc, add-mul, mul-add, mul-assoc, mul-comm, mul-left-comm, pow-succ', le-dest}
@@ -10,15 +9,15 @@ use native.Mathlib.Omega.{arith}
 use lib.Pow.{pow-pos, pow-add}
 use Rattle.exact.specs.Fraction.{whole, dyadic, square, _≤ᶠ_, _+ᶠ_}
 use Rattle.exact.specs.Rotation.{Rotation, none, compose, halving, bitRotation, bitsRotation, rotation}
-use Rattle.exact.specs.RotationLaws.{Good, good-none, good-halving, good-bits, square-of-difference, quotient-up-at-least}
-use Rattle.exact.specs.RotationLaws.{Inside, inside-compose, inside-halving, inside-bits}
-use Rattle.exact.specs.RotationWidth.{Narrowing, narrowing-none, narrowing-halving, narrowing-bits}
-use Rattle.exact.specs.RotationBits.{compose-none-right}
-use Rattle.exact.specs.Limit.{Below, below-sum, below-by, below-exact, below-cancel}
-use Rattle.exact.specs.RotationLimit.{Family, cos, sin, halfOf, composeOf, Sound, Long, Acute}
-use Rattle.exact.specs.RotationLimit.{times-one, times-cos, times-sin}
-use Rattle.exact.specs.RotationLimit.{half-cos-half, half-long, double-cos-least, double-cos-most, double-sin-least}
-use Rattle.exact.specs.RotationLimit.{compose-cos-least, compose-cos-most, compose-sin-most}
+use Rattle.exact.proofs.RotationLaws.{Good, good-none, good-halving, good-bits, square-of-difference, quotient-up-at-least}
+use Rattle.exact.proofs.RotationLaws.{Inside, inside-compose, inside-halving, inside-bits}
+use Rattle.exact.proofs.RotationWidth.{Narrowing, narrowing-none, narrowing-halving, narrowing-bits}
+use Rattle.exact.proofs.RotationBits.{compose-none-right}
+use Rattle.exact.proofs.Limit.{Below, below-sum, below-by, below-exact, below-cancel}
+use Rattle.exact.proofs.RotationLimit.{Family, cos, sin, halfOf, composeOf, Sound, Long, Acute}
+use Rattle.exact.proofs.RotationLimit.{times-one, times-cos, times-sin}
+use Rattle.exact.proofs.RotationLimit.{half-cos-half, half-long, double-cos-least, double-cos-most, double-sin-least}
+use Rattle.exact.proofs.RotationLimit.{compose-cos-least, compose-cos-most, compose-sin-most}
 
 -- products multiplied out and sorted
 ruleset expand = (add-mul, mul-add, mul-assoc, mul-comm, mul-left-comm)

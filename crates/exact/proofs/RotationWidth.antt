@@ -1,4 +1,4 @@
--- The width of the enclosures of a rotation falls below every fraction above 0, for all angles at once. Assumes nothing.
+-- The width of the enclosures of a rotation falls below every fraction above 0, for all angles at once.
 use mathlib.Core.Path.{_≡_, ap}
 use Prim.Native.Nat.{ℕ, zero, suc, _+_, _-_, _*_, _/_, _%_, _^_, _≤_, _<_, min, max}
 use native.Mathlib.Nat.{le-trans, le-dest, min-le-right, mul-sub, mul-pos, mul-le-mul-left, mul-le-mul-right, pow-succ'}
@@ -9,8 +9,8 @@ use lib.Pow.{pow-pos, pow-mono, pow-add}
 use Rattle.exact.specs.Fraction.{Fraction, whole, dyadic, _+ᶠ_, _<ᶠ_}
 use Rattle.exact.specs.Rotation.{Rotation, rootDown, rootUp, quotientUp, none, half, compose}
 use Rattle.exact.specs.Rotation.{halving, bitRotation, bitsRotation, rotation}
-use Rattle.exact.specs.RootLaws.{lt-of-square-lt, root-down-at-most, root-down-next, root-up-previous}
-use Rattle.exact.specs.RotationLaws.{Good, good-bit, good-bits}
+use Rattle.exact.proofs.RootLaws.{lt-of-square-lt, root-down-at-most, root-down-next, root-up-previous}
+use Rattle.exact.proofs.RotationLaws.{Good, good-bit, good-bits}
 
 -- the cosine and the sine are enclosed to 2 ^ -e
 pub record Narrow (e n : ℕ) (r : Rotation) : Type 0 where

@@ -1,5 +1,5 @@
 -- Laws of the rotations of Rotation.antt: every enclosure is non-empty, with low ends of a length at most 1; those at more bits
--- lie inside those at fewer, and so any two overlap. Assumes nothing.
+-- lie inside those at fewer, and so any two overlap.
 use mathlib.Core.Path.{_≡_, refl}
 use Prim.Native.Nat.{ℕ, zero, suc, _+_, _-_, _*_, _/_, _%_, _^_, _≤_, _<_, min}
 use native.Mathlib.Nat.{add-comm, le-trans, le-dest, min-eq-left, min-eq-right, mul-sub, mul-pos, mul-le-mul, mul-le-mul-left}
@@ -10,8 +10,8 @@ use lib.Pow.{pow-pos, pow-add}
 use Rattle.exact.specs.Fraction.{whole, dyadic, square, _≤ᶠ_, _+ᶠ_}
 use Rattle.exact.specs.Rotation.{Rotation, rootDown, rootUp, quotientUp, none, quarter, half, compose}
 use Rattle.exact.specs.Rotation.{halving, bitRotation, bitsRotation, rotation}
-use Rattle.exact.specs.RootLaws.{lt-of-square-lt, root-down-at-most, root-up-least, root-down-le-root-up}
-use Rattle.exact.specs.RootLaws.{root-down-scaled, root-up-scaled}
+use Rattle.exact.proofs.RootLaws.{lt-of-square-lt, root-down-at-most, root-up-least, root-down-le-root-up}
+use Rattle.exact.proofs.RootLaws.{root-down-scaled, root-up-scaled}
 
 -- a quotient rounded up is the least k with x ≤ k y
 pub quotient-up-at-least : (x y : ℕ) → zero < y → x ≤ quotientUp x y * y

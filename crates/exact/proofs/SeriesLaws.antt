@@ -1,5 +1,4 @@
 -- Laws of the exponential series: the partial sums over one denominator, their growth, and the tail.
--- Assumes nothing.
 use mathlib.Core.Path.{_≡_, refl, sym, ap}
 use Prim.Native.Nat.{ℕ, zero, suc, _+_, _*_, _^_, _≤_, _<_}
 use native.Mathlib.Nat.{le-refl, le-of-eq, le-of-lt, zero-lt-suc, pow-zero, pow-suc, mul-pos}
@@ -7,7 +6,7 @@ use native.Mathlib.Nat.{mul-le-mul, mul-le-mul-left, mul-lt-mul-of-pos-left}
 use native.Mathlib.Decide.{le-ind}
 use native.Mathlib.Omega.{arith}
 use Rattle.exact.specs.Fraction.{Fraction, _≤ᶠ_, _<ᶠ_}
-use Rattle.exact.specs.FractionLaws.{≤ᶠ-<ᶠ-trans, <ᶠ-≤ᶠ-trans, _≤ᶠ⟨_⟩_, _∎ᶠ, chained}
+use Rattle.exact.proofs.FractionLaws.{≤ᶠ-<ᶠ-trans, <ᶠ-≤ᶠ-trans, _≤ᶠ⟨_⟩_, _∎ᶠ, chained}
 use Rattle.exact.specs.Series.{factorial, term, partialSum}
 
 -- The partial sum of p / q as scaledTop p q n over scaledBottom q n = q ^ n n!

@@ -1,5 +1,4 @@
 -- Laws of the exact radius: any two enclosures overlap, and some are as narrow as one likes.
--- Assumes nothing.
 use mathlib.Core.Logic.{_⊎_, inl, inr}
 use Prim.Native.Nat.{ℕ, zero, suc, _+_, _*_, _^_, _≤_, _<_}
 use native.Mathlib.Nat.{le-refl, le-trans, le-of-lt, lt-of-not-le, lt-of-lt-of-le, add-suc, suc-add}
@@ -9,11 +8,11 @@ use native.Mathlib.Decide.{decLe}
 use native.Mathlib.Omega.{arith}
 use lib.Pow.{pow-pos, pow-add}
 use Rattle.exact.specs.Fraction.{Fraction, whole, square, halved, _+ᶠ_, _≤ᶠ_, _<ᶠ_}
-use Rattle.exact.specs.FractionLaws.{half-square-mono, half-square-cancel}
+use Rattle.exact.proofs.FractionLaws.{half-square-mono, half-square-cancel}
 use Rattle.exact.specs.Series.{AtMostLn, AtLeastLn}
-use Rattle.exact.specs.SeriesLaws.{scaledTop, scaledBottom, scaledBottom-pos}
-use Rattle.exact.specs.LogarithmLaws.{logarithm-cuts-meet, ln-at-most-mono, ln-at-least-mono}
-use Rattle.exact.specs.LogarithmLaws.{ln-at-least-scaled, ln-one-at-most, tail}
+use Rattle.exact.proofs.SeriesLaws.{scaledTop, scaledBottom, scaledBottom-pos}
+use Rattle.exact.proofs.LogarithmLaws.{logarithm-cuts-meet, ln-at-most-mono, ln-at-least-mono}
+use Rattle.exact.proofs.LogarithmLaws.{ln-at-least-scaled, ln-one-at-most, tail}
 use Rattle.exact.specs.Radius.{inverse, AtMostRadius, AtLeastRadius, RadiusEnclosure}
 
 -- A lower cut of the radius is at most every upper cut.

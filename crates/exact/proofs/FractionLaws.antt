@@ -1,5 +1,4 @@
 -- Laws of fractions: the order, and what sums and products do to it.
--- Assumes nothing.
 use Prim.Native.Nat.{ℕ, zero, _*_, _≤_, _<_}
 use mathlib.Core.Logic.{_⊎_, inl, inr}
 use native.Mathlib.Nat.{le-refl, lt-of-not-le, mul-pos, mul-le-mul, mul-le-mul-right, mul-lt-mul-of-pos-right}

@@ -1,5 +1,4 @@
 -- Laws of the two roots of Rotation.antt: each is what its comment there says, so that both grow with the number under the root.
--- Assumes nothing.
 use mathlib.Core.Path.{_≡_, refl}
 use mathlib.Core.Bool.{Bool, true, false}
 use Prim.Native.Nat.{ℕ, zero, suc, _+_, _*_, _/_, _≤_, _<_}

@@ -1,5 +1,4 @@
 -- Laws of the logarithm as a cut: the cuts meet, sums and quotients, the bounds of ln(1 + x), and cuts by one comparison.
--- Assumes nothing.
 use mathlib.Core.Path.{_≡_}
 use mathlib.Core.Logic.{_⊎_, inl, inr}
 use Prim.Native.Nat.{ℕ, zero, suc, _+_, _*_, _^_, _≤_, _<_}
@@ -8,13 +7,13 @@ use native.Mathlib.Nat.{mul-pos, mul-le-mul-left, mul-le-mul-right}
 use native.Mathlib.Decide.{decLe, le-ind}
 use native.Mathlib.Omega.{arith}
 use Rattle.exact.specs.Fraction.{Fraction, whole, _+ᶠ_, _*ᶠ_, _≤ᶠ_, _<ᶠ_}
-use Rattle.exact.specs.FractionLaws.{cross-trans, ≤ᶠ-refl, ≤ᶠ-<ᶠ-trans, <ᶠ-≤ᶠ-trans, ≤ᶠ-or-<ᶠ}
-use Rattle.exact.specs.FractionLaws.{*ᶠ-mono, *ᶠ-cancel, _≤ᶠ⟨_⟩_, _∎ᶠ, chained}
+use Rattle.exact.proofs.FractionLaws.{cross-trans, ≤ᶠ-refl, ≤ᶠ-<ᶠ-trans, <ᶠ-≤ᶠ-trans, ≤ᶠ-or-<ᶠ}
+use Rattle.exact.proofs.FractionLaws.{*ᶠ-mono, *ᶠ-cancel, _≤ᶠ⟨_⟩_, _∎ᶠ, chained}
 use Rattle.exact.specs.Series.{partialSum, AtMostLn, AtLeastLn}
-use Rattle.exact.specs.SeriesLaws.{scaledTop, scaledBottom, scaledSum, scaledBottom-pos, scaled-grows}
-use Rattle.exact.specs.SeriesLaws.{partialSum-at-most-scaled, scaled-at-most-partialSum}
-use Rattle.exact.specs.SeriesLaws.{partialSum-grows, partialSum-mono, partialSum-strict}
-use Rattle.exact.specs.SeriesSums.{partialSum-sum-at-most, partialSum-sum-at-least}
+use Rattle.exact.proofs.SeriesLaws.{scaledTop, scaledBottom, scaledSum, scaledBottom-pos, scaled-grows}
+use Rattle.exact.proofs.SeriesLaws.{partialSum-at-most-scaled, scaled-at-most-partialSum}
+use Rattle.exact.proofs.SeriesLaws.{partialSum-grows, partialSum-mono, partialSum-strict}
+use Rattle.exact.proofs.SeriesSums.{partialSum-sum-at-most, partialSum-sum-at-least}
 
 -- A lower cut of a logarithm is at most every upper cut.
 pub logarithm-cuts-meet : (y y' z : Fraction) → AtMostLn y z → AtLeastLn y' z → y ≤ᶠ y'

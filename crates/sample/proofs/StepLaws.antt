@@ -1,5 +1,4 @@
 -- Laws of the steps: the ranges that document 01 states, over the numerator m and the width b, and the root's law.
--- Assumes nothing.
 use mathlib.Core.Path.{_≡_, refl, sym, ap, _∙_, subst}
 use Prim.Native.Nat.{ℕ, zero, suc, _+_, _-_, _*_, _/_, _^_, _≤_, _<_}
 use native.Mathlib.Nat.{le-refl, mul-zero, zero-add, div-eq-of-lt, sub-zero, le-antisymm, mul-le-mul, le-trans, lt-of-lt-of-le}
@@ -10,7 +9,7 @@ use native.Mathlib.Omega.{arith}
 use lib.IntN.{ℤ, pos, negsuc, negℤ, negℤ-negℤ}
 use lib.Count.{leadingZeros, leading-top}
 use lib.Pow.{pow-pos, pow-mono, pow-add}
-use Rattle.exact.specs.RootLaws.{root-digits-root, lt-of-square-lt}
+use Rattle.exact.proofs.RootLaws.{root-digits-root, lt-of-square-lt}
 use Rattle.sample.specs.Steps.{topBit, mantissa, coarse, rest, fine, remainder, correction, logarithm}
 use Rattle.sample.specs.Steps.{wholeRoot, size, rounded}
 

@@ -1,12 +1,11 @@
 -- Laws of a filled slice: its length, the slice that has room for just the pairs, and one pair more.
--- Assumes nothing.
 use mathlib.Core.Path.{_≡_, refl, ap}
 use mathlib.Core.List.{List, [], _∷_}
 use Prim.Native.Nat.{ℕ, zero, suc, _+_, _*_, _/_, _≤_, _<_, min}
 use native.Mathlib.Omega.{arith}
 use lib.IntN.{ℤ}
 use lib.ListN.{length, take, getD, set}
-use Rattle.sample.specs.Sample.{firstAt, secondAt, filled}
+use Rattle.sample.specs.Sample.{firstAt, secondAt, samplesAt, filled}
 
 pub length-filled : (zs : List ℕ) (out : List ℤ) → length (filled zs out) ≡ length out
 unfolding filled
@@ -14,11 +13,6 @@ length-filled [] out = refl
 length-filled (z ∷ zs) [] = refl
 length-filled (z ∷ zs) (x ∷ []) = refl
 length-filled (z ∷ zs) (x ∷ y ∷ out) = ap (λ (n : ℕ). suc (suc n)) (length-filled zs out)
-
--- the samples of some z, first and second alternating
-unfoldable pub samplesAt : List ℕ → List ℤ
-samplesAt [] = []
-samplesAt (z ∷ zs) = firstAt z ∷ secondAt z ∷ samplesAt zs
 
 -- where the slice has room for just the pairs, it holds their samples
 pub filled-whole : (zs : List ℕ) (out : List ℤ) → length out ≡ 2 * length zs → filled zs out ≡ samplesAt zs

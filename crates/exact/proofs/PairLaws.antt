@@ -1,15 +1,14 @@
 -- Laws of the exact pair: every enclosure of a product has a point, any two meet, and they become as narrow as one likes.
--- Assumes nothing.
 use Prim.Native.Nat.{ℕ, zero, _+_, _*_, _^_, _≤_, _<_}
 use native.Mathlib.Nat.{mul-pos, mul-le-mul-left, mul-lt-mul-of-pos-right}
 use native.Mathlib.Omega.{arith}
 use lib.Pow.{pow-pos}
 use Rattle.exact.specs.Fraction.{Fraction, whole, _+ᶠ_, _*ᶠ_, _≤ᶠ_, _<ᶠ_}
-use Rattle.exact.specs.FractionLaws.{≤ᶠ-refl, ≤ᶠ-trans, ≤ᶠ-<ᶠ-trans, <ᶠ-weaken, +ᶠ-mono, +ᶠ-mono-le-lt, *ᶠ-mono, _≤ᶠ⟨_⟩_, _∎ᶠ, chained}
+use Rattle.exact.proofs.FractionLaws.{≤ᶠ-refl, ≤ᶠ-trans, ≤ᶠ-<ᶠ-trans, <ᶠ-weaken, +ᶠ-mono, +ᶠ-mono-le-lt, *ᶠ-mono, _≤ᶠ⟨_⟩_, _∎ᶠ, chained}
 use Rattle.exact.specs.Radius.{RadiusEnclosure}
-use Rattle.exact.specs.RadiusLaws.{radius-enclosures-overlap, radius-narrow}
+use Rattle.exact.proofs.RadiusLaws.{radius-enclosures-overlap, radius-narrow}
 use Rattle.exact.specs.Pair.{Enclosure, members, times, firstProduct, secondProduct}
-use Rattle.exact.specs.MemberLaws.{Meet, Proper, members-proper, members-overlap, members-narrow}
+use Rattle.exact.proofs.MemberLaws.{Meet, Proper, members-proper, members-overlap, members-narrow}
 
 -- The product has a point: its low end is at most its high end.
 pub product-ends : {b m : ℕ} (g : RadiusEnclosure b m) (n v : ℕ) →

@@ -1,6 +1,5 @@
 -- What the private steps hand to each other and ask of each other: a signed number as its size and its sign, the lent tables,
 -- an angle.
--- Assumes nothing.
 use mathlib.Core.Path.{_≡_}
 use mathlib.Core.Bool.{Bool}
 use mathlib.Core.List.{List}
