@@ -6,7 +6,7 @@ use native.Mathlib.Nat.{mul-le-mul-right}
 use lib.Pow.{pow-pos}
 use native.Mathlib.Omega.{arith}
 use Rattle.exact.specs.Fraction.{Fraction, whole, dyadic, _≤ᶠ_, _<ᶠ_, _+ᶠ_}
-use Rattle.exact.specs.Rotation.{Rotation, quarter, compose, quotientUp, rotation}
+use Rattle.exact.specs.Rotation.{Rotation, quarterTurn, compose, quotientUp, rotation}
 use Rattle.exact.proofs.RotationLaws.{Good, rotation-good, rotations-overlap}
 use Rattle.exact.proofs.RotationBits.{floor-exact, ceiling-exact}
 use Rattle.exact.proofs.RotationWidth.{rotation-narrow}
@@ -23,13 +23,18 @@ turn-next neg i (suc (suc (suc q))) l p = absurd (let f : ⊥ = omega arith in f
 pub turn-fourth : {A : Type 0} (neg : A → A) → ((x : A) → neg (neg x) ≡ x) → (p : A × A) → turn neg 1 (turn neg 3 p) ≡ p
 turn-fourth neg i p = rw (i (p .1))
 
--- two of them change both signs
-pub turn-half : {A : Type 0} (neg : A → A) (p : A × A) → turn neg 2 p ≡ (neg (p .0), neg (p .1))
-turn-half neg p = refl
+-- two more of them, mod 4, change both signs
+pub turn-half : {A : Type 0} (neg : A → A) → ((x : A) → neg (neg x) ≡ x) → (q : ℕ) (p : A × A) → q < 4 →
+    turn neg ((q + 2) % 4) p ≡ (neg (turn neg q p .0), neg (turn neg q p .1))
+turn-half neg i zero p l = refl
+turn-half neg i (suc zero) p l = ap (λ x. (neg (p .1), x)) (sym (i (p .0)))
+turn-half neg i (suc (suc zero)) p l = ap₂ (λ x y. (x, y)) (sym (i (p .0))) (sym (i (p .1)))
+turn-half neg i (suc (suc (suc zero))) p l = ap (λ x. (x, neg (p .0))) (sym (i (p .1)))
+turn-half neg i (suc (suc (suc (suc q)))) p l = absurd (let f : ⊥ = omega arith in f)
 
 -- one of them is what the addition formula gives: the sine of an angle and a quarter is the cosine of the angle
 pub turn-quarter : (n : ℕ) (r : Rotation) → Good n r →
-    sineOf n (compose n r (quarter n)) ≡ turn negate 1 (sineOf n r, cosineOf n r) .0
+    sineOf n (compose n r (quarterTurn n)) ≡ turn negate 1 (sineOf n r, cosineOf n r) .0
 unfolding compose
 turn-quarter n r g =
     let low : (r .sinLow * 0 + r .cosLow * 2 ^ n) / 2 ^ n ≡ r .cosLow = floor-exact (2 ^ n) _ _ (pow-pos n) (omega arith) in

@@ -64,9 +64,9 @@ product-width low high low' high' X δ η h h' one most small =
         (≤ᶠ-trans (low *ᶠ η) (X *ᶠ η) δ (*ᶠ-mono low X η η most (≤ᶠ-refl η)) small) ⟩
         low *ᶠ low' +ᶠ δ ∎ᶠ)
 
--- a quarter of ε, and a quarter of ε over X + 1
-quarterOf : Fraction → Fraction
-quarterOf ε = record { top = ε .top; bottom = 4 * ε .bottom; positive = omega (arith, ε .positive) }
+-- a fourth of ε, and a fourth of ε over X + 1
+fourthOf : Fraction → Fraction
+fourthOf ε = record { top = ε .top; bottom = 4 * ε .bottom; positive = omega (arith, ε .positive) }
 
 share : Fraction → Fraction → Fraction
 share ε X = record {
@@ -75,31 +75,31 @@ share ε X = record {
   positive = mul-pos (omega (arith, ε .positive)) (omega (arith, X .positive));
 }
 
-share-small : (ε X : Fraction) → X *ᶠ share ε X ≤ᶠ quarterOf ε
-unfolding share quarterOf
+share-small : (ε X : Fraction) → X *ᶠ share ε X ≤ᶠ fourthOf ε
+unfolding share fourthOf
 share-small ε X = omega arith
 
-two-quarters : (ε x : Fraction) → zero < ε .top → x +ᶠ quarterOf ε +ᶠ quarterOf ε <ᶠ x +ᶠ ε
-unfolding quarterOf
-two-quarters ε x pos = omega (arith, mul-pos (mul-pos pos (mul-pos (ε .positive) (ε .positive))) (mul-pos (x .positive) (x .positive)))
+two-fourths : (ε x : Fraction) → zero < ε .top → x +ᶠ fourthOf ε +ᶠ fourthOf ε <ᶠ x +ᶠ ε
+unfolding fourthOf
+two-fourths ε x pos = omega (arith, mul-pos (mul-pos pos (mul-pos (ε .positive) (ε .positive))) (mul-pos (x .positive) (x .positive)))
 
 -- the product with a member that is narrower than the share of ε
-narrow-product : {b m : ℕ} (g : RadiusEnclosure b m) (e : Enclosure) (ε X : Fraction) → zero < ε .top → g .high <ᶠ g .low +ᶠ quarterOf ε → g .low ≤ᶠ X →
+narrow-product : {b m : ℕ} (g : RadiusEnclosure b m) (e : Enclosure) (ε X : Fraction) → zero < ε .top → g .high <ᶠ g .low +ᶠ fourthOf ε → g .low ≤ᶠ X →
     e .high <ᶠ e .low +ᶠ share ε X → Proper e → times g e .high <ᶠ times g e .low +ᶠ ε
 narrow-product g e ε X pos narrow most small p =
-    ≤ᶠ-<ᶠ-trans (g .high *ᶠ e .high) (g .low *ᶠ e .low +ᶠ quarterOf ε +ᶠ quarterOf ε) (g .low *ᶠ e .low +ᶠ ε)
-    (product-width (g .low) (g .high) (e .low) (e .high) X (quarterOf ε) (share ε X) (<ᶠ-weaken (g .high) (g .low +ᶠ quarterOf ε) narrow)
+    ≤ᶠ-<ᶠ-trans (g .high *ᶠ e .high) (g .low *ᶠ e .low +ᶠ fourthOf ε +ᶠ fourthOf ε) (g .low *ᶠ e .low +ᶠ ε)
+    (product-width (g .low) (g .high) (e .low) (e .high) X (fourthOf ε) (share ε X) (<ᶠ-weaken (g .high) (g .low +ᶠ fourthOf ε) narrow)
     (<ᶠ-weaken (e .high) (e .low +ᶠ share ε X) small) (p .most) most (share-small ε X))
-    (two-quarters ε (g .low *ᶠ e .low) pos)
+    (two-fourths ε (g .low *ᶠ e .low) pos)
 
 -- For every first number, every v and every fraction above 0 there is an enclosure of the exact pair of which both products are narrower.
 pub pair-narrow : (b m v : ℕ) (ε : Fraction) → m ≤ 2 ^ b → zero < ε .top → (g : RadiusEnclosure b m) × (n : ℕ)
     × (firstProduct g n v .high <ᶠ firstProduct g n v .low +ᶠ ε) × (secondProduct g n v .high <ᶠ secondProduct g n v .low +ᶠ ε)
-unfolding quarterOf share
+unfolding fourthOf share
 pair-narrow b m v ε le pos =
     let (some, _) = radius-narrow b m (whole 1) le (omega arith) in
     let X = some .high in
-    let (g, narrow) = radius-narrow b m (quarterOf ε) le pos in
+    let (g, narrow) = radius-narrow b m (fourthOf ε) le pos in
     let (n, small) = members-narrow (share ε X) (omega (arith, mul-pos pos (X .positive))) in
     let (sine, cosine) = small n v (omega arith) in
     let (proper, proper') = members-proper n v in

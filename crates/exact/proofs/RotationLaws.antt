@@ -8,7 +8,7 @@ use native.Mathlib.Decide.{decLe}
 use native.Mathlib.Omega.{arith}
 use lib.Pow.{pow-pos, pow-add}
 use Rattle.exact.specs.Fraction.{whole, dyadic, square, _≤ᶠ_, _+ᶠ_}
-use Rattle.exact.specs.Rotation.{Rotation, rootDown, rootUp, quotientUp, none, quarter, half, compose}
+use Rattle.exact.specs.Rotation.{Rotation, rootDown, rootUp, quotientUp, none, quarterTurn, half, compose}
 use Rattle.exact.specs.Rotation.{halving, bitRotation, bitsRotation, rotation}
 use Rattle.exact.proofs.RootLaws.{lt-of-square-lt, root-down-at-most, root-up-least, root-down-le-root-up}
 use Rattle.exact.proofs.RootLaws.{root-down-scaled, root-up-scaled}
@@ -33,7 +33,7 @@ pub record Good (n : ℕ) (r : Rotation) : Type 0 where
 pub good-none : (n : ℕ) → Good n (none n)
 good-none n = omega arith
 
-good-quarter : (n : ℕ) → Good n (quarter n)
+good-quarter : (n : ℕ) → Good n (quarterTurn n)
 good-quarter n = omega arith
 
 pub good-half : (n : ℕ) {r : Rotation} → Good n r → Good n (half n r)
@@ -140,7 +140,7 @@ pub record Inside (d : ℕ) (outer inner : Rotation) : Type 0 where
 inside-none : (n d : ℕ) → Inside d (none n) (none (n + d))
 inside-none n d = rw (pow-add 2 n d) (omega arith)
 
-inside-quarter : (n d : ℕ) → Inside d (quarter n) (quarter (n + d))
+inside-quarter : (n d : ℕ) → Inside d (quarterTurn n) (quarterTurn (n + d))
 inside-quarter n d = rw (pow-add 2 n d) (omega arith)
 
 -- a root at N D of D times as much is at least, or at most, D times the root at N

@@ -40,8 +40,8 @@ abbrev pub none : ℕ → Rotation
 none n = record { cosLow = 2 ^ n; cosHigh = 2 ^ n; sinLow = 0; sinHigh = 0 }
 
 -- "The cosine of a quarter turn is 0"
-abbrev pub quarter : ℕ → Rotation
-quarter n = record { cosLow = 0; cosHigh = 0; sinLow = 2 ^ n; sinHigh = 2 ^ n }
+abbrev pub quarterTurn : ℕ → Rotation
+quarterTurn n = record { cosLow = 0; cosHigh = 0; sinLow = 2 ^ n; sinHigh = 2 ^ n }
 
 -- "half an angle has cosine root((1 + cosine)/2) and sine root((1 - cosine)/2), both non-negative"
 unfoldable pub half : ℕ → Rotation → Rotation
@@ -63,7 +63,7 @@ compose n r t = record {
 
 -- a quarter turn halved j times
 unfoldable pub halving : ℕ → ℕ → Rotation
-halving n zero = quarter n
+halving n zero = quarterTurn n
 halving n (suc j) = half n (halving n j)
 
 -- a bit of the angle: no turn where it is 0

@@ -1,9 +1,6 @@
--- What the proofs of more than one function use, demand 3 and the theorems.
-mod Ranges
-mod Signs
-mod Squares
-pub mod StepLaws
+-- Laws of the rounding and of a filled slice, demand 3, and the theorems.
+pub mod RoundingLaws
+mod RoundingMargin
 pub mod FillLaws
-pub mod Margin
 pub mod Closeness
 pub mod Theorems

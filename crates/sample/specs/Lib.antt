@@ -1,4 +1,4 @@
--- The whole-number steps from k and v to two samples, and what the calls return.
+-- The rounding of a sample, and what the calls return.
 pub mod Steps
 pub mod Sample
 pub mod Private

@@ -5,9 +5,11 @@ use Prim.Native.Nat.{ℕ, _-_, _^_}
 use lib.IntN.{ℤ, pos, negℤ}
 use lib.Count.{leadingZeros}
 use Rattle.exact.specs.Rotation.{rootDigits}
-use Rattle.sample.specs.Steps.{topBit, mantissa, coarse, rest, fine, remainder, correction, logarithm}
-use Rattle.sample.specs.Steps.{wholeRoot, radius, cosine, sine, rotation, size}
-use Rattle.sample.specs.Sample.{radiusOf, rotationOf, firstOf, secondOf, samplesOf}
+use Rattle.radius.specs.Steps.{topBit, mantissa, coarseIndex, rest, fineIndex, remainder, correction, logarithm}
+use Rattle.radius.specs.Steps.{wholeRoot, radius, radiusOf}
+use Rattle.angle.specs.Steps.{cosine, sine, cosineAt, sineAt, signedOf}
+use Rattle.sample.specs.Steps.{size}
+use Rattle.sample.specs.Sample.{firstOf, secondOf, samplesOf}
 use Rattle.tables.specs.Tables.{entryOf, logCoarse-is, logFine-is, cosCoarse-is, sinCoarse-is, cosFine-is, sinFine-is, lnTwo-is}
 use Rattle.tables.specs.Values.{logCoarseList, logFineList, cosCoarseList, sinCoarseList, cosFineList, sinFineList, lnTwoValue}
 
@@ -37,7 +39,7 @@ readings =
 -- each is accepted and gives its two samples
 pub readings-hold : map (λ (r : Reading). samplesOf (r .k) (r .v)) readings
     ≡ map (λ (r : Reading). record { number = 0; first = r .first; second = r .second }) readings
-unfolding topBit mantissa coarse rest fine remainder correction logarithm wholeRoot radius cosine sine rotation size
-    radiusOf rotationOf firstOf secondOf samplesOf entryOf leadingZeros rootDigits
+unfolding topBit mantissa coarseIndex rest fineIndex remainder correction logarithm wholeRoot radius cosine sine cosineAt sineAt size
+    radiusOf signedOf firstOf secondOf samplesOf entryOf leadingZeros rootDigits
     logCoarseList logFineList cosCoarseList sinCoarseList cosFineList sinFineList lnTwoValue
 readings-hold = rw (logCoarse-is, logFine-is, cosCoarse-is, sinCoarse-is, cosFine-is, sinFine-is, lnTwo-is) refl

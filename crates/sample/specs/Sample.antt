@@ -1,5 +1,6 @@
--- What the calls return (document 01, 'Radius', 'Angle and sample' and the table of refusals): the steps at the tables, at 48
--- bits and 11 fraction bits.
+-- What the calls return (document 01, 'Angle and sample' and the table of refusals): the steps at the tables, at 48 bits and 11
+-- fraction bits.
+use mathlib.Core.Bool.{cond}
 use mathlib.Core.List.{List, [], _∷_}
 use Prim.Native.Nat.{ℕ, _/_, _%_, _^_}
 use native.Mathlib.Omega.{arith}
@@ -7,23 +8,16 @@ use lib.Dec.{leb, ltb}
 use lib.IntN.{ℤ, pos}
 use Rattle.exact.specs.Fraction.{Fraction}
 use Rattle.sample.specs.declared.Samples.{Samples}
-use Rattle.sample.specs.Steps.{pick, numerator, radius, rotation, rounded}
-use Rattle.tables.specs.Tables.{logCoarse, logFine, cosCoarse, sinCoarse, cosFine, sinFine, lnTwo, entryOf}
-
--- F for k
-unfoldable pub radiusOf : ℕ → ℕ
-radiusOf k = radius (entryOf logCoarse 256) (entryOf logFine 0) lnTwo 48 (numerator k)
-
--- the pair's (sine, cosine) for v
-unfoldable pub rotationOf : ℕ → ℤ × ℤ
-rotationOf v = rotation (entryOf cosCoarse 0) (entryOf sinCoarse 0) (entryOf cosFine 0) (entryOf sinFine 0) v
+use Rattle.radius.specs.Steps.{width, radiusOf}
+use Rattle.angle.specs.Steps.{signedOf}
+use Rattle.sample.specs.Steps.{fractionBits, rounded}
 
 -- "The first sample takes the sine, the second the cosine."
 unfoldable pub firstOf : ℕ → ℕ → ℤ
-firstOf k v = rounded 11 (radiusOf k) (rotationOf v .0)
+firstOf k v = rounded fractionBits (radiusOf k) (signedOf v .0)
 
 unfoldable pub secondOf : ℕ → ℕ → ℤ
-secondOf k v = rounded 11 (radiusOf k) (rotationOf v .1)
+secondOf k v = rounded fractionBits (radiusOf k) (signedOf v .1)
 
 -- refusals 2 and 3: samples 0 0
 abbrev pub refused : ℕ → Samples
@@ -32,8 +26,8 @@ refused n = record { number = n; first = pos 0; second = pos 0 }
 -- The answer for k and v: refused 2 for k of 2^48 or more, else 3 for v above 65535, else 0 and the two samples.
 unfoldable pub samplesOf : ℕ → ℕ → Samples
 samplesOf k v =
-    pick (leb (2 ^ 48) k) (refused 2)
-    (pick (ltb 65535 v) (refused 3) (record { number = 0; first = firstOf k v; second = secondOf k v }))
+    cond (leb (2 ^ width) k) (refused 2)
+    (cond (ltb 65535 v) (refused 3) (record { number = 0; first = firstOf k v; second = secondOf k v }))
 
 -- Demand 3: "I hold you to the nine sixteenths"
 abbrev pub nineSixteenths : Fraction

@@ -14,10 +14,10 @@ use Rattle.sample.proofs.fill_with.Statement.{statement}
 use Rattle.sample.proofs.fill_with.Tie as tie
 
 abbrev Inv-loop : tie.InvT-loop
-Inv-loop lc lf ln2 cc sc cf sf z out₀ n i₀ out i = (i ≤ n) × (length out ≡ length out₀) × (out ≡ filled (take i z) out₀)
+Inv-loop lc lf cc sc cf sf z out₀ n i₀ out i = (i ≤ n) × (length out ≡ length out₀) × (out ≡ filled (take i z) out₀)
 
 abbrev μ-loop : tie.MeasureT-loop
-μ-loop lc lf ln2 cc sc cf sf z out₀ n i₀ out i = n - i
+μ-loop lc lf cc sc cf sf z out₀ n i₀ out i = n - i
 
 pairs-requires : tie.Need-pairs-requires Inv-loop μ-loop
 pairs-requires c κs = search needs

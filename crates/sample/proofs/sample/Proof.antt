@@ -6,6 +6,7 @@ use borrow.Author.Tests.{le-leb, lt-leb, lt-ltb, le-ltb}
 use lib.IntN.{ℤ}
 use mir.Syntax.{w16}
 use mir.Facts.{toZ-ofZ}
+use Rattle.radius.specs.Steps.{width}
 use Rattle.sample.specs.Sample.{firstOf, secondOf, samplesOf}
 use Rattle.sample.proofs.Closeness.{answer-close}
 use borrow.Author.Needs.{needs}
@@ -14,13 +15,13 @@ use Rattle.sample.proofs.sample.Tie as tie
 
 returns : tie.Need-returns
 unfolding samplesOf
-returns c = answer-close _ _ _ (rw (le-leb (2 ^ 48) (c .before .args .k) (c .if1 .taken)) refl)
+returns c = answer-close _ _ _ (rw (le-leb (2 ^ width) (c .before .args .k) (c .if1 .taken)) refl)
 
 returns-2 : tie.Need-returns-2
 unfolding samplesOf
 returns-2 c =
     answer-close _ _ _
-    (rw (lt-leb (2 ^ 48) (c .before .before .args .k) (c .before .if1 .left), lt-ltb 65535 (c .before .before .args .v) (c .if2 .taken)) refl)
+    (rw (lt-leb (2 ^ width) (c .before .before .args .k) (c .before .if1 .left), lt-ltb 65535 (c .before .before .args .v) (c .if2 .taken)) refl)
 
 log-coarse-requires : tie.Need-log-coarse-requires
 log-coarse-requires c κs = search needs
@@ -45,9 +46,6 @@ slice-aggregate-pair-of c = search needs
 
 slice-aggregate-pair-of-2 : tie.Need-slice-aggregate-pair-of-2
 slice-aggregate-pair-of-2 c = search needs
-
-ln-two-requires : tie.Need-ln-two-requires
-ln-two-requires c κs = search needs
 
 slice-aggregate-pair-of-3 : tie.Need-slice-aggregate-pair-of-3
 slice-aggregate-pair-of-3 c = search needs
@@ -77,13 +75,13 @@ apart k v h = (omega arith, omega arith)
 returns-3 : tie.Need-returns-3
 unfolding samplesOf
 returns-3 c =
-    let tested = c .before .before .before .before .before .before .before .before .before .before .before .before .before .before .before in
+    let tested = c .before .before .before .before .before .before .before .before .before .before .before .before .before .before in
     let k = tested .before .before .args .k in
     let v = tested .before .before .args .v in
     let a = apart k v (tested .if2 .left) in
     let given = c .struct-told .given in
     answer-close _ _ _
-    (rw (lt-leb (2 ^ 48) k (tested .before .if1 .left), le-ltb 65535 v (tested .if2 .left))
+    (rw (lt-leb (2 ^ width) k (tested .before .if1 .left), le-ltb 65535 v (tested .if2 .left))
     (ap₂ (λ (x y : ℤ). record { number = 0; first = x; second = y })
     (toZ-ofZ {w = w16} {z = c .before .pair-of .result .first} (record { sfits = given .0 .1 }) ∙ c .before .pair-of .ensures .0 ∙ ap₂ firstOf (a .0) (a .1))
     (toZ-ofZ {w = w16} {z = c .before .pair-of .result .second} (record { sfits = given .1 .0 .1 }) ∙ c .before .pair-of .ensures .1 ∙ ap₂ secondOf (a .0) (a .1))))
@@ -102,7 +100,6 @@ sample-spec =
     sin-fine-requires
     slice-aggregate-pair-of
     slice-aggregate-pair-of-2
-    ln-two-requires
     slice-aggregate-pair-of-3
     slice-aggregate-pair-of-4
     slice-aggregate-pair-of-5

@@ -1,0 +1,3 @@
+-- The whole-number steps from v to its signed sine and cosine, and what their margin is.
+pub mod Steps
+pub mod Margin

@@ -1,0 +1,66 @@
+-- `radius::logarithm` meets its contract: it is step 5 at what its callees return, and 48 times a number below 2^40 fits.
+use Prim.Native.Nat.{_≤_, _-_}
+use native.Mathlib.Nat.{mul-le-mul}
+use native.Mathlib.Omega.{arith}
+use Rattle.radius.specs.Steps.{width, logarithm}
+use Rattle.radius.proofs.StepLaws.{top-below}
+use borrow.Author.Needs.{needs}
+use Rattle.radius.proofs.logarithm.Statement.{statement}
+use Rattle.radius.proofs.logarithm.Tie as tie
+
+top-bit-requires : tie.Need-top-bit-requires
+top-bit-requires c κs = search needs
+
+sub-doublings : tie.Need-sub-doublings
+sub-doublings c =
+    let start = c .before .before .before in
+    let pre = start .pre in
+    let below = top-below width (start .args .m) (omega arith) (omega arith) (pre .0) (pre .1) in
+    omega (arith, below, c .top-bit .ensures .0)
+
+cast-doublings : tie.Need-cast-doublings
+cast-doublings c = search needs
+
+cell-of-requires : tie.Need-cell-of-requires
+cell-of-requires c κs = search needs
+
+entry-requires : tie.Need-entry-requires
+entry-requires c κs = search needs
+
+entry-requires-2 : tie.Need-entry-requires-2
+entry-requires-2 c κs = search needs
+
+mul-difference-or-zero : tie.Need-mul-difference-or-zero
+mul-difference-or-zero c =
+    let pre = c .before .before .before .before .before .before .pre in
+    let factor : width - c .before .before .before .top-bit .result ≤ width = omega arith in
+    omega (arith, mul-le-mul factor (pre .2))
+
+difference-or-zero-requires : tie.Need-difference-or-zero-requires
+difference-or-zero-requires c κs = search needs
+
+difference-or-zero-requires-2 : tie.Need-difference-or-zero-requires-2
+difference-or-zero-requires-2 c κs = search needs
+
+difference-or-zero-requires-3 : tie.Need-difference-or-zero-requires-3
+difference-or-zero-requires-3 c κs = search needs
+
+returns : tie.Need-returns
+unfolding logarithm
+returns c = cc
+
+pub logarithm-spec : {M : Type 1} → statement M
+logarithm-spec =
+    tie.close
+    (tie.spec
+    top-bit-requires
+    sub-doublings
+    cast-doublings
+    cell-of-requires
+    entry-requires
+    entry-requires-2
+    mul-difference-or-zero
+    difference-or-zero-requires
+    difference-or-zero-requires-2
+    difference-or-zero-requires-3
+    returns)

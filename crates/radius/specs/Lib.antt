@@ -1,0 +1,2 @@
+-- The whole-number steps from k to the radius.
+pub mod Steps

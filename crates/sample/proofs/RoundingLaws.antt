@@ -1,0 +1,69 @@
+-- Laws of the rounding: the sign apart from the size, and the largest size.
+use mathlib.Core.Path.{_≡_, refl, sym, ap, ap₂, _∙_}
+use mathlib.Core.Bool.{Bool, true, false}
+use Prim.Native.Nat.{ℕ, zero, suc, _+_, _-_, _*_, _^_, _≤_, _<_}
+use native.Mathlib.Nat.{mul-zero, zero-add, div-eq-of-lt, mul-le-mul, pow-suc}
+use native.Mathlib.Numerals.{add-one}
+use native.Mathlib.Omega.{arith}
+use lib.IntN.{ℤ, pos, negsuc, negℤ, natAbs, negℤ-negℤ}
+use lib.Pow.{pow-pos}
+use Rattle.exact.specs.Pair.{along, turn}
+use Rattle.exact.proofs.MemberLaws.{turn-keeps}
+use Rattle.radius.specs.Steps.{radiusOf}
+use Rattle.radius.proofs.Ranges.{radiusLimit, radius-of-range}
+use Rattle.angle.specs.Steps.{quarter, inQuarter, sineAt, cosineAt, signedOf}
+use Rattle.angle.proofs.Signs.{natAbs-neg}
+use Rattle.angle.proofs.Ranges.{signed-range}
+use Rattle.sample.specs.Steps.{fractionBits, size, rounded}
+use Rattle.sample.specs.Sample.{firstOf, secondOf}
+
+-- a sine or cosine of 0 gives the sample 0
+pub size-zero : (f F : ℕ) → f ≤ 49 → size f F 0 ≡ 0
+unfolding size
+size-zero f F h =
+    let e : 50 - f ≡ 49 - f + 1 = omega arith in
+    rw (mul-zero, zero-add, e, add-one, pow-suc) (div-eq-of-lt (omega (arith, pow-pos (49 - f))))
+
+-- the size is the same for G and -G, so that a change of G's sign is a change of the sample's
+pub rounded-neg : (f F : ℕ) → f ≤ 49 → (G : ℤ) → rounded f F (negℤ G) ≡ negℤ (rounded f F G)
+rounded-neg f F h (pos zero) = rw (size-zero f F h) refl
+rounded-neg f F h (pos (suc n)) = refl
+rounded-neg f F h (negsuc n) = sym (negℤ-negℤ (pos (size f F (suc n))))
+
+pub rounded-along : (f F : ℕ) → f ≤ 49 → (b : Bool) (G : ℤ) → along b (rounded f F G) ≡ rounded f F (along b G)
+rounded-along f F h true G = sym (rounded-neg f F h G)
+rounded-along f F h false G = refl
+
+-- the two samples are the sizes of the sine and the cosine, turned
+pub samples-turned : (k v : ℕ) → (firstOf k v, secondOf k v)
+    ≡ turn negℤ (quarter v) (pos (size fractionBits (radiusOf k) (sineAt (inQuarter v))), pos (size fractionBits (radiusOf k) (cosineAt (inQuarter v))))
+unfolding firstOf secondOf signedOf
+samples-turned k v =
+    let (first, second) = turn-keeps negℤ negℤ (λ G x. rounded fractionBits (radiusOf k) G ≡ x)
+    (λ G x e. rounded-neg fractionBits (radiusOf k) (omega arith) G ∙ ap negℤ e) (quarter v)
+    (pos (sineAt (inQuarter v)), pos (cosineAt (inQuarter v)))
+    (pos (size fractionBits (radiusOf k) (sineAt (inQuarter v))), pos (size fractionBits (radiusOf k) (cosineAt (inQuarter v)))) refl refl in
+    ap₂ {A = ℤ} {B = ℤ} (λ x y. (x, y)) first second
+
+pub size-of : (f F : ℕ) (G : ℤ) → natAbs (rounded f F G) ≡ size f F (natAbs G)
+size-of f F (pos g) = refl
+size-of f F (negsuc g) = natAbs-neg (pos (size f F (suc g)))
+
+-- the largest size
+pub size-range : (F G : ℕ) → F < radiusLimit → G ≤ 2 ^ 30 → size fractionBits F G ≤ 16706
+unfolding size
+size-range F G h g =
+    let product : F * G ≤ 8553727 * 2 ^ 30 = mul-le-mul {n₁ = F} {m₁ = G} {n₂ = 8553727} {m₂ = 2 ^ 30} (omega arith) g in
+    omega (arith, product)
+
+-- no sample's size is above 16706
+small : (k : ℕ) (G : ℤ) → natAbs G ≤ 2 ^ 30 → natAbs (rounded fractionBits (radiusOf k) G) ≤ 16706
+small k G h = rw (size-of fractionBits (radiusOf k) G) (size-range (radiusOf k) (natAbs G) (radius-of-range k) h)
+
+pub first-small : (k v : ℕ) → natAbs (firstOf k v) ≤ 16706
+unfolding firstOf
+first-small k v = small k (signedOf v .0) (signed-range v .0)
+
+pub second-small : (k v : ℕ) → natAbs (secondOf k v) ≤ 16706
+unfolding secondOf
+second-small k v = small k (signedOf v .1) (signed-range v .1)
