@@ -15,7 +15,7 @@ use Rattle.streams.specs.Streams.{recordNumber, firstCause, uniformsOf}
 use Rattle.streams.specs.Recurrence.{Sound, moved, repeat}
 use Rattle.streams.proofs.Theorems.{uniforms-accepted, numbers-moves, moved-sound, moved-add, numbers-bounded}
 use Rattle.sample.specs.Sample.{samplesOf, firstOf, secondOf}
-use Rattle.sample.specs.FillLaws.{samplesAt}
+use Rattle.sample.specs.Sample.{samplesAt}
 use Rattle.noise.specs.Noise.{pairOf, after, samples, lengthNumber, blockNumber}
 use Rattle.noise.specs.Private.{numbers}
 

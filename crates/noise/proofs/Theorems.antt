@@ -1,9 +1,11 @@
 -- What is proved of pairs and blocks. `Sound g` says that g is accepted and its registers have 32 bits. Runs of calls are in `Runs`.
 use mathlib.Core.Path.{_≡_, refl, ap}
+use mathlib.Core.Bool.{Bool, true, false, cond}
 use mathlib.Core.List.{List, [], _∷_, _++_, map}
-use Prim.Native.Nat.{ℕ, zero, suc, _+_, _*_, _/_, _%_, _<_}
+use Prim.Native.Nat.{ℕ, zero, suc, _+_, _*_, _/_, _%_, _≤_, _<_}
 use native.Mathlib.Omega.{arith}
-use lib.IntN.{ℤ}
+use lib.IntN.{ℤ, pos, natAbs}
+use lib.Dec.{eqb}
 use lib.ListN.{length, getD, drop, length-append}
 use borrow.Author.Tests.{eq-eqb}
 use Rattle.exact.specs.Pair.{Close}
@@ -12,10 +14,13 @@ use Rattle.streams.specs.Streams.{recordNumber, uniformsOf}
 use Rattle.streams.specs.Recurrence.{Sound}
 use Rattle.streams.proofs.Theorems.{sound-accepted, numbers-bounded}
 use Rattle.streams.proofs.Theorems.{readings as draw-readings}
+use Rattle.radius.specs.Steps.{width}
+use Rattle.sample.specs.Steps.{fractionBits}
 use Rattle.sample.specs.Sample.{nineSixteenths, samplesOf}
 use Rattle.sample.specs.Readings.{Reading, readings, readings-hold}
 use Rattle.sample.specs.declared.Samples.{Samples}
 use Rattle.sample.proofs.Closeness.{samples-close}
+use Rattle.sample.proofs.Theorems.{theorems}
 use Rattle.noise.specs.Noise.{pairOf, after, samples, lengthNumber, blockNumber, blockOf, blockHolds}
 use Rattle.noise.specs.Readings.{Check, of-samples, of-draw, AllHold, twelve}
 use Rattle.noise.proofs.Laws.{pair-is, after-add, after-sound, samples-add}
@@ -63,7 +68,21 @@ blocks-next g n m h en em =
       after-add (n / 2) (m / 2) g,
     )
 
--- ---- Every sample is that of its pair, and close
+-- ---- Every sample is that of its pair, of bounded size, and close
+
+-- No sample of a pair, refused or not, has a size above 16706.
+pub pair-sizes : (g : Generator) → (natAbs (pairOf g .first) ≤ 16706) × (natAbs (pairOf g .second) ≤ 16706)
+unfolding pairOf
+pair-sizes g = by-test (eqb (uniformsOf g .number) 0)
+  where
+    small : ℤ → Type 0
+    small z = natAbs z ≤ 16706
+
+    by-test : (t : Bool)
+        → small (cond t (samplesOf (uniformsOf g .k) (uniformsOf g .v) .first) (pos 0))
+        × small (cond t (samplesOf (uniformsOf g .k) (uniformsOf g .v) .second) (pos 0))
+    by-test true = theorems .sizes (uniformsOf g .k) (uniformsOf g .v)
+    by-test false = (omega arith, omega arith)
 
 -- Elements 2 i and 2 i + 1 are the samples of pair i.
 pub samples-first : (n i : ℕ) (g : Generator) (d : ℤ) → i < n → getD (samples n g) (2 * i) d ≡ pairOf (after i g) .first
@@ -84,12 +103,12 @@ samples-second (suc n) (suc i) g d h =
 
 -- Demand 3, of a pair: each sample is less than nine sixteenths of a unit from its member of the exact pair of its two numbers.
 pub pair-close : (g : Generator) → Sound g
-    → Close nineSixteenths 11 48 (uniformsOf g .k) (uniformsOf g .v) (pairOf g .first) (pairOf g .second)
+    → Close nineSixteenths fractionBits width (uniformsOf g .k) (uniformsOf g .v) (pairOf g .first) (pairOf g .second)
 pair-close g h = let (hk, hv) = numbers-bounded g h in rw (pair-is g h) (samples-close (uniformsOf g .k) (uniformsOf g .v) hk hv)
 
 -- Demand 3, of a block: so is every sample of a block from that of the pair in its place.
 pub block-close : (g : Generator) (old : List ℤ) (i : ℕ) (d : ℤ) → Sound g → length old % 2 ≡ 0 → i < length old / 2
-    → Close nineSixteenths 11 48 (uniformsOf (after i g) .k) (uniformsOf (after i g) .v)
+    → Close nineSixteenths fractionBits width (uniformsOf (after i g) .k) (uniformsOf (after i g) .v)
     (getD (blockHolds g old) (2 * i) d) (getD (blockHolds g old) (2 * i + 1) d)
 block-close g old i d h e l =
     rw (

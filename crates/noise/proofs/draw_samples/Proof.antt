@@ -12,7 +12,7 @@ use Rattle.streams.specs.declared.Generator.{Generator}
 use Rattle.streams.specs.Recurrence.{Sound}
 use Rattle.streams.proofs.Theorems.{sound}
 use Rattle.sample.specs.Sample.{filled}
-use Rattle.sample.specs.FillLaws.{filled-whole}
+use Rattle.sample.proofs.FillLaws.{filled-whole}
 use Rattle.noise.proofs.Laws.{length-numbers, samples-numbers}
 use Rattle.noise.proofs.draw_samples.Statement.{statement}
 use Rattle.noise.proofs.draw_samples.Tie as tie
