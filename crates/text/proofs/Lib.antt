@@ -1,0 +1,9 @@
+pub mod Decimal
+pub mod Scan
+pub mod Split
+pub mod Forms
+pub mod Plain
+pub mod Steps
+pub mod Readings
+pub mod Writing
+pub mod Theorems

@@ -1,0 +1,34 @@
+-- What the answers of the field readers say.
+use mathlib.Core.Path.{_≡_, refl, sym, ap, _∙_}
+use mathlib.Core.Bool.{Bool, true, false, cond, _&&_}
+use mathlib.Core.List.{List}
+use Prim.Native.Nat.{ℕ}
+use Rattle.text.specs.Fields.{Spells, SpellThree, numeral, value}
+use Rattle.text.specs.declared.field.Numeral.{Numeral}
+use Rattle.text.specs.declared.field.Three.{Three}
+
+module _ {t : Bool} {l : List ℕ} {r : Numeral} (s : Spells t l r) where
+  pub test-true : r .ok ≡ true → t ≡ true
+  test-true h = sym (s .ok) ∙ h
+
+  pub test-false : r .ok ≡ false → t ≡ false
+  test-false h = sym (s .ok) ∙ h
+
+  pub spelled-value : r .ok ≡ true → r .value ≡ value 0 l
+  spelled-value h = s .value ∙ ap (λ (b : Bool). cond b (value 0 l) 0) (test-true h)
+
+module _ (a b c : List ℕ) where
+  pub three-none : numeral a && numeral b && numeral c ≡ false
+      → SpellThree a b c (record { ok = false; first = 0; second = 0; third = 0 })
+  three-none e = record { ok = sym e; first = refl; second = refl; third = refl }
+
+  pub three-some : {x y z : Numeral} → Spells (numeral a) a x → x .ok ≡ true → Spells (numeral b) b y → y .ok ≡ true
+      → Spells (numeral c) c z → z .ok ≡ true
+      → SpellThree a b c (record { ok = true; first = x .value; second = y .value; third = z .value })
+  three-some p h q k r l =
+      record {
+        ok = rw (test-true p h, test-true q k, test-true r l);
+        first = spelled-value p h;
+        second = spelled-value q k;
+        third = spelled-value r l;
+      }

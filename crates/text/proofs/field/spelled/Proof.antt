@@ -1,0 +1,126 @@
+-- `text::field::spelled` meets its contract.
+use Prim.Native.Nat.{_-_, _^_, _≤_, _<_}
+use native.Mathlib.Omega.{arith}
+use mathlib.Core.Path.{sym, _∙_, _≡_}
+use lib.ListN.{length, getD, drop}
+use borrow.Author.Tests.{not-true, not-false}
+use borrow.Author.Needs.{needs}
+use Rattle.text.proofs.Decimal.{digit-range}
+use Rattle.text.specs.Fields.{all, digit, value as value·of}
+use Rattle.text.proofs.Scan.{all-stop, all-step, all-end, value-ahead, value-end, digits-below}
+use Rattle.text.proofs.field.spelled.Statement.{statement}
+use Rattle.text.proofs.field.spelled.Tie as tie
+
+abbrev Inv-loop : tie.InvT-loop
+Inv-loop part value₀ i₀ value i = (i ≤ length part) × (all digit part ≡ all digit (drop i part)) ×
+    (value·of 0 part ≡ value·of value (drop i part)) × (value < 10 ^ i)
+
+abbrev μ-loop : tie.MeasureT-loop
+μ-loop part value₀ i₀ value i = length part - i
+
+loop-holds : tie.Need-loop-holds Inv-loop μ-loop
+loop-holds c = search needs
+
+shared-slice-read-b : tie.Need-shared-slice-read-b Inv-loop μ-loop
+shared-slice-read-b c = search needs
+
+is-within-requires : tie.Need-is-within-requires Inv-loop μ-loop
+is-within-requires c κs = search needs
+
+returns : tie.Need-returns Inv-loop μ-loop
+unfolding digit
+returns c =
+    let at = c .before .before .before .before in
+    let test = c .before .before .before .loop-test .taken in
+    let e = all-stop digit _ (at .loop .i) (at .loop .inv .1) test
+    (sym (c .before .is-within .ensures) ∙ not-true _ (c .if1 .taken)) in
+    record { ok = e; value = rw (← e) }
+
+mul-value : tie.Need-mul-value Inv-loop μ-loop
+unfolding digit
+mul-value c =
+    let at = c .before .before .before .before in
+    let d = digit-range (getD (at .before .before .args .part .now) (at .loop .i) 0)
+    (sym (c .before .is-within .ensures) ∙ not-false _ (c .if1 .left)) in
+    let m = digits-below (at .loop .i) (at .loop .value) (getD (at .before .before .args .part .now) (at .loop .i) 0 - 48)
+    (omega (arith, at .before .before .pre)) (at .loop .inv .3) (omega (arith, d .1)) in
+    omega (arith, m .1)
+
+sub-value : tie.Need-sub-value Inv-loop μ-loop
+unfolding digit
+sub-value c =
+    let at = c .before .before .before .before in
+    let d = digit-range (getD (at .before .before .args .part .now) (at .loop .i) 0)
+    (sym (c .before .is-within .ensures) ∙ not-false _ (c .if1 .left)) in
+    let m = digits-below (at .loop .i) (at .loop .value) (getD (at .before .before .args .part .now) (at .loop .i) 0 - 48)
+    (omega (arith, at .before .before .pre)) (at .loop .inv .3) (omega (arith, d .1)) in
+    d .0
+
+cast-value : tie.Need-cast-value Inv-loop μ-loop
+unfolding digit
+cast-value c =
+    let at = c .before .before .before .before in
+    let d = digit-range (getD (at .before .before .args .part .now) (at .loop .i) 0)
+    (sym (c .before .is-within .ensures) ∙ not-false _ (c .if1 .left)) in
+    let m = digits-below (at .loop .i) (at .loop .value) (getD (at .before .before .args .part .now) (at .loop .i) 0 - 48)
+    (omega (arith, at .before .before .pre)) (at .loop .inv .3) (omega (arith, d .1)) in
+    omega (arith, d .1)
+
+add-value : tie.Need-add-value Inv-loop μ-loop
+unfolding digit
+add-value c =
+    let at = c .before .before .before .before in
+    let d = digit-range (getD (at .before .before .args .part .now) (at .loop .i) 0)
+    (sym (c .before .is-within .ensures) ∙ not-false _ (c .if1 .left)) in
+    let m = digits-below (at .loop .i) (at .loop .value) (getD (at .before .before .args .part .now) (at .loop .i) 0 - 48)
+    (omega (arith, at .before .before .pre)) (at .loop .inv .3) (omega (arith, d .1)) in
+    omega (arith, m .1, d .1)
+
+add-i : tie.Need-add-i Inv-loop μ-loop
+add-i c = search needs
+
+loop-less : tie.Need-loop-less Inv-loop μ-loop
+loop-less c = search needs
+
+loop-again : tie.Need-loop-again Inv-loop μ-loop
+unfolding digit
+loop-again c =
+    let at = c .before .before .before .before in
+    let d = digit-range (getD (at .before .before .args .part .now) (at .loop .i) 0)
+    (sym (c .before .is-within .ensures) ∙ not-false _ (c .if1 .left)) in
+    let m = digits-below (at .loop .i) (at .loop .value) (getD (at .before .before .args .part .now) (at .loop .i) 0 - 48)
+    (omega (arith, at .before .before .pre)) (at .loop .inv .3) (omega (arith, d .1)) in
+    let test = c .before .before .before .loop-test .taken in (
+      omega arith,
+      all-step digit _ (at .loop .i) (at .loop .inv .1) test (sym (c .before .is-within .ensures) ∙ not-false _ (c .if1 .left)),
+      at .loop .inv .2 ∙ value-ahead _ (at .loop .i) (at .loop .value) test,
+      m .0,
+    )
+
+returns-2 : tie.Need-returns-2 Inv-loop μ-loop
+returns-2 c =
+    let e = all-end digit _ (c .before .loop .i) (c .before .loop .inv .1) (c .loop-test .left) in
+    record {
+      ok = e;
+      value = rw (← e)
+          (sym (c .before .loop .inv .2 ∙ value-end _ (c .before .loop .i) (c .before .loop .value) (c .loop-test .left)));
+    }
+
+pub spelled-spec : {M : Type 1} → statement M
+spelled-spec =
+    tie.close
+    (tie.spec
+    Inv-loop
+    μ-loop
+    loop-holds
+    shared-slice-read-b
+    is-within-requires
+    returns
+    mul-value
+    sub-value
+    cast-value
+    add-value
+    add-i
+    loop-less
+    loop-again
+    returns-2)

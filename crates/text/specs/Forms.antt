@@ -1,0 +1,60 @@
+-- Forms: bytes that a line has as they stand, and # for each of its fields. The printer and the reader of a form.
+use Prim.Native.Nat.{ℕ, suc}
+use mathlib.Core.Bool.{Bool, true, false, cond, _&&_}
+use mathlib.Core.List.{List, [], _∷_, _++_, map}
+use mathlib.Core.Option.{Option, some, none}
+use lib.Dec.{leb, eqb}
+use lib.ListN.{length, getD, take, drop}
+use Rattle.text.specs.Limits.{formFields}
+use Rattle.text.specs.Ascii.{byte}
+use Rattle.text.specs.Scan.{field}
+use Rattle.text.specs.Fields.{partOf}
+use Rattle.text.specs.declared.field.Place.{Place}
+use Rattle.text.specs.declared.form.Found.{Found}
+
+-- whether a byte of a form stands for a field
+abbrev pub mark : ℕ → Bool
+mark f = eqb f (byte "#")
+
+-- the number of a form's fields
+unfoldable pub marks : List ℕ → ℕ
+marks [] = 0
+marks (f ∷ form) = cond (mark f) (suc (marks form)) (marks form)
+
+-- The printer: the form with its fields in the places marked #
+unfoldable pub printForm : List ℕ → List (List ℕ) → List ℕ
+printForm [] fields = []
+printForm (f ∷ form) fields =
+    cond (mark f) (getD fields 0 [] ++ printForm form (drop 1 fields)) (f ∷ printForm form fields)
+
+unfoldable pub startsWith : ℕ → List ℕ → Bool
+startsWith f [] = false
+startsWith f (x ∷ xs) = eqb x f
+
+unfoldable pub isEmpty : List ℕ → Bool
+isEmpty [] = true
+isEmpty (x ∷ xs) = false
+
+abbrev pub lead : List ℕ → Option (List (List ℕ)) → Option (List (List ℕ))
+lead v none = none
+lead v (some vs) = some (v ∷ vs)
+
+-- The reader: the fields of a line of that form, if it is one
+unfoldable pub readForm : List ℕ → List ℕ → Option (List (List ℕ))
+readForm [] line = cond (isEmpty line) (some []) none
+readForm (f ∷ form) line =
+    cond (mark f)
+    (lead (field line) (readForm form (drop (length (field line)) line)))
+    (cond (startsWith f line) (readForm form (drop 1 line)) none)
+
+-- the reader of forms with few enough fields
+unfoldable pub readFew : List ℕ → List ℕ → Option (List (List ℕ))
+readFew form line = cond (leb (marks form) formFields) (readForm form line) none
+
+-- the fields at places of a line
+abbrev pub fieldsAt : List ℕ → List Place → List (List ℕ)
+fieldsAt line places = map (partOf line) places
+
+-- the fields that were found: as many places as the form has, or none
+unfoldable pub foundIn : List ℕ → List ℕ → Found → Option (List (List ℕ))
+foundIn form line c = cond (c .ok) (some (fieldsAt line (take (marks form) (c .places)))) none

@@ -1,0 +1,8 @@
+pub mod Limits
+pub mod Ascii
+pub mod Scan
+pub mod Fields
+pub mod Forms
+pub mod Buffer
+pub mod Theorems
+pub mod Private

@@ -1,0 +1,14 @@
+-- The limits of fields and forms.
+use Prim.Native.Nat.{ℕ}
+
+-- "Names are 1 to 12 letters or digits"
+abbrev pub nameLength : ℕ
+nameLength = 12
+
+-- "Numbers are 1 to 10 digits"
+abbrev pub numeralLength : ℕ
+numeralLength = 10
+
+-- the fields of a form that is read
+abbrev pub formFields : ℕ
+formFields = 6

@@ -1,0 +1,184 @@
+// The fields of a line: names and numerals. Each reader takes the field as a part of the lent text.
+use crate::limits::NAME_LENGTH;
+use crate::limits::NUMERAL_LENGTH;
+ghost use Prim.Native.Nat.{_≤_};
+ghost use mathlib.Core.Path.{_≡_};
+ghost use lib.ListN.{length};
+ghost use Rattle.text.specs.Limits.{numeralLength};
+ghost use Rattle.text.specs.Fields.{within, all, digit, letterOrDigit, name, numeral, partOf, Spells, SpellThree};
+
+// Where a field stands in its line.
+pub struct Place {
+    pub from: usize,
+    pub to: usize,
+}
+
+// What stands in a field: ok where it is a numeral, and then its value.
+pub struct Numeral {
+    pub ok: bool,
+    pub value: u64,
+}
+
+// The values of three numerals, ok where all three are numerals.
+pub struct Three {
+    pub ok: bool,
+    pub first: u64,
+    pub second: u64,
+    pub third: u64,
+}
+
+// The field at a place, as a part of the line; nothing where the line is too short for it.
+pub fn part(line: &[u8], place: Place) -> &[u8]
+    ensures { λ r. ⌜ now r ≡ partOf (now (line .entry)) place ⌝ }
+{
+    let from = place.from;
+    let to = place.to;
+    if to < from {
+        return &line[0..0];
+    }
+    if line.len() < to {
+        return &line[0..0];
+    }
+    &line[from..to]
+}
+
+pub fn is_within(low: u8, high: u8, b: u8) -> bool
+    ensures { λ r. ⌜ r ≡ within low high b ⌝ }
+{
+    if b < low {
+        return false;
+    }
+    b <= high
+}
+
+pub fn is_letter_or_digit(b: u8) -> bool
+    ensures { λ r. ⌜ r ≡ letterOrDigit b ⌝ }
+{
+    if is_within(b'A', b'Z', b) {
+        return true;
+    }
+    if is_within(b'a', b'z', b) {
+        return true;
+    }
+    is_within(b'0', b'9', b)
+}
+
+fn only_letters_or_digits(part: &[u8]) -> bool
+    ensures { λ r. ⌜ r ≡ all letterOrDigit (now (part .entry)) ⌝ }
+{
+    let mut i = 0;
+    while i < part.len() {
+        if !is_letter_or_digit(part[i]) {
+            return false;
+        }
+        i += 1;
+    }
+    true
+}
+
+// Whether a field is a name.
+pub fn is_name(part: &[u8]) -> bool
+    ensures { λ r. ⌜ r ≡ name (now (part .entry)) ⌝ }
+{
+    if part.len() < 1 {
+        return false;
+    }
+    if NAME_LENGTH < part.len() {
+        return false;
+    }
+    only_letters_or_digits(part)
+}
+
+// Whether a name stands at a place.
+pub fn name_at(line: &[u8], place: Place) -> bool
+    ensures { λ r. ⌜ r ≡ name (partOf (now (line .entry)) place) ⌝ }
+{
+    is_name(part(line, place))
+}
+
+// The number that so few digits spell.
+fn spelled(part: &[u8]) -> Numeral
+    requires { ⌜ length (now part) ≤ numeralLength ⌝ }
+    ensures { λ r. ⌜ Spells (all digit (now (part .entry))) (now (part .entry)) r ⌝ }
+{
+    let mut value: u64 = 0;
+    let mut i = 0;
+    while i < part.len() {
+        let b = part[i];
+        if !is_within(b'0', b'9', b) {
+            return Numeral {
+                ok: false,
+                value: 0,
+            };
+        }
+        value = value * 10 + (b - b'0') as u64;
+        i += 1;
+    }
+    Numeral { ok: true, value }
+}
+
+// The numeral in a field: digits with no leading zero except 0 itself.
+pub fn numeral_of(part: &[u8]) -> Numeral
+    ensures { λ r. ⌜ Spells (numeral (now (part .entry))) (now (part .entry)) r ⌝ }
+{
+    let n = part.len();
+    if n < 1 {
+        return Numeral {
+            ok: false,
+            value: 0,
+        };
+    }
+    if NUMERAL_LENGTH < n {
+        return Numeral {
+            ok: false,
+            value: 0,
+        };
+    }
+    if n == 1 {
+        return spelled(part);
+    }
+    if part[0] == b'0' {
+        return Numeral {
+            ok: false,
+            value: 0,
+        };
+    }
+    spelled(part)
+}
+
+// The numeral at a place.
+pub fn numeral_at(line: &[u8], place: Place) -> Numeral
+    ensures { λ r. ⌜ Spells (numeral (partOf (now (line .entry)) place)) (partOf (now (line .entry)) place) r ⌝ }
+{
+    numeral_of(part(line, place))
+}
+
+// The numerals at three places.
+pub fn three_at(line: &[u8], first: Place, second: Place, third: Place) -> Three
+    ensures { λ r. ⌜ SpellThree (partOf (now (line .entry)) first) (partOf (now (line .entry)) second) (partOf (now (line .entry)) third) r ⌝ }
+{
+    let none = Three {
+        ok: false,
+        first: 0,
+        second: 0,
+        third: 0,
+    };
+    let x = numeral_at(line, first);
+    if !x.ok {
+        return none;
+    }
+    let y = numeral_at(line, second);
+    if !y.ok {
+        return none;
+    }
+    let z = numeral_at(line, third);
+    if !z.ok {
+        return none;
+    }
+    Three {
+        ok: true,
+        first: x.value,
+        second: y.value,
+        third: z.value,
+    }
+}
