@@ -8,18 +8,20 @@ use mathlib.Core.List.{List}
 use lib.ListN.{length, take, drop}
 use lib.Dec.{leb}
 use borrow.Author.Tests.{lt-ltb, le-ltb, le-leb, lt-leb, leb-true}
-use Rattle.job.specs.Listing.{written}
+use Rattle.text.specs.Buffer.{written}
+use Rattle.text.proofs.Writing.{written-fits}
+use Rattle.job.specs.Limits.{mostBytes}
 use Rattle.job.specs.Job.{Outcome, refused, listed, listingOf, jobOf, answerOf, bufferAfter}
-use Rattle.job.specs.Walks.{Wrote}
+use Rattle.job.specs.Private.{Wrote}
 use Rattle.job.specs.declared.JobAnswer.{JobAnswer}
 
-pub job-long : (text : List ℕ) → 60000 < length text → jobOf text ≡ refused 5 0
+pub job-long : (text : List ℕ) → mostBytes < length text → jobOf text ≡ refused 5 0
 unfolding jobOf
-job-long text h = rw (lt-ltb 60000 (length text) h)
+job-long text h = rw (lt-ltb mostBytes (length text) h)
 
-pub job-short : (text : List ℕ) → length text ≤ 60000 → jobOf text ≡ listingOf text
+pub job-short : (text : List ℕ) → length text ≤ mostBytes → jobOf text ≡ listingOf text
 unfolding jobOf
-job-short text h = rw (le-ltb 60000 (length text) h)
+job-short text h = rw (le-ltb mostBytes (length text) h)
 
 abbrev number : JobAnswer → ℕ
 number r = r .number
@@ -47,13 +49,13 @@ module _ (r : JobAnswer) (buf out : List ℕ) where
 
   pub answered-listed : (o : Outcome) → Wrote o r buf → r .number ≡ 0 → r .length ≤ length out → (out′ : List ℕ)
       → out′ ≡ written out 0 (take (r .length - 0) (drop 0 buf)) → (r ≡ answerOf o (length out)) × (out′ ≡ bufferAfter o out)
-  unfolding answerOf bufferAfter written
+  unfolding answerOf bufferAfter
   answered-listed (refused n k) w z h out′ e = absurd (omega (arith, ap number (w .0), w .1))
   answered-listed (listed bytes) w z h out′ e =
       let n : r .length - 0 ≡ length bytes = omega (arith, ap size (w .0)) in
       let t : take (r .length - 0) (drop 0 buf) ≡ bytes = ap (λ (m : ℕ). take m buf) n ∙ w .1 in
       rw (le-leb (length bytes) (length out) (omega (arith, ap size (w .0))))
-      (w .0, e ∙ rw (t, zero-add (length bytes)))
+      (w .0, e ∙ rw (t, written-fits out 0 bytes (omega (arith, ap size (w .0))), zero-add (length bytes)))
 
 -- an answer's length is within the buffer
 pub answer-fits : (o : Outcome) (room : ℕ) → answerOf o room .length ≤ room

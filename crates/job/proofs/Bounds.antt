@@ -1,8 +1,8 @@
 -- What an accepted line keeps within bounds: the lines, the sigmas and the listing's length.
-use Prim.Native.Nat.{ℕ, _≤_}
+use Prim.Native.Nat.{ℕ, _+_, _≤_}
 use native.Mathlib.Omega.{arith}
 use mathlib.Core.Path.{_≡_, refl}
-use mathlib.Core.Bool.{Bool, true, false, cond, _||_, true≢false}
+use mathlib.Core.Bool.{Bool, true, false, cond, true≢false}
 use mathlib.Core.List.{List}
 use lib.Dec.{ltb, eqb}
 use lib.IntN.{ℤ, pos, negsuc, natAbs}
@@ -14,18 +14,22 @@ use Rattle.sample.specs.Sample.{samplesOf}
 use Rattle.sample.proofs.Theorems.{theorems}
 use Rattle.noise.specs.Noise.{pairOf}
 use Rattle.noise.specs.declared.PairAnswer.{PairAnswer}
+use Rattle.job.specs.Limits.{lastLine, mostSigma, mostDistance, mostBearing}
 use Rattle.job.specs.Forms.{Form, seeds, sigma, shot, noForm, readLine}
-use Rattle.job.specs.Rounding.{noiseSize, noisyDistance, noisyBearing, noisyRow}
-use Rattle.job.specs.Refusals.{formless, misplaced, tooMany, beyond, unfit, refusal}
+use Rattle.job.specs.Rounding.{noiseSize, noisyDistance, noisyBearing}
+use Rattle.job.specs.Listing.{noisyRow}
+use Rattle.job.specs.Private.{Steady, rowLength, mostSize, mostNoise}
+use Rattle.job.specs.Refusals.{formless, misplaced, tooMany, beyond, seedNumber, refusal}
 use Rattle.job.specs.Job.{settingAfter, printed}
-use Rattle.job.specs.declared.turn.Setting.{Setting}
+use Rattle.job.specs.declared.state.Setting.{Setting}
+use Rattle.job.proofs.Refused.{or-false}
 use Rattle.job.proofs.Sizes.{noise-small}
-use Rattle.job.proofs.Writing.{row-bound}
-use Rattle.job.proofs.Taken.{names-short}
+use Rattle.job.proofs.Rows.{row-bound}
+use Rattle.job.proofs.Names.{names-short}
 
 -- the samples of a pair are those of some k and v, or 0
 abbrev Small : PairAnswer → Type 0
-Small r = (natAbs (r .first) ≤ 32768) × (natAbs (r .second) ≤ 32768)
+Small r = (natAbs (r .first) ≤ mostSize) × (natAbs (r .second) ≤ mostSize)
 
 pub pair-small : (g : Generator) → Small (pairOf g)
 unfolding pairOf
@@ -43,16 +47,16 @@ pair-small g = go (accepted g)
     go true = let s = theorems .sizes (uniformsOf g .k) (uniformsOf g .v) in (omega (arith, s .0), omega (arith, s .1))
     go false = (omega arith, omega arith)
 
-noise-bound : (σ n : ℕ) → σ ≤ 1000 → n ≤ 32768 → noiseSize σ n ≤ 16000
+noise-bound : (σ n : ℕ) → σ ≤ mostSigma → n ≤ mostSize → noiseSize σ n ≤ mostNoise
 unfolding noiseSize
 noise-bound σ n h k = omega (arith, noise-small σ n h k)
 
-distance-bound : (σ d : ℕ) (z : ℤ) → σ ≤ 1000 → d ≤ 1000000 → natAbs z ≤ 32768 → noisyDistance σ d z ≤ 1016000
+distance-bound : (σ d : ℕ) (z : ℤ) → σ ≤ mostSigma → d ≤ mostDistance → natAbs z ≤ mostSize → noisyDistance σ d z ≤ mostDistance + mostNoise
 unfolding noisyDistance
 distance-bound σ d (pos n) h k l = omega (arith, noise-bound σ n h l)
 distance-bound σ d (negsuc n) h k l = omega arith
 
-bearing-bound : (σ b : ℕ) (z : ℤ) → noisyBearing σ b z ≤ 65535
+bearing-bound : (σ b : ℕ) (z : ℤ) → noisyBearing σ b z ≤ mostBearing
 unfolding noisyBearing
 bearing-bound σ b (pos n) = omega arith
 bearing-bound σ b (negsuc n) = omega arith
@@ -63,63 +67,54 @@ pub record Accepted (k : ℕ) (x : Form) : Type 0 where
   pub placed : misplaced k x ≡ false
   pub few : tooMany k x ≡ false
   pub ranged : beyond x ≡ false
-  pub fit : unfit x ≡ false
+  pub fit : seedNumber x ≡ 0
 
 pub accepted-line : (k : ℕ) (x : Form) → refusal k x ≡ 0 → Accepted k x
 unfolding refusal
-accepted-line k x h = go (formless x) refl (misplaced k x) refl (tooMany k x) refl (beyond x) refl (unfit x) refl h
+accepted-line k x h = go (formless x) refl (misplaced k x) refl (tooMany k x) refl (beyond x) refl h
   where
     go : (a : Bool) → formless x ≡ a → (b : Bool) → misplaced k x ≡ b → (c : Bool) → tooMany k x ≡ c → (d : Bool) → beyond x
-        ≡ d → (e : Bool) → unfit x ≡ e
-        → _≡_ {A = ℕ} (cond a 6 (cond b 8 (cond c 9 (cond d 7 (cond e 1 0))))) 0 → Accepted k x
-    go true p b q c r d s e t h = absurd (omega (arith, h))
-    go false p true q c r d s e t h = absurd (omega (arith, h))
-    go false p false q true r d s e t h = absurd (omega (arith, h))
-    go false p false q false r true s e t h = absurd (omega (arith, h))
-    go false p false q false r false s true t h = absurd (omega (arith, h))
-    go false p false q false r false s false t h = record { formed = p; placed = q; few = r; ranged = s; fit = t }
-
-either-false : (p q : Bool) → p || q ≡ false → (p ≡ false) × (q ≡ false)
-either-false true q e = absurd (true≢false e)
-either-false false q e = (refl, e)
+        ≡ d → _≡_ {A = ℕ} (cond a 6 (cond b 8 (cond c 9 (cond d 7 (seedNumber x))))) 0 → Accepted k x
+    go true p b q c r d s h = absurd (omega (arith, h))
+    go false p true q c r d s h = absurd (omega (arith, h))
+    go false p false q true r d s h = absurd (omega (arith, h))
+    go false p false q false r true s h = absurd (omega (arith, h))
+    go false p false q false r false s h = record { formed = p; placed = q; few = r; ranged = s; fit = h }
 
 -- what the next line may rely on
 pub record Steps (k : ℕ) (x : Form) (s : Setting) : Type 0 where
-  pub line : k ≤ 502
-  pub distance : settingAfter x s .distance ≤ 1000
-  pub bearing : settingAfter x s .bearing ≤ 1000
-  pub row : length (printed x s) ≤ 40
+  pub line : k ≤ lastLine
+  pub steady : Steady (settingAfter x s .distance) (settingAfter x s .bearing)
+  pub row : length (printed x s) ≤ rowLength
 
-pub steps : (k : ℕ) (l : List ℕ) (s : Setting) → s .distance ≤ 1000 → s .bearing ≤ 1000 → refusal k (readLine l) ≡ 0 → Steps
+pub steps : (k : ℕ) (l : List ℕ) (s : Setting) → Steady (s .distance) (s .bearing) → refusal k (readLine l) ≡ 0 → Steps
     k (readLine l) s
 unfolding misplaced tooMany beyond formless settingAfter printed noisyRow
-steps k l s sd sb h = go (readLine l) refl (accepted-line k (readLine l) h)
+steps k l s steady h = go (readLine l) refl (accepted-line k (readLine l) h)
   where
     go : (x : Form) → readLine l ≡ x → Accepted k x → Steps k x s
     go (seeds a0 a1 a2 b0 b1 b2) e a =
         let one = eqb-true k 1 (not-false (eqb k 1) (a .placed)) in
-        record { line = omega (arith, one); distance = sd; bearing = sb; row = omega arith }
+        record { line = omega (arith, one); steady = steady; row = omega arith }
     go (sigma d b) e a =
         let two = eqb-true k 2 (not-false (eqb k 2) (a .placed)) in
-        let r = either-false (ltb 1000 d) (ltb 1000 b) (a .ranged) in
+        let r = or-false (ltb mostSigma d) (ltb mostSigma b) (a .ranged) in
         record {
           line = omega (arith, two);
-          distance = ltb-false 1000 d (r .0);
-          bearing = ltb-false 1000 b (r .1);
+          steady = record { sigma-distance = ltb-false mostSigma d (r .0); sigma-bearing = ltb-false mostSigma b (r .1) };
           row =
               omega arith;
         }
     go (shot from to d b) e a =
-        let r = either-false (ltb 1000000 d) (ltb 65535 b) (a .ranged) in
+        let r = or-false (ltb mostDistance d) (ltb mostBearing b) (a .ranged) in
         let n = names-short l from to d b e in
         let p = pair-small (s .generator) in
         record {
-          line = ltb-false 502 k (a .few);
-          distance = sd;
-          bearing = sb;
+          line = ltb-false lastLine k (a .few);
+          steady = steady;
           row =
               row-bound from to _ _ (n .0) (n .1)
-              (distance-bound (s .distance) d (pairOf (s .generator) .first) sd (ltb-false 1000000 d (r .0)) (p .0))
+              (distance-bound (s .distance) d (pairOf (s .generator) .first) (steady .sigma-distance) (ltb-false mostDistance d (r .0)) (p .0))
               (bearing-bound (s .bearing) b (pairOf (s .generator) .second));
         }
     go noForm e a = absurd (true≢false (a .formed))

@@ -8,21 +8,23 @@ use lib.Dec.{ltb, eqb}
 use lib.ListN.{length, take, drop, length-append, drop-of-length-le}
 use lib.Seq.{length-take-le}
 use borrow.Author.Tests.{eq-eqb, ne-eqb, eqb-true, lt-ltb, le-ltb}
+use Rattle.text.specs.Scan.{lines, firstLine}
+use Rattle.text.specs.Buffer.{written, placeAfter}
+use Rattle.text.proofs.Decimal.{decimal-length}
+use Rattle.text.proofs.Split.{lines-from, end-within, part-line}
+use Rattle.text.proofs.Writing.{written-length, written-take, place-fits}
+use Rattle.job.specs.Limits.{listingRoom}
 use Rattle.job.specs.Forms.{Form, readLine}
-use Rattle.job.specs.Lines.{lines, firstLine}
-use Rattle.job.specs.Listing.{header, endRow, written}
+use Rattle.job.specs.Listing.{header, endRow}
 use Rattle.job.specs.Refusals.{refusal}
 use Rattle.job.specs.Job.{Outcome, refused, listed, onto, outcome, start, listingOf, settingAfter, printed}
-use Rattle.job.specs.Turns.{turned, turnOf, bufferOf, Steady}
-use Rattle.job.specs.Walks.{Going, Ended, Wrote}
-use Rattle.job.specs.declared.turn.Setting.{Setting}
-use Rattle.job.specs.declared.turn.State.{State}
-use Rattle.job.specs.declared.turn.Turn.{Turn}
+use Rattle.job.specs.Private.{taken, takenOf, bufferOf, Going, Ended, Wrote}
+use Rattle.job.specs.declared.state.Setting.{Setting}
+use Rattle.job.specs.declared.state.State.{State}
+use Rattle.job.specs.declared.state.Taken.{Taken}
 use Rattle.job.specs.declared.walk.Walked.{Walked}
-use Rattle.job.proofs.Decimal.{decimal-length}
 use Rattle.job.proofs.Bounds.{steps}
-use Rattle.job.proofs.Split.{lines-from, end-within, part-line}
-use Rattle.job.proofs.Writing.{written-length, written-take, end-length}
+use Rattle.job.proofs.Rows.{header-length, end-length}
 
 pub onto-onto : (a b : List ℕ) (o : Outcome) → onto a (onto b o) ≡ onto (a ++ b) o
 onto-onto a b (refused n k) = refl
@@ -40,9 +42,6 @@ module _ (k : ℕ) (s : Setting) (l : List ℕ) (ls : List (List ℕ)) where
   outcome-no h = rw (ne-eqb (refusal k (readLine l)) 0 h, outcome)
 
 module _ (text out : List ℕ) (s : State) (at : ℕ) (g : Going text out s at) where
-  pub steady : Steady s (length out)
-  steady = record { sigma-distance = g .distance; sigma-bearing = g .bearing; space = omega (arith, g .used, g .line, g .room) }
-
   module _ (h : at < length text) where
     abbrev l : List ℕ
     l = firstLine (drop at text)
@@ -50,37 +49,37 @@ module _ (text out : List ℕ) (s : State) (at : ℕ) (g : Going text out s at) 
     abbrev next : ℕ
     next = at + length (firstLine (drop at text))
 
-    pub turn-yes : refusal (s .line) (readLine l) ≡ 0
-        → turnOf s (readLine l) ≡ record {
+    abbrev x : Form
+    x = readLine l
+
+    taken-yes : refusal (s .line) x ≡ 0
+        → takenOf s x out ≡ record {
           number = 0;
           next = record {
             line = s .line + 1;
-            used = s .used + length (printed (readLine l) (s .setting));
-            setting = settingAfter (readLine l) (s .setting);
+            used = placeAfter out (s .used) (printed x (s .setting));
+            setting = settingAfter x (s .setting);
           };
         }
-    unfolding turnOf turned
-    turn-yes e = rw e
+    unfolding takenOf taken
+    taken-yes e = rw e
 
-    pub going-on : refusal (s .line) (readLine l) ≡ 0 → Going text (bufferOf s (readLine l) out)
-        (turnOf s (readLine l) .next) next
+    pub going-on : refusal (s .line) x ≡ 0 → Going text (bufferOf s x out) (takenOf s x out .next) next
     unfolding bufferOf
     going-on e =
-        let t = steps (s .line) l (s .setting) (g .distance) (g .bearing) e in
-        let r : s .used + length (printed (readLine l) (s .setting)) ≤ length out = omega
-        (arith, t .row, g .used, g .line, g .room) in
-        rw (turn-yes e, e)
+        let t = steps (s .line) l (s .setting) (g .steady) e in
+        let r : s .used + length (printed x (s .setting)) ≤ length out = omega (arith, t .row, g .used, g .line, g .room) in
+        rw (taken-yes e, e, place-fits out (s .used) (printed x (s .setting)) r)
         (record {
           place = end-within text at h .1;
-          room = written-length out (s .used) (printed (readLine l) (s .setting)) r ∙ g .room;
+          room = written-length out (s .used) (printed x (s .setting)) ∙ g .room;
           line = omega (arith, t .line);
-          distance = t .distance;
-          bearing = t .bearing;
+          steady = t .steady;
           used = omega (arith, t .row, g .used);
           so-far =
               g .so-far
               ∙ rw (lines-from text at h, outcome-yes (s .line) (s .setting) l (lines (drop next text)) e, onto-onto)
-              (rw (written-take out (s .used) (printed (readLine l) (s .setting)) r));
+              (rw (written-take out (s .used) (printed x (s .setting)) r));
         })
 
     pub stopped : (refusal (s .line) (readLine l) ≡ 0 → ⊥) → listingOf text ≡ refused (refusal (s .line) (readLine l)) (s .line)
@@ -99,37 +98,35 @@ module _ (text out : List ℕ) (s : State) (at : ℕ) (g : Going text out s at) 
     pub complete : 3 ≤ s .line → listingOf text ≡ listed (take (s .used) out ++ endRow (s .line - 3))
     complete e = ended ∙ rw (le-ltb (s .line) 3 e)
 
--- the number of a turn is the line's
-turn-number : (s : State) (x : Form) → turnOf s x .number ≡ refusal (s .line) x
-unfolding turnOf turned
-turn-number s x = go (refusal (s .line) x) (eqb (refusal (s .line) x) 0) refl
+-- the number that is returned is the line's
+taken-number : (s : State) (number used : ℕ) (after : Setting) → taken s number used after .number ≡ number
+unfolding taken
+taken-number s number used after = go (eqb number 0) refl
   where
-    go : (n : ℕ) (b : Bool) → eqb n 0 ≡ b
-        → _≡_ {A = ℕ} (cond {A = Turn} b
-        (record {
-          number = 0;
-          next = record
-              { line = s .line + 1; used = s .used + length (printed x (s .setting)); setting = settingAfter x (s .setting) };
-        }) (record { number = n; next = s }) .number) n
-    go n true e = sym (eqb-true n 0 e)
-    go n false e = refl
+    go : (b : Bool) → eqb number 0 ≡ b
+        → _≡_ {A = ℕ} (cond {A = Taken} b
+        (record { number = 0; next = record { line = s .line + 1; used = used; setting = after } })
+        (record { number = number; next = s }) .number) number
+    go true e = sym (eqb-true number 0 e)
+    go false e = refl
 
--- one turn of the loop, on the part of the text from a line's start to its end
-module _ (text out : List ℕ) (s : State) (at end : ℕ) (r : Turn) (out′ : List ℕ)
+-- one round of the loop, on the part of the text from a line's start to its end
+module _ (text out : List ℕ) (s : State) (at end : ℕ) (r : Taken) (out′ : List ℕ)
     (g : Going text out s at) (h : at < length text) (e : end ≡ at + length (firstLine (drop at text)))
-    (er : r ≡ turnOf s (readLine (take (end - at) (drop at text))))
+    (er : r ≡ takenOf s (readLine (take (end - at) (drop at text))) out)
     (eo : out′ ≡ bufferOf s (readLine (take (end - at) (drop at text))) out) where
   whole-line : take (end - at) (drop at text) ≡ firstLine (drop at text)
   whole-line = rw e (part-line text at h)
 
   number : r .number ≡ refusal (s .line) (readLine (firstLine (drop at text)))
-  number = ap (λ (t : Turn). t .number) er ∙ turn-number s _ ∙ ap (λ (l : List ℕ). refusal (s .line) (readLine l)) whole-line
+  unfolding takenOf
+  number = ap (λ (t : Taken). t .number) er ∙ taken-number s _ _ _ ∙ ap (λ (l : List ℕ). refusal (s .line) (readLine l)) whole-line
 
-  pub turn-on : r .number ≡ 0 → Going text out′ (r .next) end
-  turn-on z = rw (er, eo, whole-line, e) (going-on text out s at g h (sym number ∙ z))
+  pub line-on : r .number ≡ 0 → Going text out′ (r .next) end
+  line-on z = rw (er, eo, whole-line, e) (going-on text out s at g h (sym number ∙ z))
 
-  pub turn-off : (r .number ≡ 0 → ⊥) → Ended text out′ (record { number = r .number; state = s })
-  turn-off z =
+  pub line-off : (r .number ≡ 0 → ⊥) → Ended text out′ (record { number = r .number; state = s })
+  line-off z =
       record {
         yes = λ t. absurd (z t);
         no = λ t. stopped text out s at g h (λ u. z (number ∙ u)) ∙ ap (λ (n : ℕ). refused n (s .line)) (sym number);
@@ -142,26 +139,21 @@ all-taken text out s at g h =
     record { yes = λ t. subst (λ (n : ℕ). Going text out s n) e g; no = λ t. absurd (t refl) }
 
 -- the start: the header is in the buffer
-pub header-length : length header ≡ 16
-unfolding header
-header-length = refl
-
-pub going-start : (text out out′ : List ℕ) (s : State) (used : ℕ) → length out ≡ 20480 → out′ ≡ written out 0 header → used ≡ 16
+pub going-start : (text out out′ : List ℕ) (s : State) (used : ℕ) → length out ≡ listingRoom → out′ ≡ written out 0 header → used ≡ placeAfter out 0 header
     → s ≡ record { line = 1; used = used; setting = start } → Going text out′ s 0
 unfolding start listingOf
 going-start text out out′ s used room e u f =
     let r : 0 + length header ≤ length out = omega (arith, header-length) in
-    let k : used ≡ 0 + length header = omega (arith, u, header-length) in
+    let k : used ≡ 0 + length header = u ∙ place-fits out 0 header r in
     let t : take used (written out 0 header) ≡ header = ap (λ (n : ℕ). take n (written out 0 header)) k ∙ written-take out 0
     header r in
     rw (e, f)
     (record {
       place = omega arith;
-      room = written-length out 0 header r ∙ room;
+      room = written-length out 0 header ∙ room;
       line = omega arith;
-      distance = omega arith;
-      bearing = omega arith;
-      used = omega (arith, u);
+      steady = record { sigma-distance = omega arith; sigma-bearing = omega arith };
+      used = omega (arith, k, header-length);
       so-far = ap (λ (l : List ℕ). onto l (outcome 1 start (lines text))) (sym t);
     })
 
@@ -174,18 +166,19 @@ module _ (text out : List ℕ) (s : State) (g : Going text out s (length text)) 
   pub wrote-missing : s .line < 3 → Wrote (listingOf text) (record { number = 8; line = s .line; length = 0 }) out
   wrote-missing h = rw (missing text out s (length text) g (omega arith) h) (refl, omega arith)
 
-  pub wrote-listed : (out′ : List ℕ) (n : ℕ) → 3 ≤ s .line → n ≡ s .used + length (endRow (s .line - 3)) → out′ ≡ written out
+  pub wrote-listed : (out′ : List ℕ) (n : ℕ) → 3 ≤ s .line → n ≡ placeAfter out (s .used) (endRow (s .line - 3)) → out′ ≡ written out
       (s .used) (endRow (s .line - 3))
       → Wrote (listingOf text) (record { number = 0; line = 0; length = n }) out′
   wrote-listed out′ n h e f =
       let w = written-take out (s .used) (endRow (s .line - 3)) end-room in
       let t : length (take (s .used) out) ≡ s .used = length-take-le (s .used) out (omega (arith, end-room)) in
+      let m : n ≡ s .used + length (endRow (s .line - 3)) = e ∙ place-fits out (s .used) (endRow (s .line - 3)) end-room in
       let k : n ≡ length (take (s .used) out ++ endRow (s .line - 3)) = omega
-      (arith, e, t, length-append (take (s .used) out) (endRow (s .line - 3))) in
+      (arith, m, t, length-append (take (s .used) out) (endRow (s .line - 3))) in
       rw (complete text out s (length text) g (omega arith) h) (
         ap (λ (m : ℕ). record { number = 0; line = 0; length = m }) k,
-        rw (← k, e, f) w,
-        rw (← k, e, f, written-length out (s .used) (endRow (s .line - 3)) end-room) end-room,
+        rw (← k, m, f) w,
+        rw (← k, m, f, written-length out (s .used) (endRow (s .line - 3))) end-room,
       )
 
 pub wrote-refused : (text out : List ℕ) (r : Walked) → Ended text out r → (r .number ≡ 0 → ⊥)

@@ -3,12 +3,17 @@ use Prim.Native.Nat.{ℕ, suc, _+_, _-_, _≤_, _<_}
 use native.Mathlib.Omega.{arith}
 use native.Mathlib.Nat.{add-zero}
 use mathlib.Core.Path.{_≡_, refl, sym, ap, ap₂, _∙_}
-use mathlib.Core.Bool.{Bool, true, false, cond, not, _||_, and-eq-true-iff, false≢true}
+use mathlib.Core.Bool.{Bool, true, false, cond}
 use mathlib.Core.List.{List, [], _∷_, _++_, map, append-assoc}
 use lib.Dec.{eqb, ltb}
 use lib.ListN.{length}
-use borrow.Author.Tests.{eqb-true, eqb-false, lt-ltb, le-ltb, ltb-false, not-true}
-use Rattle.job.specs.Numbers.{all, decimal}
+use borrow.Author.Tests.{eqb-true, eqb-false, lt-ltb, le-ltb, ltb-false}
+use Rattle.text.specs.Fields.{decimal}
+use Rattle.text.specs.Scan.{oneOf, lines}
+use Rattle.text.specs.Forms.{isEmpty}
+use Rattle.text.specs.Theorems.{join}
+use Rattle.text.proofs.Split.{join-lines}
+use Rattle.text.proofs.Plain.{plains, no-plains, decimal-plain, name-plain, feedForm, line-printed as line-form}
 use Rattle.job.specs.Forms.{
   Form,
   seeds,
@@ -18,124 +23,35 @@ use Rattle.job.specs.Forms.{
   seedsForm,
   sigmaForm,
   shotForm,
-  fill,
-  marks,
-  separator,
-  isEmpty,
   readLine,
   printLine,
   Printable,
 }
-use Rattle.job.specs.Lines.{before, lines}
 use Rattle.job.specs.Listing.{header, endRow}
 use Rattle.job.specs.Refusals.{formless, refusal}
 use Rattle.job.specs.Job.{Outcome, refused, listed, onto, outcome, start, listingOf, settingAfter, printed}
-use Rattle.job.specs.Theorems.{textOf, rows, Accepts, noFeed}
-use Rattle.job.specs.declared.turn.Setting.{Setting}
-use Rattle.job.proofs.Fields.{plain, allPlain, fill-mark, fill-byte, marks-mark, marks-byte}
-use Rattle.job.proofs.RoundTrip.{
-  all-weaker,
-  plains,
-  no-plains,
-  decimal-plain,
-  name-plain,
-  all-marks,
-  read-printed,
-  printed-read,
-}
+use Rattle.job.specs.Theorems.{textOf, rows, Accepts}
+use Rattle.job.specs.declared.state.Setting.{Setting}
+use Rattle.job.proofs.RoundTrip.{all-marks, read-printed, printed-read}
 use Rattle.job.proofs.Going.{outcome-yes, outcome-no}
 
--- bytes without a line feed go before the first line
-pub lines-prefix : (v m p : List ℕ) (ls : List (List ℕ)) → noFeed v ≡ true → lines m ≡ p ∷ ls → lines (v ++ m) ≡ (v ++ p) ∷ ls
-unfolding all lines before
-lines-prefix [] m p ls h e = e
-lines-prefix (x ∷ v) m p ls h e =
-    let t = and-eq-true-iff (not (eqb x 10)) (noFeed v) .0 h in
-    rw (not-true (eqb x 10) (t .0), lines-prefix v m p ls (t .1) e, lines)
-
-pub line-first : (l rest : List ℕ) → noFeed l ≡ true → lines (l ++ 10 ∷ rest) ≡ (l ++ (10 ∷ [])) ∷ lines rest
-unfolding lines
-line-first l rest h = lines-prefix l (10 ∷ rest) (10 ∷ []) (lines rest) h refl
-
-pub line-last : (x : ℕ) (l : List ℕ) → noFeed (x ∷ l) ≡ true → lines (x ∷ l) ≡ (x ∷ l) ∷ []
-unfolding all lines before
-line-last x [] h =
-    let t = and-eq-true-iff (not (eqb x 10)) true .0 h in
-    rw (not-true (eqb x 10) (t .0), lines)
-line-last x (y ∷ l) h =
-    let t = and-eq-true-iff (not (eqb x 10)) (noFeed (y ∷ l)) .0 h in
-    lines-prefix (x ∷ []) (y ∷ l) (y ∷ l) [] (and-eq-true-iff (not (eqb x 10)) true .1 (t .0, refl)) (line-last y l (t .1))
-
--- a form whose one line feed is its last byte
-unfoldable feedForm : List ℕ → Bool
-feedForm [] = false
-feedForm (f ∷ form) = cond (eqb f 10) (isEmpty form) (feedForm form)
-
--- the line feed is a separator
-feed-plain : (x : ℕ) → not (separator x) ≡ true → not (eqb x 10) ≡ true
-unfolding separator
-feed-plain x t = go (eqb x 10) (eqb x 32) (eqb x 40) (eqb x 41) t
-  where
-    go : (a b c d : Bool) → not (a || b || c || d) ≡ true → not a ≡ true
-    go true b c d t = t
-    go false b c d t = refl
-
-plain-feed : (v : List ℕ) → plain v ≡ true → noFeed v ≡ true
-unfolding plain
-plain-feed v h = all-weaker (λ b. not (separator b)) (λ b. not (eqb b 10)) feed-plain v h
-
-end-feed : (f : ℕ) (form : List ℕ) (vs : List (List ℕ)) (rest : List ℕ) → eqb f 10 ≡ true → isEmpty form ≡ true
-    → lines (fill (f ∷ form) vs ++ rest) ≡ fill (f ∷ form) vs ∷ lines rest
-unfolding isEmpty fill lines
-end-feed f [] vs rest d w = let e = eqb-true f 10 d in rw e
-end-feed f (x ∷ form) vs rest d w = absurd (false≢true w)
-
-one-feed : (f : ℕ) → eqb f 10 ≡ false → noFeed (f ∷ []) ≡ true
-unfolding all
-one-feed f d = rw d
-
--- a filled form is one line
-line-fill : (form : List ℕ) (vs : List (List ℕ)) (rest : List ℕ) → feedForm form ≡ true → allPlain vs ≡ true → length vs ≡
-    marks form
-    → lines (fill form vs ++ rest) ≡ fill form vs ∷ lines rest
-unfolding feedForm allPlain
-line-fill [] vs rest w p n = absurd (false≢true w)
-line-fill (f ∷ form) vs rest w p n = split (line-fill form) (eqb f 10) refl (eqb f 35) refl vs p n w
-  where
-    split : ((ws : List (List ℕ)) (rest : List ℕ) → feedForm form ≡ true → allPlain ws ≡ true → length ws ≡ marks form →
-        lines (fill form ws ++ rest) ≡ fill form ws ∷ lines rest)
-        → (a : Bool) → eqb f 10 ≡ a → (b : Bool) → eqb f 35 ≡ b → (vs : List (List ℕ)) → allPlain vs ≡ true → length vs ≡
-        marks (f ∷ form)
-        → cond a (isEmpty form) (feedForm form) ≡ true → lines (fill (f ∷ form) vs ++ rest) ≡ fill (f ∷ form) vs ∷ lines rest
-    split ih true d b e vs p n w = end-feed f form vs rest d w
-    split ih false d true e [] p n w = let m = rw (marks-mark f form e) at n in absurd (omega (arith, m))
-    split ih false d true e (v ∷ vs) p n w =
-        let t = and-eq-true-iff (plain v) (allPlain vs) .0 p in
-        let m : length vs ≡ marks form = omega (arith, n ∙ marks-mark f form e) in
-        rw (fill-mark f form (v ∷ vs) e, append-assoc v (fill form vs) rest)
-        (lines-prefix v (fill form vs ++ rest) (fill form vs) (lines rest) (plain-feed v (t .0)) (ih vs rest w (t .1) m))
-    split ih false d false e vs p n w =
-        rw (fill-byte f form vs e)
-        (lines-prefix (f ∷ []) (fill form vs ++ rest) (fill form vs) (lines rest) (one-feed f d)
-        (ih vs rest w p (n ∙ marks-byte f form e)))
-
 all-feed : (feedForm seedsForm ≡ true) × (feedForm sigmaForm ≡ true) × (feedForm shotForm ≡ true)
-unfolding feedForm isEmpty seedsForm sigmaForm shotForm
+unfolding feedForm isEmpty oneOf seedsForm sigmaForm shotForm
 all-feed = (refl, refl, refl)
 
 -- a line that can be printed is one line
 line-printed : (x : Form) (rest : List ℕ) → Printable x → lines (printLine x ++ rest) ≡ printLine x ∷ lines rest
 unfolding printLine Printable
 line-printed (seeds a0 a1 a2 b0 b1 b2) rest h =
-    line-fill seedsForm (decimal a0 ∷ decimal a1 ∷ decimal a2 ∷ decimal b0 ∷ decimal b1 ∷ decimal b2 ∷ []) rest (all-feed .0)
+    line-form seedsForm (decimal a0 ∷ decimal a1 ∷ decimal a2 ∷ decimal b0 ∷ decimal b1 ∷ decimal b2 ∷ []) rest (all-feed .0)
     (plains _ _ (decimal-plain a0) (plains _ _ (decimal-plain a1) (plains _ _ (decimal-plain a2)
     (plains _ _ (decimal-plain b0) (plains _ _ (decimal-plain b1) (plains _ _ (decimal-plain b2) no-plains))))))
     (all-marks .0)
 line-printed (sigma d b) rest h =
-    line-fill sigmaForm (decimal d ∷ decimal b ∷ []) rest (all-feed .1)
+    line-form sigmaForm (decimal d ∷ decimal b ∷ []) rest (all-feed .1)
     (plains _ _ (decimal-plain d) (plains _ _ (decimal-plain b) no-plains)) (all-marks .1)
 line-printed (shot from to d b) rest h =
-    line-fill shotForm (from ∷ to ∷ decimal d ∷ decimal b ∷ []) rest (all-feed .2)
+    line-form shotForm (from ∷ to ∷ decimal d ∷ decimal b ∷ []) rest (all-feed .2)
     (plains _ _ (name-plain from (h .0))
     (plains _ _ (name-plain to (h .1)) (plains _ _ (decimal-plain d) (plains _ _ (decimal-plain b) no-plains))))
     (all-marks .2)
@@ -213,24 +129,6 @@ outcome-missing (x ∷ xs) k s h n =
     ∙ rw e (onto-refused (printed x s) _ _ _ (outcome-missing xs (k + 1) (settingAfter x s) (h .2) (omega (arith, n)))))
 
 -- The other way: lines that are listed are accepted lines
-join : List (List ℕ) → List ℕ
-join [] = []
-join (l ∷ ls) = l ++ join ls
-
-join-before : (x : ℕ) (ls : List (List ℕ)) → join (before x ls) ≡ x ∷ join ls
-unfolding join before
-join-before x [] = refl
-join-before x (l ∷ ls) = refl
-
-join-lines : (text : List ℕ) → join (lines text) ≡ text
-unfolding join lines
-join-lines [] = refl
-join-lines (x ∷ l) = go (eqb x 10) (join-lines l)
-  where
-    go : (b : Bool) → join (lines l) ≡ l → join (cond b ((x ∷ []) ∷ lines l) (before x (lines l))) ≡ x ∷ l
-    go true ih = ap (λ (m : List ℕ). x ∷ m) ih
-    go false ih = join-before x (lines l) ∙ ap (λ (m : List ℕ). x ∷ m) ih
-
 join-text : (xs : List Form) → textOf xs ≡ join (map printLine xs)
 unfolding join textOf
 join-text [] = refl

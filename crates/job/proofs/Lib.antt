@@ -1,14 +1,9 @@
-pub mod Decimal
-pub mod Fields
 pub mod RoundTrip
-pub mod Scan
-pub mod Cuts
 pub mod Reading
-pub mod Writing
+pub mod Rows
 pub mod Sizes
 pub mod Refused
-pub mod Split
-pub mod Taken
+pub mod Names
 pub mod Bounds
 pub mod Going
 pub mod Answered

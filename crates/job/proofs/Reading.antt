@@ -1,59 +1,28 @@
 -- From the fields of a line to the line once read.
-use Prim.Native.Nat.{ℕ, _+_, _<_}
+use Prim.Native.Nat.{ℕ, _<_, _≤_}
 use native.Mathlib.Omega.{arith}
 use mathlib.Core.Path.{_≡_, sym, ap, _∙_}
-use mathlib.Core.Bool.{Bool, true, false, cond, _&&_, false≢true}
+use mathlib.Core.Bool.{Bool, true, false, cond, _&&_}
 use mathlib.Core.List.{List, []}
 use mathlib.Core.Option.{some, none}
 use lib.Dec.{leb·zero}
 use lib.ListN.{length, getD, take, List·getD-map}
 use lib.Seq.{getD-take}
-use Rattle.job.specs.Numbers.{name, numeral, value}
-use Rattle.job.specs.Forms.{cut, marks, seeds, sigma, shot, noForm, seedsOf, sigmaOf, shotOf}
-use Rattle.job.specs.Answers.{Spells, SpellThree, partOf, partAt, fieldsAt, fieldsOf}
-use Rattle.job.specs.declared.line.Cutting.{Cutting}
-use Rattle.job.specs.declared.field.Numeral.{Numeral}
+use Rattle.text.specs.Fields.{name, numeral, value, partOf}
+use Rattle.text.specs.Forms.{readForm, readFew, marks, fieldsAt, foundIn}
+use Rattle.text.specs.declared.form.Found.{Found}
+use Rattle.text.proofs.Steps.{few-some}
+use Rattle.job.specs.Forms.{seeds, sigma, shot, noForm, seedsOf, sigmaOf, shotOf}
 
--- what an accepted and a refused field say
-module _ {t : Bool} {l : List ℕ} {r : Numeral} (s : Spells t l r) where
-  pub test-true : r .ok ≡ true → t ≡ true
-  test-true h = sym (s .ok) ∙ h
-
-  pub test-false : r .ok ≡ false → t ≡ false
-  test-false h = sym (s .ok) ∙ h
-
-  pub spelled-value : r .ok ≡ true → r .value ≡ value 0 l
-  spelled-value h = s .value ∙ ap (λ (b : Bool). cond b (value 0 l) 0) (test-true h)
-
-module _ (line : List ℕ) (c : Cutting) (i : ℕ) where
-  pub three-none : numeral (partAt line c i) && numeral (partAt line c (i + 1)) && numeral (partAt line c (i + 2)) ≡ false
-      → SpellThree line c i (record { ok = false; first = 0; second = 0; third = 0 })
-  three-none e =
-      record {
-        ok = sym e;
-        first = λ h. absurd (false≢true h);
-        second = λ h. absurd (false≢true h);
-        third = λ h. absurd (false≢true h);
-      }
-
-  pub three-some : (x y z : Numeral)
-      → Spells (numeral (partAt line c i)) (partAt line c i) x → x .ok ≡ true
-      → Spells (numeral (partAt line c (i + 1))) (partAt line c (i + 1)) y → y .ok ≡ true
-      → Spells (numeral (partAt line c (i + 2))) (partAt line c (i + 2)) z → z .ok ≡ true
-      → SpellThree line c i (record { ok = true; first = x .value; second = y .value; third = z .value })
-  three-some x y z p a q b r d =
-      record {
-        ok = rw (test-true p a, test-true q b, test-true r d);
-        first = λ h. spelled-value p a;
-        second = λ h. spelled-value q b;
-        third = λ h. spelled-value r d;
-      }
+-- the field at the i-th place
+abbrev pub partAt : List ℕ → Found → ℕ → List ℕ
+partAt line c i = partOf line (getD (c .places) i (record { from = 0; to = 0 }))
 
 no-place : (line : List ℕ) → [] ≡ partOf line (record { from = 0; to = 0 })
 unfolding partOf
 no-place line = rw (leb·zero (length line))
 
-module _ (line : List ℕ) (c : Cutting) where
+module _ (line : List ℕ) (c : Found) where
   -- the fields that were found, place by place
   field-place : (n i : ℕ) → i < n → getD (fieldsAt line (take n (c .places))) i [] ≡ partAt line c i
   field-place n i h =
@@ -91,12 +60,12 @@ module _ (line : List ℕ) (c : Cutting) where
             (omega arith),
       )
 
--- what a cutting found, by its form
-module _ (form line : List ℕ) (c : Cutting) (e : cut form line ≡ fieldsOf line (marks form) c) where
-  pub found : (n : ℕ) → n ≡ marks form → c .ok ≡ true → cut form line ≡ some (fieldsAt line (take n (c .places)))
-  unfolding fieldsOf
-  found n k h = e ∙ rw (h, ← k)
+-- what was found of a form with few enough fields
+module _ (form line : List ℕ) (c : Found) (e : readFew form line ≡ foundIn form line c) (few : marks form ≤ 6) where
+  pub found : (n : ℕ) → n ≡ marks form → c .ok ≡ true → readForm form line ≡ some (fieldsAt line (take n (c .places)))
+  unfolding foundIn
+  found n k h = sym (few-some form line few) ∙ e ∙ rw (h, ← k)
 
-  pub missed : c .ok ≡ false → cut form line ≡ none
-  unfolding fieldsOf
-  missed h = e ∙ rw h
+  pub missed : c .ok ≡ false → readForm form line ≡ none
+  unfolding foundIn
+  missed h = sym (few-some form line few) ∙ e ∙ rw h

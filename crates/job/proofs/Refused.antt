@@ -1,91 +1,112 @@
 -- The number of a line, by what is known of it.
 use Prim.Native.Nat.{ℕ, _≤_, _<_}
+use native.Mathlib.Omega.{arith}
 use mathlib.Core.Path.{_≡_, refl}
 use mathlib.Core.Bool.{Bool, true, false, not, _||_, true≢false}
 use mathlib.Core.List.{List}
 use lib.Dec.{ltb}
 use borrow.Author.Tests.{lt-ltb, le-ltb, eq-eqb, ne-eqb, ltb-false}
-use Rattle.streams.specs.Streams.{seedOf}
+use Rattle.streams.specs.Streams.{accepted, pick, seedOf}
+use Rattle.streams.specs.declared.Generator.{Generator}
+use Rattle.streams.specs.declared.Seeded.{Seeded}
+use Rattle.job.specs.Limits.{lastLine, mostSeed, mostSigma, mostDistance, mostBearing}
 use Rattle.job.specs.Forms.{Form, seeds, sigma, shot, noForm}
-use Rattle.job.specs.Refusals.{formless, misplaced, tooMany, beyond, unfit, refusal}
+use Rattle.job.specs.Refusals.{formless, misplaced, tooMany, beyond, seedNumber, refusal}
 
 pub none-6 : (k : ℕ) → refusal k noForm ≡ 6
 unfolding refusal formless
 none-6 k = refl
 
-module _ (k a0 a1 a2 b0 b1 b2 : ℕ) where
+pub or-false : (p q : Bool) → p || q ≡ false → (p ≡ false) × (q ≡ false)
+or-false true q e = absurd (true≢false e)
+or-false false q e = (refl, e)
+
+-- three numbers that are not beyond their range
+three-within : (a b c : ℕ) → ltb mostSeed a || ltb mostSeed b || ltb mostSeed c ≡ false → (a ≤ mostSeed) × (b ≤ mostSeed) ×
+    (c ≤ mostSeed)
+three-within a b c h =
+    let t = or-false (ltb mostSeed a || ltb mostSeed b) (ltb mostSeed c) h in
+    let u = or-false (ltb mostSeed a) (ltb mostSeed b) (t .0) in
+    (ltb-false _ _ (u .0), ltb-false _ _ (u .1), ltb-false _ _ (t .1))
+
+module _ (a0 a1 a2 b0 b1 b2 : ℕ) where
   abbrev x : Form
   x = seeds a0 a1 a2 b0 b1 b2
 
-  pub seeds-8 : (k ≡ 1 → ⊥) → refusal k x ≡ 8
-  unfolding refusal formless misplaced
-  seeds-8 h = rw (ne-eqb k 1 h)
-
-  pub seeds-7 : k ≡ 1 → beyond x ≡ true → refusal k x ≡ 7
-  unfolding refusal formless misplaced tooMany
-  seeds-7 h e = rw (eq-eqb k 1 h, e)
-
-  pub seeds-1 : k ≡ 1 → beyond x ≡ false → (seedOf a0 a1 a2 b0 b1 b2 .number ≡ 0 → ⊥) → refusal k x ≡ 1
-  unfolding refusal formless misplaced tooMany unfit
-  seeds-1 h e f = rw (eq-eqb k 1 h, e, ne-eqb (seedOf a0 a1 a2 b0 b1 b2 .number) 0 f)
-
-  pub seeds-0 : k ≡ 1 → beyond x ≡ false → seedOf a0 a1 a2 b0 b1 b2 .number ≡ 0 → refusal k x ≡ 0
-  unfolding refusal formless misplaced tooMany unfit
-  seeds-0 h e f = rw (eq-eqb k 1 h, e, eq-eqb (seedOf a0 a1 a2 b0 b1 b2 .number) 0 f)
-
   abbrev most : ℕ → Bool
-  most n = ltb 4294967295 n
+  most n = ltb mostSeed n
 
-  pub beyond-a : most a0 || most a1 || most a2 ≡ true → beyond x ≡ true
+  -- the first three or the last three
+  pub beyond-first : most a0 || most a1 || most a2 ≡ true → beyond x ≡ true
   unfolding beyond
-  beyond-a e = rw e
+  beyond-first e = rw e
 
-  pub beyond-b : most a0 || most a1 || most a2 ≡ false → most b0 || most b1 || most b2 ≡ true → beyond x ≡ true
+  pub beyond-last : most a0 || most a1 || most a2 ≡ false → beyond x ≡ most b0 || most b1 || most b2
   unfolding beyond
-  beyond-b e f = rw (e, f)
+  beyond-last e = rw e
 
-  pub within : most a0 || most a1 || most a2 ≡ false → most b0 || most b1 || most b2 ≡ false → beyond x ≡ false
+  pub seeds-within : beyond x ≡ false → ((a0 ≤ mostSeed) × (a1 ≤ mostSeed) × (a2 ≤ mostSeed)) ×
+      ((b0 ≤ mostSeed) × (b1 ≤ mostSeed) × (b2 ≤ mostSeed))
   unfolding beyond
-  within e f = rw (e, f)
+  seeds-within h =
+      let t = or-false (most a0 || most a1 || most a2) (most b0 || most b1 || most b2) h in
+      (three-within a0 a1 a2 (t .0), three-within b0 b1 b2 (t .1))
 
--- three numbers that are not beyond their range
-pub three-within : (a b c : ℕ) → ltb 4294967295 a || ltb 4294967295 b || ltb 4294967295 c ≡ false → (a ≤ 4294967295) ×
-    (b ≤ 4294967295) × (c ≤ 4294967295)
-three-within a b c h =
-    let t = or-false-parts (ltb 4294967295 a || ltb 4294967295 b) (ltb 4294967295 c) h in
-    let u = or-false-parts (ltb 4294967295 a) (ltb 4294967295 b) (t .0) in
-    (ltb-false _ _ (u .0), ltb-false _ _ (u .1), ltb-false _ _ (t .1))
-  where
-    or-false-parts : (p q : Bool) → p || q ≡ false → (p ≡ false) × (q ≡ false)
-    or-false-parts true q e = absurd (true≢false e)
-    or-false-parts false q e = (refl, e)
+  module _ (k : ℕ) where
+    pub seeds-8 : (k ≡ 1 → ⊥) → refusal k x ≡ 8
+    unfolding refusal formless misplaced
+    seeds-8 h = rw (ne-eqb k 1 h)
+
+    pub seeds-7 : k ≡ 1 → beyond x ≡ true → refusal k x ≡ 7
+    unfolding refusal formless misplaced tooMany
+    seeds-7 h e = rw (eq-eqb k 1 h, e)
+
+    pub seeds-number : k ≡ 1 → beyond x ≡ false → refusal k x ≡ seedOf a0 a1 a2 b0 b1 b2 .number
+    unfolding refusal formless misplaced tooMany seedNumber
+    seeds-number h e = rw (eq-eqb k 1 h, e)
 
 module _ (k d b : ℕ) where
   pub sigma-8 : (k ≡ 2 → ⊥) → refusal k (sigma d b) ≡ 8
   unfolding refusal formless misplaced
   sigma-8 h = rw (ne-eqb k 2 h)
 
-  pub sigma-7 : k ≡ 2 → ltb 1000 d || ltb 1000 b ≡ true → refusal k (sigma d b) ≡ 7
+  pub sigma-7 : k ≡ 2 → ltb mostSigma d || ltb mostSigma b ≡ true → refusal k (sigma d b) ≡ 7
   unfolding refusal formless misplaced tooMany beyond
   sigma-7 h e = rw (eq-eqb k 2 h, e)
 
-  pub sigma-0 : k ≡ 2 → d ≤ 1000 → b ≤ 1000 → refusal k (sigma d b) ≡ 0
-  unfolding refusal formless misplaced tooMany beyond unfit
-  sigma-0 h e f = rw (eq-eqb k 2 h, le-ltb 1000 d e, le-ltb 1000 b f)
+  pub sigma-0 : k ≡ 2 → d ≤ mostSigma → b ≤ mostSigma → refusal k (sigma d b) ≡ 0
+  unfolding refusal formless misplaced tooMany beyond seedNumber
+  sigma-0 h e f = rw (eq-eqb k 2 h, le-ltb mostSigma d e, le-ltb mostSigma b f)
 
   module _ (from to : List ℕ) where
     pub shot-8 : k < 3 → refusal k (shot from to d b) ≡ 8
     unfolding refusal formless misplaced
     shot-8 h = rw (lt-ltb k 3 h)
 
-    pub shot-9 : 3 ≤ k → 502 < k → refusal k (shot from to d b) ≡ 9
+    pub shot-9 : 3 ≤ k → lastLine < k → refusal k (shot from to d b) ≡ 9
     unfolding refusal formless misplaced tooMany
-    shot-9 h e = rw (le-ltb k 3 h, lt-ltb 502 k e)
+    shot-9 h e = rw (le-ltb k 3 h, lt-ltb lastLine k e)
 
-    pub shot-7 : 3 ≤ k → k ≤ 502 → ltb 1000000 d || ltb 65535 b ≡ true → refusal k (shot from to d b) ≡ 7
+    pub shot-7 : 3 ≤ k → k ≤ lastLine → ltb mostDistance d || ltb mostBearing b ≡ true → refusal k (shot from to d b) ≡ 7
     unfolding refusal formless misplaced tooMany beyond
-    shot-7 h e f = rw (le-ltb k 3 h, le-ltb 502 k e, f)
+    shot-7 h e f = rw (le-ltb k 3 h, le-ltb lastLine k e, f)
 
-    pub shot-0 : 3 ≤ k → k ≤ 502 → d ≤ 1000000 → b ≤ 65535 → refusal k (shot from to d b) ≡ 0
-    unfolding refusal formless misplaced tooMany beyond unfit
-    shot-0 h e f g = rw (le-ltb k 3 h, le-ltb 502 k e, le-ltb 1000000 d f, le-ltb 65535 b g)
+    pub shot-0 : 3 ≤ k → k ≤ lastLine → d ≤ mostDistance → b ≤ mostBearing → refusal k (shot from to d b) ≡ 0
+    unfolding refusal formless misplaced tooMany beyond seedNumber
+    shot-0 h e f g = rw (le-ltb k 3 h, le-ltb lastLine k e, le-ltb mostDistance d f, le-ltb mostBearing b g)
+
+-- seeding does not answer with a job's own number for a listing that is too long
+pub seed-not-10 : (x : Form) → seedNumber x ≡ 10 → ⊥
+unfolding seedNumber seedOf
+seed-not-10 (seeds a0 a1 a2 b0 b1 b2) e = either (accepted (g a0 a1 a2 b0 b1 b2)) e
+  where
+    g : ℕ → ℕ → ℕ → ℕ → ℕ → ℕ → Generator
+    g a0 a1 a2 b0 b1 b2 = record { a = record { s0 = a0; s1 = a1; s2 = a2 }; b = record { s0 = b0; s1 = b1; s2 = b2 } }
+
+    either : (t : Bool) → pick {A = Seeded} t (record { number = 0; next = g a0 a1 a2 b0 b1 b2 })
+        (record { number = 1; next = g 0 0 0 0 0 0 }) .number ≡ 10 → ⊥
+    either true e = omega (arith, e)
+    either false e = omega (arith, e)
+seed-not-10 (sigma d b) e = omega (arith, e)
+seed-not-10 (shot from to d b) e = omega (arith, e)
+seed-not-10 noForm e = omega (arith, e)

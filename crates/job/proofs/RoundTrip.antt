@@ -1,17 +1,29 @@
 -- The three forms mean what document 01 shows: a line that is printed is read as itself, and a line that is read is the one
 -- that would be printed.
-use Prim.Native.Nat.{ℕ, zero, suc, _+_, _-_, _*_, _^_, _≤_, _<_}
+use Prim.Native.Nat.{ℕ, zero, suc, _+_}
 use native.Mathlib.Omega.{arith}
-use native.Mathlib.Nat.{mul-le-mul-right, pow-le-pow-right, pow-succ'}
 use mathlib.Core.Path.{_≡_, refl, sym, ap, _∙_}
-use mathlib.Core.Bool.{Bool, true, false, cond, not, _&&_, _||_, and-eq-true-iff, false≢true}
+use mathlib.Core.Bool.{Bool, true, false, cond, _&&_, and-eq-true-iff}
 use mathlib.Core.List.{List, [], _∷_}
 use mathlib.Core.Option.{Option, some, none}
-use lib.Dec.{eqb, leb, ltb}
+use lib.Dec.{eqb}
 use lib.ListN.{length, getD, drop, drop-of-length-le}
 use lib.Seq.{drop-cons}
-use borrow.Author.Tests.{ne-eqb, leb-true}
-use Rattle.job.specs.Numbers.{all, digit, letter, letterOrDigit, name, numeral, value, decimal}
+use Rattle.text.specs.Fields.{name, numeral, value, decimal}
+use Rattle.text.specs.Scan.{oneOf}
+use Rattle.text.specs.Forms.{printForm, marks, readForm}
+use Rattle.text.specs.Theorems.{allPlain, formed, startsSeparate}
+use Rattle.text.proofs.Decimal.{numeral-decimal, value-decimal, decimal-value, numeral-below}
+use Rattle.text.proofs.Plain.{plains, no-plains, decimal-plain, name-plain}
+use Rattle.text.proofs.Forms.{
+  read-byte,
+  print-byte,
+  starts-same,
+  starts-other,
+  read-count,
+  read-printed as form-read,
+  printed-read as form-printed,
+}
 use Rattle.job.specs.Forms.{
   Form,
   seeds,
@@ -21,10 +33,6 @@ use Rattle.job.specs.Forms.{
   seedsForm,
   sigmaForm,
   shotForm,
-  fill,
-  marks,
-  separator,
-  cut,
   seedsOf,
   sigmaOf,
   shotOf,
@@ -32,124 +40,53 @@ use Rattle.job.specs.Forms.{
   printLine,
   Printable,
 }
-use Rattle.job.proofs.Decimal.{numeral-decimal, value-decimal, decimal-value, decimal-digits, numeral-is, digit-range}
-use Rattle.job.proofs.Fields.{
-  plain,
-  allPlain,
-  formed,
-  startsSeparate,
-  cut-byte,
-  fill-byte,
-  starts-same,
-  starts-other,
-  cut-fill,
-  fill-cut,
-  cut-count,
-}
 
--- letters and digits are no separators
-above : (x : ℕ) → 48 ≤ x → not (separator x) ≡ true
-unfolding separator
-above x h = rw (
-  ne-eqb x 10 (λ e. omega (arith, e)),
-  ne-eqb x 32 (λ e. omega (arith, e)),
-  ne-eqb x 40
-      (λ e. omega (arith, e)),
-  ne-eqb x 41 (λ e. omega (arith, e)),
-)
-
-pub all-weaker : (p q : ℕ → Bool) → ((x : ℕ) → p x ≡ true → q x ≡ true) → (l : List ℕ) → all p l ≡ true → all q l ≡ true
-unfolding all
-all-weaker p q f [] h = refl
-all-weaker p q f (x ∷ l) h =
-    let t = and-eq-true-iff (p x) (all p l) .0 h in
-    and-eq-true-iff (q x) (all q l) .1 (f x (t .0), all-weaker p q f l (t .1))
-
-letter-above : (x : ℕ) → letterOrDigit x ≡ true → 48 ≤ x
-unfolding letterOrDigit letter digit
-letter-above x h = first (leb 65 x) refl (leb 97 x) refl h
-  where
-    last : (c : Bool) → leb 48 x ≡ c → c && leb x 57 ≡ true → 48 ≤ x
-    last true r h = leb-true 48 x r
-    last false r h = absurd (false≢true h)
-
-    low : (b : Bool) → leb 97 x ≡ b → b && leb x 122 || leb 48 x && leb x 57 ≡ true → 48 ≤ x
-    low true q h = let t = leb-true 97 x q in omega arith
-    low false q h = last (leb 48 x) refl h
-
-    first : (a : Bool) → leb 65 x ≡ a → (b : Bool) → leb 97 x ≡ b → a && leb x 90 || b && leb x 122 || leb 48 x && leb x 57 ≡
-        true → 48 ≤ x
-    first true p b q h = let t = leb-true 65 x p in omega arith
-    first false p true q h = let t = leb-true 97 x q in omega arith
-    first false p false q h = last (leb 48 x) refl h
-
-digits-plain : (v : List ℕ) → all digit v ≡ true → plain v ≡ true
-unfolding plain
-digits-plain v h = all-weaker digit (λ b. not (separator b)) (λ x t. above x (digit-range x t .0)) v h
-
-pub name-plain : (v : List ℕ) → name v ≡ true → plain v ≡ true
-unfolding plain name
-name-plain v h =
-    let t = and-eq-true-iff (ltb 0 (length v) && leb (length v) 12) (all letterOrDigit v) .0 h in
-    all-weaker letterOrDigit (λ b. not (separator b)) (λ x t. above x (letter-above x t)) v (t .1)
-
-pub decimal-plain : (n : ℕ) → plain (decimal n) ≡ true
-decimal-plain n = digits-plain (decimal n) (decimal-digits n)
-
--- how a line is read, once it is known which form cuts it
+-- how a line is read, once it is known which form it has
 module _ (l : List ℕ) where
-  pub read-seeds : (vs : List (List ℕ)) → cut seedsForm l ≡ some vs → readLine l ≡ seedsOf vs
+  pub read-seeds : (vs : List (List ℕ)) → readForm seedsForm l ≡ some vs → readLine l ≡ seedsOf vs
   unfolding readLine
   read-seeds vs e = rw (e, readLine)
 
-  pub read-sigma : (vs : List (List ℕ)) → cut seedsForm l ≡ none → cut sigmaForm l ≡ some vs → readLine l ≡ sigmaOf vs
+  pub read-sigma : (vs : List (List ℕ)) → readForm seedsForm l ≡ none → readForm sigmaForm l ≡ some vs → readLine l ≡ sigmaOf vs
   unfolding readLine
   read-sigma vs p e = rw (p, e, readLine)
 
-  pub read-shot : (vs : List (List ℕ)) → cut seedsForm l ≡ none → cut sigmaForm l ≡ none → cut shotForm l ≡ some vs →
+  pub read-shot : (vs : List (List ℕ)) → readForm seedsForm l ≡ none → readForm sigmaForm l ≡ none → readForm shotForm l ≡ some vs →
       readLine l ≡ shotOf vs
   unfolding readLine
   read-shot vs p q e = rw (p, q, e, readLine)
 
-  pub read-none : cut seedsForm l ≡ none → cut sigmaForm l ≡ none → cut shotForm l ≡ none → readLine l ≡ noForm
+  pub read-none : readForm seedsForm l ≡ none → readForm sigmaForm l ≡ none → readForm shotForm l ≡ none → readLine l ≡ noForm
   unfolding readLine
   read-none p q e = rw (p, q, e, readLine)
 
-pub plains : (v : List ℕ) (vs : List (List ℕ)) → plain v ≡ true → allPlain vs ≡ true → allPlain (v ∷ vs) ≡ true
-unfolding allPlain
-plains v vs p q = and-eq-true-iff (plain v) (allPlain vs) .1 (p, q)
-
-pub no-plains : allPlain [] ≡ true
-unfolding allPlain
-no-plains = refl
-
--- no form cuts a line that another form filled: they differ in their third byte
+-- no line is of two forms: they differ in their third byte
 third : (f g : ℕ) (form other : List ℕ) (vs : List (List ℕ)) → eqb f 35 ≡ false → eqb g 35 ≡ false → eqb g f ≡ false
-    → cut (40 ∷ 115 ∷ f ∷ form) (fill (40 ∷ 115 ∷ g ∷ other) vs) ≡ none
+    → readForm (40 ∷ 115 ∷ f ∷ form) (printForm (40 ∷ 115 ∷ g ∷ other) vs) ≡ none
 third f g form other vs p q r =
-    rw (fill-byte 40 (115 ∷ g ∷ other) vs refl, fill-byte 115 (g ∷ other) vs refl, fill-byte g other vs q)
-    (same 40 (115 ∷ f ∷ form) (115 ∷ g ∷ fill other vs) refl ∙ same 115 (f ∷ form) (g ∷ fill other vs) refl ∙ differ)
+    rw (print-byte 40 (115 ∷ g ∷ other) vs refl, print-byte 115 (g ∷ other) vs refl, print-byte g other vs q)
+    (same 40 (115 ∷ f ∷ form) (115 ∷ g ∷ printForm other vs) refl ∙ same 115 (f ∷ form) (g ∷ printForm other vs) refl ∙ differ)
   where
-    same : (x : ℕ) (form l : List ℕ) → eqb x 35 ≡ false → cut (x ∷ form) (x ∷ l) ≡ cut form l
-    same x form l e = cut-byte x form (x ∷ l) e ∙ rw (starts-same x l)
+    same : (x : ℕ) (form l : List ℕ) → eqb x 35 ≡ false → readForm (x ∷ form) (x ∷ l) ≡ readForm form l
+    same x form l e = read-byte x form (x ∷ l) e ∙ rw (starts-same x l)
 
-    differ : cut (f ∷ form) (g ∷ fill other vs) ≡ none
-    differ = cut-byte f form (g ∷ fill other vs) p ∙ rw (starts-other f g (fill other vs) r)
+    differ : readForm (f ∷ form) (g ∷ printForm other vs) ≡ none
+    differ = read-byte f form (g ∷ printForm other vs) p ∙ rw (starts-other f g (printForm other vs) r)
 
-seeds-sigma : (vs : List (List ℕ)) → cut seedsForm (fill sigmaForm vs) ≡ none
+seeds-sigma : (vs : List (List ℕ)) → readForm seedsForm (printForm sigmaForm vs) ≡ none
 unfolding seedsForm sigmaForm
 seeds-sigma vs = third 101 105 _ _ vs refl refl refl
 
-seeds-shot : (vs : List (List ℕ)) → cut seedsForm (fill shotForm vs) ≡ none
+seeds-shot : (vs : List (List ℕ)) → readForm seedsForm (printForm shotForm vs) ≡ none
 unfolding seedsForm shotForm
 seeds-shot vs = third 101 104 _ _ vs refl refl refl
 
-sigma-shot : (vs : List (List ℕ)) → cut sigmaForm (fill shotForm vs) ≡ none
+sigma-shot : (vs : List (List ℕ)) → readForm sigmaForm (printForm shotForm vs) ≡ none
 unfolding sigmaForm shotForm
 sigma-shot vs = third 105 104 _ _ vs refl refl refl
 
 all-formed : (formed seedsForm ≡ true) × (formed sigmaForm ≡ true) × (formed shotForm ≡ true)
-unfolding formed startsSeparate seedsForm sigmaForm shotForm separator
+unfolding formed startsSeparate seedsForm sigmaForm shotForm oneOf
 all-formed = (refl, refl, refl)
 
 pub all-marks : (6 ≡ marks seedsForm) × (2 ≡ marks sigmaForm) × (4 ≡ marks shotForm)
@@ -164,7 +101,7 @@ read-printed (seeds a0 a1 a2 b0 b1 b2) h =
     let p : allPlain vs ≡ true =
     plains _ _ (decimal-plain a0) (plains _ _ (decimal-plain a1) (plains _ _ (decimal-plain a2)
     (plains _ _ (decimal-plain b0) (plains _ _ (decimal-plain b1) (plains _ _ (decimal-plain b2) no-plains))))) in
-    read-seeds (fill seedsForm vs) vs (cut-fill seedsForm vs (all-formed .0) p (all-marks .0))
+    read-seeds (printForm seedsForm vs) vs (form-read seedsForm vs (all-formed .0) p (all-marks .0))
     ∙ rw (
       numeral-decimal a0 (h .0),
       numeral-decimal a1 (h .1),
@@ -182,34 +119,16 @@ read-printed (seeds a0 a1 a2 b0 b1 b2) h =
 read-printed (sigma d b) h =
     let vs : List (List ℕ) = decimal d ∷ decimal b ∷ [] in
     let p : allPlain vs ≡ true = plains _ _ (decimal-plain d) (plains _ _ (decimal-plain b) no-plains) in
-    read-sigma (fill sigmaForm vs) vs (seeds-sigma vs) (cut-fill sigmaForm vs (all-formed .1) p (all-marks .1))
+    read-sigma (printForm sigmaForm vs) vs (seeds-sigma vs) (form-read sigmaForm vs (all-formed .1) p (all-marks .1))
     ∙ rw (numeral-decimal d (h .0), numeral-decimal b (h .1), value-decimal d, value-decimal b)
 read-printed (shot from to d b) h =
     let vs : List (List ℕ) = from ∷ to ∷ decimal d ∷ decimal b ∷ [] in
     let p : allPlain vs ≡ true =
     plains _ _ (name-plain from (h .0))
     (plains _ _ (name-plain to (h .1)) (plains _ _ (decimal-plain d) (plains _ _ (decimal-plain b) no-plains))) in
-    read-shot (fill shotForm vs) vs (seeds-shot vs) (sigma-shot vs) (cut-fill shotForm vs (all-formed .2) p (all-marks .2))
+    read-shot (printForm shotForm vs) vs (seeds-shot vs) (sigma-shot vs) (form-read shotForm vs (all-formed .2) p (all-marks .2))
     ∙ rw (h .0, h .1, numeral-decimal d (h .2), numeral-decimal b (h .3), value-decimal d, value-decimal b)
 read-printed noForm h = absurd h
-
-value-below : (n : ℕ) (xs : List ℕ) → all digit xs ≡ true → value n xs < (n + 1) * 10 ^ length xs
-unfolding value all
-value-below n [] h = omega arith
-value-below n (x ∷ xs) h =
-    let t = and-eq-true-iff (digit x) (all digit xs) .0 h in
-    let r = digit-range x (t .0) in
-    let ih = value-below (n * 10 + (x - 48)) xs (t .1) in
-    let m : (n * 10 + (x - 48) + 1) * 10 ^ length xs ≤ (n * 10 + 10) * 10 ^ length xs = mul-le-mul-right (10 ^ length xs)
-    (omega arith) in
-    rw (pow-succ' 10 (length xs)) (omega arith)
-
-pub numeral-below : (l : List ℕ) → numeral l ≡ true → value 0 l < 10 ^ 10
-numeral-below l h =
-    let n = numeral-is l h in
-    let b = value-below 0 l (n .digits) in
-    let p : 10 ^ length l ≤ 10 ^ 10 = pow-le-pow-right (omega arith) (n .ten) in
-    omega arith
 
 -- n fields from place j on, place by place
 abbrev places : List (List ℕ) → ℕ → ℕ → List (List ℕ)
@@ -221,11 +140,11 @@ drop-places vs zero j h = drop-of-length-le vs {i = j} (omega (arith, h))
 drop-places vs (suc n) j h = drop-cons vs j [] (omega (arith, h)) ∙ ap (λ (l : List (List ℕ)). getD vs j [] ∷ l)
     (drop-places vs n (suc j) (omega (arith, h)))
 
--- the fields that a form cut, place by place, give the line back
-fill-places : (form l : List ℕ) (vs : List (List ℕ)) (n : ℕ) → n ≡ marks form → cut form l ≡ some vs → fill form
+-- the fields that a form readForm, place by place, give the line back
+print-places : (form l : List ℕ) (vs : List (List ℕ)) (n : ℕ) → n ≡ marks form → readForm form l ≡ some vs → printForm form
     (places vs 0 n) ≡ l
-fill-places form l vs n k h = ap (λ (ws : List (List ℕ)). fill form ws)
-    (sym (drop-places vs n 0 (omega (arith, cut-count form l vs h)))) ∙ fill-cut form l vs h
+print-places form l vs n k h = ap (λ (ws : List (List ℕ)). printForm form ws)
+    (sym (drop-places vs n 0 (omega (arith, read-count form l vs h)))) ∙ form-printed form l vs h
 
 -- what was read is printed as the line
 Printed : List ℕ → Form → Type 0
@@ -246,7 +165,7 @@ module _ (l : List ℕ) (vs : List (List ℕ)) where
   v : ℕ → List ℕ
   v i = getD vs i []
 
-  seeds-read : cut seedsForm l ≡ some vs → (seedsOf vs ≡ noForm → ⊥) → Printed l (seedsOf vs)
+  seeds-read : readForm seedsForm l ≡ some vs → (seedsOf vs ≡ noForm → ⊥) → Printed l (seedsOf vs)
   unfolding seedsOf Printed Printable printLine v
   seeds-read h k = split (three 0 && three 3) refl k
     where
@@ -271,10 +190,10 @@ module _ (l : List ℕ) (vs : List (List ℕ)) where
               numeral-below (v 5) (n .2),
             ),
             rw (decimal-value (v 0) (m .0), decimal-value (v 1) (m .1), decimal-value (v 2) (m .2), decimal-value (v 3) (n .0))
-                (rw (decimal-value (v 4) (n .1), decimal-value (v 5) (n .2)) (fill-places seedsForm l vs 6 (all-marks .0) h)),
+                (rw (decimal-value (v 4) (n .1), decimal-value (v 5) (n .2)) (print-places seedsForm l vs 6 (all-marks .0) h)),
           )
 
-  sigma-read : cut sigmaForm l ≡ some vs → (sigmaOf vs ≡ noForm → ⊥) → Printed l (sigmaOf vs)
+  sigma-read : readForm sigmaForm l ≡ some vs → (sigmaOf vs ≡ noForm → ⊥) → Printed l (sigmaOf vs)
   unfolding sigmaOf Printed Printable printLine v
   sigma-read h k = split (numeral (v 0) && numeral (v 1)) refl k
     where
@@ -286,10 +205,10 @@ module _ (l : List ℕ) (vs : List (List ℕ)) where
       split true e k =
           let n = and-eq-true-iff (numeral (v 0)) (numeral (v 1)) .0 e in (
             (numeral-below (v 0) (n .0), numeral-below (v 1) (n .1)),
-            rw (decimal-value (v 0) (n .0), decimal-value (v 1) (n .1)) (fill-places sigmaForm l vs 2 (all-marks .1) h),
+            rw (decimal-value (v 0) (n .0), decimal-value (v 1) (n .1)) (print-places sigmaForm l vs 2 (all-marks .1) h),
           )
 
-  shot-read : cut shotForm l ≡ some vs → (shotOf vs ≡ noForm → ⊥) → Printed l (shotOf vs)
+  shot-read : readForm shotForm l ≡ some vs → (shotOf vs ≡ noForm → ⊥) → Printed l (shotOf vs)
   unfolding shotOf Printed Printable printLine v
   shot-read h k = split (name (v 0) && name (v 1) && numeral (v 2) && numeral (v 3)) refl k
     where
@@ -302,26 +221,26 @@ module _ (l : List ℕ) (vs : List (List ℕ)) where
       split true e k =
           let n = four (name (v 0)) (name (v 1)) (numeral (v 2)) (numeral (v 3)) e in (
             (n .0, n .1, numeral-below (v 2) (n .2), numeral-below (v 3) (n .3)),
-            rw (decimal-value (v 2) (n .2), decimal-value (v 3) (n .3)) (fill-places shotForm l vs 4 (all-marks .2) h),
+            rw (decimal-value (v 2) (n .2), decimal-value (v 3) (n .3)) (print-places shotForm l vs 4 (all-marks .2) h),
           )
 
 -- What is read is what would be printed.
 pub printed-read : (l : List ℕ) → (readLine l ≡ noForm → ⊥) → Printable (readLine l) × (printLine (readLine l) ≡ l)
 unfolding Printed
-printed-read l k = on-seeds (cut seedsForm l) refl
+printed-read l k = on-seeds (readForm seedsForm l) refl
   where
     moved : (x : Form) → readLine l ≡ x → ((x ≡ noForm → ⊥) → Printed l x) → Printed l (readLine l)
     moved x e f = rw e (f (λ t. k (e ∙ t)))
 
-    on-shot : cut seedsForm l ≡ none → cut sigmaForm l ≡ none → (o : Option (List (List ℕ))) → cut shotForm l ≡ o → Printed l
+    on-shot : readForm seedsForm l ≡ none → readForm sigmaForm l ≡ none → (o : Option (List (List ℕ))) → readForm shotForm l ≡ o → Printed l
         (readLine l)
     on-shot p q (some vs) e = moved (shotOf vs) (read-shot l vs p q e) (shot-read l vs e)
     on-shot p q none e = absurd (k (read-none l p q e))
 
-    on-sigma : cut seedsForm l ≡ none → (o : Option (List (List ℕ))) → cut sigmaForm l ≡ o → Printed l (readLine l)
+    on-sigma : readForm seedsForm l ≡ none → (o : Option (List (List ℕ))) → readForm sigmaForm l ≡ o → Printed l (readLine l)
     on-sigma p (some vs) e = moved (sigmaOf vs) (read-sigma l vs p e) (sigma-read l vs e)
-    on-sigma p none e = on-shot p e (cut shotForm l) refl
+    on-sigma p none e = on-shot p e (readForm shotForm l) refl
 
-    on-seeds : (o : Option (List (List ℕ))) → cut seedsForm l ≡ o → Printed l (readLine l)
+    on-seeds : (o : Option (List (List ℕ))) → readForm seedsForm l ≡ o → Printed l (readLine l)
     on-seeds (some vs) e = moved (seedsOf vs) (read-seeds l vs e) (seeds-read l vs e)
-    on-seeds none e = on-sigma e (cut sigmaForm l) refl
+    on-seeds none e = on-sigma e (readForm sigmaForm l) refl

@@ -11,6 +11,8 @@ use mir.Syntax.{w16, w32}
 use mir.Val.{SFits, toZ, ofZ}
 use mir.Facts.{sfits-widen, toZ-ofZ}
 use borrow.Author.Tests.{le-ltb}
+use Rattle.job.specs.Limits.{mostSigma, turnSteps}
+use Rattle.job.specs.Private.{mostSize}
 use Rattle.job.specs.Rounding.{noiseSize, noisyDistance, noisyBearing}
 
 -- a sample cast to 32 bits
@@ -24,16 +26,16 @@ module _ (z : ℤ) (f : SFits w16 z) where
   pub wide-is : wide z ≡ z
   wide-is = ap (λ (y : ℤ). toZ w32 (ofZ w32 y)) (toZ-ofZ f) ∙ toZ-ofZ {w = w32} (sfits-widen tt f)
 
--- a sample below 0, turned
-pub record Turned (z : ℤ) : Type 0 where
+-- a sample below 0, negated
+pub record Negated (z : ℤ) : Type 0 where
   pub fits : SFits w32 (pos 0 -ℤ wide z)
   pub size : toZ w32 (ofZ w32 (pos 0 -ℤ wide z)) ≡ pos (natAbs z)
-  pub small : natAbs z ≤ 32768
+  pub small : natAbs z ≤ mostSize
 
-pub turned : (z : ℤ) → SFits w16 z → ltZ (wide z) (pos 0) ≡ true → Turned z
-turned z f t = split z f (rw (wide-is z f) at t)
+pub negated : (z : ℤ) → SFits w16 z → ltZ (wide z) (pos 0) ≡ true → Negated z
+negated z f t = split z f (rw (wide-is z f) at t)
   where
-    split : (y : ℤ) → SFits w16 y → ltZ y (pos 0) ≡ true → Turned y
+    split : (y : ℤ) → SFits w16 y → ltZ y (pos 0) ≡ true → Negated y
     split (pos n) g u = absurd (false≢true (sym (le-ltb n 0 (omega arith)) ∙ u))
     split (negsuc n) g u =
         let e : pos 0 -ℤ wide (negsuc n) ≡ pos (suc n) = rw (wide-is (negsuc n) g) (ap pos (zero-add (suc n))) in
@@ -43,7 +45,7 @@ turned z f t = split z f (rw (wide-is z f) at t)
 -- a sample of at least 0
 pub record Kept (z : ℤ) : Type 0 where
   pub size : wide z ≡ pos (natAbs z)
-  pub small : natAbs z ≤ 32768
+  pub small : natAbs z ≤ mostSize
 
 pub kept : (z : ℤ) → SFits w16 z → ltZ (wide z) (pos 0) ≡ false → Kept z
 kept z f t = split z f (rw (wide-is z f) at t)
@@ -52,18 +54,18 @@ kept z f t = split z f (rw (wide-is z f) at t)
     split (pos n) g u = record { size = wide-is (pos n) g; small = omega (arith, g .sfits) }
     split (negsuc n) g u = absurd (true≢false u)
 
-pub noise-small : (sigma size : ℕ) → sigma ≤ 1000 → size ≤ 32768 → sigma * size ≤ 32768000
+pub noise-small : (sigma size : ℕ) → sigma ≤ mostSigma → size ≤ mostSize → sigma * size ≤ mostSigma * mostSize
 noise-small sigma size h k = mul-le-mul h k
 
 -- the noise of a sample that is at least 0, and of one below 0
 unfoldable pub Plus : ℕ → ℕ → ℤ → Type 0
 Plus sigma x z = (noisyDistance sigma x z ≡ x + noiseSize sigma (natAbs z)) ×
-    (noisyBearing sigma x z ≡ (x + noiseSize sigma (natAbs z)) % 65536)
+    (noisyBearing sigma x z ≡ (x + noiseSize sigma (natAbs z)) % turnSteps)
 
 unfoldable pub Minus : ℕ → ℕ → ℤ → Type 0
 Minus sigma x z =
     (noisyDistance sigma x z ≡ x - noiseSize sigma (natAbs z))
-    × (noisyBearing sigma x z ≡ (x + (65536 - noiseSize sigma (natAbs z) % 65536)) % 65536)
+    × (noisyBearing sigma x z ≡ (x + (turnSteps - noiseSize sigma (natAbs z) % turnSteps)) % turnSteps)
 
 -- the sign of a sample picks the case
 module _ (sigma x : ℕ) (z : ℤ) (f : SFits w16 z) where

@@ -6,12 +6,12 @@ use lib.Dec.{leb, ltb, eqb}
 use lib.ListN.{length, drop}
 use Rattle.streams.specs.Streams.{seedOf}
 use Rattle.noise.specs.Noise.{pairOf}
-use Rattle.job.specs.Lines.{lines}
+use Rattle.text.specs.Scan.{lines}
+use Rattle.job.specs.Limits.{mostBytes}
 use Rattle.job.specs.Forms.{Form, seeds, sigma, shot, noForm, readLine}
-use Rattle.job.specs.Listing.{header, endRow}
-use Rattle.job.specs.Rounding.{noisyRow}
+use Rattle.job.specs.Listing.{header, endRow, noisyRow}
 use Rattle.job.specs.Refusals.{refusal}
-use Rattle.job.specs.declared.turn.Setting.{Setting}
+use Rattle.job.specs.declared.state.Setting.{Setting}
 use Rattle.job.specs.declared.JobAnswer.{JobAnswer}
 
 -- What a line leaves for those after it: the seeds give the record, the sigmas are kept, "each shot takes one pair"
@@ -58,7 +58,7 @@ listingOf text = onto header (outcome 1 start (lines text))
 
 -- "job over 60,000 bytes" first
 unfoldable pub jobOf : List ℕ → Outcome
-jobOf text = cond (ltb 60000 (length text)) (refused 5 0) (listingOf text)
+jobOf text = cond (ltb mostBytes (length text)) (refused 5 0) (listingOf text)
 
 -- The call's answer with a buffer of a given length: "listing longer than the buffer lent" last
 unfoldable pub answerOf : Outcome → ℕ → JobAnswer

@@ -1,12 +1,8 @@
-pub mod Ascii
-pub mod Numbers
+pub mod Limits
 pub mod Forms
-pub mod Answers
-pub mod Lines
-pub mod Listing
-pub mod Rounding
 pub mod Refusals
+pub mod Rounding
+pub mod Listing
 pub mod Job
-pub mod Turns
-pub mod Walks
 pub mod Theorems
+pub mod Private

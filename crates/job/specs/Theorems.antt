@@ -1,19 +1,17 @@
 -- What the definitions of a job say, as theorems: the record below has a proof in proofs/Theorems.antt.
-use Prim.Native.Nat.{ℕ, suc, _+_, _-_, _*_, _%_, _^_, _≤_, _<_}
+use Prim.Native.Nat.{ℕ, suc, _+_, _-_, _*_, _%_, _≤_, _<_}
 use mathlib.Core.Path.{_≡_}
-use mathlib.Core.Bool.{Bool, true, not}
 use mathlib.Core.List.{List, [], _∷_, _++_, map}
-use lib.Dec.{eqb}
 use lib.IntN.{ℤ, pos, negsuc}
-use lib.ListN.{length, getD}
-use Rattle.job.specs.Numbers.{all, numeral, value, decimal}
+use lib.ListN.{length}
+use Rattle.text.specs.Scan.{lines}
+use Rattle.job.specs.Limits.{mostBytes, listingRoom, turnSteps}
 use Rattle.job.specs.Forms.{Form, noForm, readLine, printLine, Printable}
-use Rattle.job.specs.Lines.{lines}
 use Rattle.job.specs.Listing.{header, endRow}
 use Rattle.job.specs.Rounding.{noiseSize, noisyDistance, noisyBearing}
 use Rattle.job.specs.Refusals.{refusal}
 use Rattle.job.specs.Job.{refused, listed, start, jobOf, answerOf, printed, settingAfter}
-use Rattle.job.specs.declared.turn.Setting.{Setting}
+use Rattle.job.specs.declared.state.Setting.{Setting}
 
 -- the text that says these forms, a line each
 unfoldable pub textOf : List Form → List ℕ
@@ -30,20 +28,10 @@ unfoldable pub Accepts : ℕ → List Form → Type 0
 Accepts k [] = Unit {0}
 Accepts k (x ∷ xs) = Printable x × (refusal k x ≡ 0) × Accepts (k + 1) xs
 
-abbrev pub noFeed : List ℕ → Bool
-noFeed l = all (λ b. not (eqb b 10)) l
-
 pub record Theorems : Type 0 where
-  -- "no leading zero except 0 itself": what is printed is a number and is read as itself, and what is read is what is printed
-  pub numbers : (n : ℕ) → n < 10 ^ 10 → (numeral (decimal n) ≡ true) × (value 0 (decimal n) ≡ n)
-  pub digits : (l : List ℕ) → numeral l ≡ true → decimal (value 0 l) ≡ l
-  pub no-leading-zero : (n : ℕ) → 0 < n → 48 < getD (decimal n) 0 0
   -- the three forms: a line that is printed is read as itself, and a line that is read is the one that is printed
   pub read-printed : (x : Form) → Printable x → readLine (printLine x) ≡ x
   pub printed-read : (l : List ℕ) → (readLine l ≡ noForm → ⊥) → Printable (readLine l) × (printLine (readLine l) ≡ l)
-  -- a line ends with the first line feed, or with the text
-  pub line-first : (l rest : List ℕ) → noFeed l ≡ true → lines (l ++ 10 ∷ rest) ≡ (l ++ (10 ∷ [])) ∷ lines rest
-  pub line-last : (x : ℕ) (l : List ℕ) → noFeed (x ∷ l) ≡ true → lines (x ∷ l) ≡ (x ∷ l) ∷ []
   -- the noise is the whole number q nearest to sigma × size / 2048, and at a half the larger one
   pub nearest : (sigma size q : ℕ) → 2048 * q ≤ sigma * size + 1024 → sigma * size + 1024 < 2048 * q + 2048 → noiseSize sigma
       size ≡ q
@@ -55,22 +43,22 @@ pub record Theorems : Type 0 where
       (suc n) ≡ d
   pub distance-none : (sigma d n : ℕ) → d ≤ noiseSize sigma (suc n) → noisyDistance sigma d (negsuc n) ≡ 0
   -- the bearing mod 65536
-  pub bearing-range : (sigma b : ℕ) (z : ℤ) → noisyBearing sigma b z < 65536
-  pub bearing-up : (sigma b n : ℕ) → noisyBearing sigma b (pos n) ≡ (b + noiseSize sigma n) % 65536
-  pub bearing-down : (sigma b n : ℕ) → (noisyBearing sigma b (negsuc n) + noiseSize sigma (suc n)) % 65536 ≡ b % 65536
+  pub bearing-range : (sigma b : ℕ) (z : ℤ) → noisyBearing sigma b z < turnSteps
+  pub bearing-up : (sigma b n : ℕ) → noisyBearing sigma b (pos n) ≡ (b + noiseSize sigma n) % turnSteps
+  pub bearing-down : (sigma b n : ℕ) → (noisyBearing sigma b (negsuc n) + noiseSize sigma (suc n)) % turnSteps ≡ b % turnSteps
   -- a job is listed just where its text says accepted lines, two at least, in at most 60,000 bytes: the header, the rows of its
   -- shots in the job's order, and the count of the lines after the first two
-  pub listed-job : (xs : List Form) → Accepts 1 xs → 2 ≤ length xs → length (textOf xs) ≤ 60000
+  pub listed-job : (xs : List Form) → Accepts 1 xs → 2 ≤ length xs → length (textOf xs) ≤ mostBytes
       → jobOf (textOf xs) ≡ listed (header ++ (rows start xs ++ endRow (length xs - 2)))
   pub job-listed : (text bytes : List ℕ) → jobOf text ≡ listed bytes
       → (xs : List Form) × Accepts 1 xs × (2 ≤ length xs) × (textOf xs ≡ text) ×
       (bytes ≡ header ++ (rows start xs ++ endRow (length xs - 2)))
   -- the first line that is not accepted gives number and line; a text of accepted lines that ends before line 2 lacks the next
-  pub first-bad : (text l : List ℕ) (xs : List Form) (ls : List (List ℕ)) → length text ≤ 60000 → Accepts 1 xs
+  pub first-bad : (text l : List ℕ) (xs : List Form) (ls : List (List ℕ)) → length text ≤ mostBytes → Accepts 1 xs
       → lines text ≡ map printLine xs ++ (l ∷ ls) → (refusal (1 + length xs) (readLine l) ≡ 0 → ⊥)
       → jobOf text ≡ refused (refusal (1 + length xs) (readLine l)) (1 + length xs)
-  pub missing-line : (text : List ℕ) (xs : List Form) → length text ≤ 60000 → Accepts 1 xs → lines text ≡ map printLine xs
+  pub missing-line : (text : List ℕ) (xs : List Form) → length text ≤ mostBytes → Accepts 1 xs → lines text ≡ map printLine xs
       → length xs < 2 → jobOf text ≡ refused 8 (1 + length xs)
   -- a listing fits 20,480 bytes, so the listing program never prints 10
-  pub fits : (text bytes : List ℕ) → jobOf text ≡ listed bytes → length bytes ≤ 20480
-  pub never-too-long : (text : List ℕ) → answerOf (jobOf text) 20480 .number ≡ 10 → ⊥
+  pub fits : (text bytes : List ℕ) → jobOf text ≡ listed bytes → length bytes ≤ listingRoom
+  pub never-too-long : (text : List ℕ) → answerOf (jobOf text) listingRoom .number ≡ 10 → ⊥

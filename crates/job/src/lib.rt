@@ -1,15 +1,16 @@
 // Jobs and their listings (document 01, "A job and its listing").
-mod field;
+pub mod limits;
 mod line;
 mod print;
 mod rounding;
 mod shot;
-mod text;
-mod turn;
+mod state;
 mod walk;
 
-use crate::print::put;
+use crate::limits::LISTING_ROOM;
+use crate::limits::MOST_BYTES;
 use crate::walk::write_listing;
+use text::buffer::put;
 ghost use mathlib.Core.Path.{_≡_};
 ghost use lib.ListN.{length};
 ghost use Rattle.job.specs.Job.{jobOf, answerOf, bufferAfter};
@@ -27,14 +28,14 @@ pub fn list(text: &[u8], out: &mut [u8]) -> JobAnswer
     ensures { λ r. ⌜ r ≡ answerOf (jobOf (now (text .entry))) (length (now (out .entry))) ⌝ }
     ensures { λ _. ⌜ now (out .exit) ≡ bufferAfter (jobOf (now (text .entry))) (now (out .entry)) ⌝ }
 {
-    if 60000 < text.len() {
+    if MOST_BYTES < text.len() {
         return JobAnswer {
             number: 5,
             line: 0,
             length: 0,
         };
     }
-    let mut listing = [0u8; 20480];
+    let mut listing = [0u8; LISTING_ROOM];
     let answer = write_listing(text, &mut listing);
     if answer.number != 0 {
         return answer;

@@ -1,84 +1,15 @@
 // A line of a job: one of the three forms, or none.
-use crate::field::Numeral;
-use crate::field::Place;
-use crate::field::field_end;
-use crate::field::is_name;
-use crate::field::number;
-use crate::field::part;
-ghost use Prim.Native.Nat.{_≤_, _<_};
+use text::field::Place;
+use text::field::name_at;
+use text::field::numeral_at;
+use text::field::three_at;
+use text::form::Found;
+use text::form::read_form;
 ghost use mathlib.Core.Path.{_≡_};
-ghost use lib.ListN.{length, take};
-ghost use Rattle.job.specs.Numbers.{name, numeral};
-ghost use Rattle.job.specs.Forms.{cut as cutOf, marks, seedsOf, sigmaOf, shotOf, readLine};
-ghost use Rattle.job.specs.Answers.{nextOf, fieldsOf, fieldsAt, partAt, Spells, SpellThree, said};
-
-// How far a form fits a line: the places of the fields so far, and where the rest of the line begins.
-pub struct Cutting {
-    pub ok: bool,
-    pub at: usize,
-    pub count: usize,
-    pub places: [Place; 6],
-}
-
-// One byte of a form: # takes the next field, any other byte is the line's next.
-fn next(f: u8, line: &[u8], c: Cutting) -> Cutting
-    requires { ⌜ c .at ≤ length (now line) ⌝ }
-    requires { ⌜ (f ≡ 35 → c .count < 6) ⌝ }
-    ensures { λ r. ⌜ r ≡ nextOf f (now (line .entry)) c ⌝ }
-{
-    let at = c.at;
-    let count = c.count;
-    let mut places = c.places;
-    if f == 35 {
-        let end = field_end(line, at);
-        places[count] = Place { from: at, to: end };
-        return Cutting {
-            ok: true,
-            at: end,
-            count: count + 1,
-            places,
-        };
-    }
-    if line.len() <= at {
-        return Cutting {
-            ok: false,
-            at,
-            count,
-            places,
-        };
-    }
-    Cutting {
-        ok: line[at] == f,
-        at: at + 1,
-        count,
-        places,
-    }
-}
-
-// The places of a line's fields, where it is of the form.
-fn cut(form: &[u8], line: &[u8]) -> Cutting
-    requires { ⌜ marks (now form) ≤ 6 ⌝ }
-    ensures { λ r. ⌜ cutOf (now (form .entry)) (now (line .entry)) ≡ fieldsOf (now (line .entry)) (marks (now (form .entry))) r ⌝ }
-{
-    let mut c = Cutting {
-        ok: true,
-        at: 0,
-        count: 0,
-        places: [Place { from: 0, to: 0 }; 6],
-    };
-    let mut i = 0;
-    while i < form.len() {
-        c = next(form[i], line, c);
-        if !c.ok {
-            return c;
-        }
-        i += 1;
-    }
-    if c.at < line.len() {
-        c.ok = false;
-    }
-    c
-}
+ghost use lib.ListN.{take};
+ghost use Rattle.text.specs.Forms.{fieldsAt};
+ghost use Rattle.job.specs.Forms.{seedsOf, sigmaOf, shotOf, readLine};
+ghost use Rattle.job.specs.Private.{said};
 
 // Line 1: the registers of both streams.
 pub struct Seeds {
@@ -112,73 +43,15 @@ pub enum Line {
     NoForm,
 }
 
-// Three numbers that stand side by side.
-pub struct Three {
-    pub ok: bool,
-    pub first: u64,
-    pub second: u64,
-    pub third: u64,
-}
-
-// The number at the i-th place.
-fn number_at(line: &[u8], c: Cutting, i: usize) -> Numeral
-    requires { ⌜ i < 6 ⌝ }
-    ensures { λ r. ⌜ Spells (numeral (partAt (now (line .entry)) c i)) (partAt (now (line .entry)) c i) r ⌝ }
-{
-    let places = c.places;
-    let place = places[i];
-    number(part(line, place))
-}
-
-// The three numbers from the i-th place on.
-fn three_at(line: &[u8], c: Cutting, i: usize) -> Three
-    requires { ⌜ i < 4 ⌝ }
-    ensures { λ r. ⌜ SpellThree (now (line .entry)) c i r ⌝ }
-{
-    let none = Three {
-        ok: false,
-        first: 0,
-        second: 0,
-        third: 0,
-    };
-    let x = number_at(line, c, i);
-    if !x.ok {
-        return none;
-    }
-    let y = number_at(line, c, i + 1);
-    if !y.ok {
-        return none;
-    }
-    let z = number_at(line, c, i + 2);
-    if !z.ok {
-        return none;
-    }
-    Three {
-        ok: true,
-        first: x.value,
-        second: y.value,
-        third: z.value,
-    }
-}
-
-// Whether a name stands at the i-th place.
-fn name_at(line: &[u8], c: Cutting, i: usize) -> bool
-    requires { ⌜ i < 6 ⌝ }
-    ensures { λ r. ⌜ r ≡ name (partAt (now (line .entry)) c i) ⌝ }
-{
-    let places = c.places;
-    let place = places[i];
-    is_name(part(line, place))
-}
-
-fn seeds_line(line: &[u8], c: Cutting) -> Line
+fn seeds_line(line: &[u8], c: Found) -> Line
     ensures { λ r. ⌜ said (now (line .entry)) r ≡ seedsOf (fieldsAt (now (line .entry)) (take 6 (c .places))) ⌝ }
 {
-    let a = three_at(line, c, 0);
+    let places = c.places;
+    let a = three_at(line, places[0], places[1], places[2]);
     if !a.ok {
         return Line::NoForm;
     }
-    let b = three_at(line, c, 3);
+    let b = three_at(line, places[3], places[4], places[5]);
     if !b.ok {
         return Line::NoForm;
     }
@@ -192,14 +65,15 @@ fn seeds_line(line: &[u8], c: Cutting) -> Line
     })
 }
 
-fn sigma_line(line: &[u8], c: Cutting) -> Line
+fn sigma_line(line: &[u8], c: Found) -> Line
     ensures { λ r. ⌜ said (now (line .entry)) r ≡ sigmaOf (fieldsAt (now (line .entry)) (take 2 (c .places))) ⌝ }
 {
-    let d = number_at(line, c, 0);
+    let places = c.places;
+    let d = numeral_at(line, places[0]);
     if !d.ok {
         return Line::NoForm;
     }
-    let b = number_at(line, c, 1);
+    let b = numeral_at(line, places[1]);
     if !b.ok {
         return Line::NoForm;
     }
@@ -209,26 +83,26 @@ fn sigma_line(line: &[u8], c: Cutting) -> Line
     })
 }
 
-fn shot_line(line: &[u8], c: Cutting) -> Line
+fn shot_line(line: &[u8], c: Found) -> Line
     ensures { λ r. ⌜ said (now (line .entry)) r ≡ shotOf (fieldsAt (now (line .entry)) (take 4 (c .places))) ⌝ }
 {
-    if !name_at(line, c, 0) {
-        return Line::NoForm;
-    }
-    if !name_at(line, c, 1) {
-        return Line::NoForm;
-    }
-    let d = number_at(line, c, 2);
-    if !d.ok {
-        return Line::NoForm;
-    }
-    let b = number_at(line, c, 3);
-    if !b.ok {
-        return Line::NoForm;
-    }
     let places = c.places;
     let from = places[0];
     let to = places[1];
+    if !name_at(line, from) {
+        return Line::NoForm;
+    }
+    if !name_at(line, to) {
+        return Line::NoForm;
+    }
+    let d = numeral_at(line, places[2]);
+    if !d.ok {
+        return Line::NoForm;
+    }
+    let b = numeral_at(line, places[3]);
+    if !b.ok {
+        return Line::NoForm;
+    }
     Line::Shot(Shot {
         from,
         to,
@@ -241,15 +115,15 @@ fn shot_line(line: &[u8], c: Cutting) -> Line
 pub fn read_line(line: &[u8]) -> Line
     ensures { λ r. ⌜ said (now (line .entry)) r ≡ readLine (now (line .entry)) ⌝ }
 {
-    let seeds = cut(b"(seeds (a # # #) (b # # #))\n", line);
+    let seeds = read_form(b"(seeds (a # # #) (b # # #))\n", line);
     if seeds.ok {
         return seeds_line(line, seeds);
     }
-    let sigma = cut(b"(sigma # #)\n", line);
+    let sigma = read_form(b"(sigma # #)\n", line);
     if sigma.ok {
         return sigma_line(line, sigma);
     }
-    let shot = cut(b"(shot # # # #)\n", line);
+    let shot = read_form(b"(shot # # # #)\n", line);
     if shot.ok {
         return shot_line(line, shot);
     }

@@ -1,15 +1,11 @@
 // The row of a shot with its noise.
-use crate::field::part;
 use crate::line::Shot;
 use crate::print::put_shot;
 use crate::rounding::noisy_bearing;
 use crate::rounding::noisy_distance;
-ghost use Prim.Native.Nat.{_+_, _≤_};
-ghost use mathlib.Core.Path.{_≡_};
-ghost use lib.ListN.{length};
-ghost use Rattle.job.specs.Answers.{partOf};
-ghost use Rattle.job.specs.Listing.{Puts};
-ghost use Rattle.job.specs.Turns.{Fit, rowOf};
+use text::field::part;
+ghost use Rattle.text.specs.Buffer.{Puts};
+ghost use Rattle.job.specs.Private.{Steady, Ranged, rowOf};
 
 // What the row of a shot is made of: the sigmas and the samples of one pair.
 pub struct Noise {
@@ -20,8 +16,8 @@ pub struct Noise {
 }
 
 pub fn print_shot(line: &[u8], x: Shot, n: Noise, out: &mut [u8], at: usize) -> usize
-    requires { ⌜ Fit (now line) x n ⌝ }
-    requires { ⌜ at + 40 ≤ length (now out) ⌝ }
+    requires { ⌜ Steady (n .distance) (n .bearing) ⌝ }
+    requires { ⌜ Ranged x ⌝ }
     ensures { λ r. ⌜ Puts (now (out .entry)) at (rowOf (now (line .entry)) x n) r (now (out .exit)) ⌝ }
 {
     let mm = noisy_distance(n.distance, x.distance as u32, n.first);

@@ -1,16 +1,17 @@
-// A whole job: every line in turn, and the listing in a buffer that has room for any.
+// A whole job: line after line, and the listing in a buffer that has room for any.
 use crate::JobAnswer;
 use crate::print::put_end;
 use crate::print::put_header;
-use crate::text::line_end;
-use crate::turn::Setting;
-use crate::turn::State;
-use crate::turn::take_line;
+use crate::state::Setting;
+use crate::state::State;
+use crate::state::take_line;
 use streams::Generator;
+use text::line::line_end;
 ghost use mathlib.Core.Path.{_≡_};
 ghost use lib.ListN.{length};
+ghost use Rattle.job.specs.Limits.{listingRoom};
 ghost use Rattle.job.specs.Job.{start, listingOf};
-ghost use Rattle.job.specs.Walks.{Going, Ended, Wrote};
+ghost use Rattle.job.specs.Private.{Going, Ended, Wrote};
 
 // The number of the first line that is refused and the state before it; or 0 and the state after the last line.
 pub struct Walked {
@@ -60,7 +61,7 @@ fn walk(text: &[u8], out: &mut [u8], first: State) -> Walked
 
 // The listing, or the refusal of a line.
 pub fn write_listing(text: &[u8], out: &mut [u8]) -> JobAnswer
-    requires { ⌜ length (now out) ≡ 20480 ⌝ }
+    requires { ⌜ length (now out) ≡ listingRoom ⌝ }
     ensures { λ r. ⌜ Wrote (listingOf (now (text .entry))) r (now (out .exit)) ⌝ }
 {
     let used = put_header(out);

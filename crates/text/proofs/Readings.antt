@@ -17,6 +17,16 @@ module _ {t : Bool} {l : List ℕ} {r : Numeral} (s : Spells t l r) where
   pub spelled-value : r .ok ≡ true → r .value ≡ value 0 l
   spelled-value h = s .value ∙ ap (λ (b : Bool). cond b (value 0 l) 0) (test-true h)
 
+module _ {a b c : List ℕ} {r : Three} (s : SpellThree a b c r) (h : r .ok ≡ true) where
+  pub three-first : r .first ≡ value 0 a
+  three-first = s .first ∙ ap (λ (t : Bool). cond t (value 0 a) 0) h
+
+  pub three-second : r .second ≡ value 0 b
+  three-second = s .second ∙ ap (λ (t : Bool). cond t (value 0 b) 0) h
+
+  pub three-third : r .third ≡ value 0 c
+  three-third = s .third ∙ ap (λ (t : Bool). cond t (value 0 c) 0) h
+
 module _ (a b c : List ℕ) where
   pub three-none : numeral a && numeral b && numeral c ≡ false
       → SpellThree a b c (record { ok = false; first = 0; second = 0; third = 0 })

@@ -1,5 +1,5 @@
 -- The limits of fields and forms.
-use Prim.Native.Nat.{ℕ}
+use Prim.Native.Nat.{ℕ, _^_}
 
 -- "Names are 1 to 12 letters or digits"
 abbrev pub nameLength : ℕ
@@ -12,3 +12,7 @@ numeralLength = 10
 -- the fields of a form that is read
 abbrev pub formFields : ℕ
 formFields = 6
+
+-- numbers below this have a numeral
+abbrev pub numeralBound : ℕ
+numeralBound = 10 ^ numeralLength

@@ -2,9 +2,16 @@
 use mathlib.Core.Path.{sym, _∙_}
 use borrow.Author.Tests.{not-true, not-false}
 use borrow.Author.Needs.{needs}
-use Rattle.job.proofs.Reading.{test-true, test-false, spelled-value, shot-at}
+use Rattle.text.proofs.Readings.{test-true, test-false, spelled-value}
+use Rattle.job.proofs.Reading.{shot-at}
 use Rattle.job.proofs.line.shot_line.Statement.{statement}
 use Rattle.job.proofs.line.shot_line.Tie as tie
+
+array-copy-out-from : tie.Need-array-copy-out-from
+array-copy-out-from c = search needs
+
+array-copy-out-to : tie.Need-array-copy-out-to
+array-copy-out-to c = search needs
 
 name-at-requires : tie.Need-name-at-requires
 name-at-requires c κs = search needs
@@ -17,67 +24,58 @@ name-at-requires-2 c κs = search needs
 
 returns-2 : tie.Need-returns-2
 returns-2 c =
-    rw (
-      shot-at,
-      sym (c .before .before .before .name-at .ensures) ∙ not-false _ (c .before .before .if1 .left),
-      sym
-          (c .before .name-at2 .ensures) ∙ not-true _ (c .if2 .taken),
-    )
+    let m = sym (c .before .before .before .name-at .ensures) ∙ not-false _ (c .before .before .if1 .left) in
+    rw (shot-at, m, sym (c .before .name-at2 .ensures) ∙ not-true _ (c .if2 .taken))
 
-number-at-requires : tie.Need-number-at-requires
-number-at-requires c κs = search needs
+array-copy-out-numeral-at : tie.Need-array-copy-out-numeral-at
+array-copy-out-numeral-at c = search needs
+
+numeral-at-requires : tie.Need-numeral-at-requires
+numeral-at-requires c κs = search needs
 
 returns-3 : tie.Need-returns-3
 returns-3 c =
-    let m = sym (c .before .before .before .before .before .before .name-at .ensures) ∙ not-false _
-    (c .before .before .before .before .before .if1 .left) in
-    let n = sym (c .before .before .before .before .name-at2 .ensures) ∙ not-false _ (c .before .before .before .if2 .left) in
-    rw (shot-at, m, n, test-false (c .before .before .number-at .ensures) (not-true _ (c .if3 .taken)))
+    let m = sym (c .before .before .before .before .before .before .before .name-at .ensures) ∙ not-false _ (c .before .before .before .before .before .before .if1 .left) in
+    let n = sym (c .before .before .before .before .before .name-at2 .ensures) ∙ not-false _ (c .before .before .before .before .if2 .left) in
+    rw (shot-at, m, n, test-false (c .before .before .numeral-at .ensures) (not-true _ (c .if3 .taken)))
 
-number-at-requires-2 : tie.Need-number-at-requires-2
-number-at-requires-2 c κs = search needs
+array-copy-out-numeral-at-2 : tie.Need-array-copy-out-numeral-at-2
+array-copy-out-numeral-at-2 c = search needs
+
+numeral-at-requires-2 : tie.Need-numeral-at-requires-2
+numeral-at-requires-2 c κs = search needs
 
 returns-4 : tie.Need-returns-4
 returns-4 c =
-    let m = sym (c .before .before .before .before .before .before .before .before .before .name-at .ensures) ∙ not-false _
-    (c .before .before .before .before .before .before .before .before .if1 .left) in
-    let n = sym (c .before .before .before .before .before .before .before .name-at2 .ensures) ∙ not-false _
-    (c .before .before .before .before .before .before .if2 .left) in
-    let d = test-true (c .before .before .before .before .before .number-at .ensures)
-    (not-false _ (c .before .before .before .if3 .left)) in
-    rw (shot-at, m, n, d, test-false (c .before .before .number-at2 .ensures) (not-true _ (c .if4 .taken)))
-
-array-copy-out-from : tie.Need-array-copy-out-from
-array-copy-out-from c = search needs
-
-array-copy-out-to : tie.Need-array-copy-out-to
-array-copy-out-to c = search needs
+    let m = sym (c .before .before .before .before .before .before .before .before .before .before .before .name-at .ensures) ∙ not-false _ (c .before .before .before .before .before .before .before .before .before .before .if1 .left) in
+    let n = sym (c .before .before .before .before .before .before .before .before .before .name-at2 .ensures) ∙ not-false _ (c .before .before .before .before .before .before .before .before .if2 .left) in
+    let d = test-true (c .before .before .before .before .before .before .numeral-at .ensures) (not-false _ (c .before .before .before .before .if3 .left)) in
+    rw (shot-at, m, n, d, test-false (c .before .before .numeral-at2 .ensures) (not-true _ (c .if4 .taken)))
 
 returns-5 : tie.Need-returns-5
 returns-5 c =
-    let m = sym (c .before .before .before .before .before .before .before .before .before .before .before .before .name-at
-    .ensures) ∙ not-false _ (c .before .before .before .before .before .before .before .before .before .before .before
-    .if1 .left) in
-    let n = sym (c .before .before .before .before .before .before .before .before .before .before .name-at2 .ensures) ∙
-    not-false _ (c .before .before .before .before .before .before .before .before .before .if2 .left) in
-    let d = c .before .before .before .before .before .before .before .before .number-at .ensures in
-    let b = c .before .before .before .before .before .number-at2 .ensures in
-    let s = not-false _ (c .before .before .before .before .before .before .if3 .left) in
-    let t = not-false _ (c .before .before .before .if4 .left) in
+    let m = sym (c .before .before .before .before .before .before .before .before .before .before .before .name-at .ensures) ∙ not-false _ (c .before .before .before .before .before .before .before .before .before .before .if1 .left) in
+    let n = sym (c .before .before .before .before .before .before .before .before .before .name-at2 .ensures) ∙ not-false _ (c .before .before .before .before .before .before .before .before .if2 .left) in
+    let d = c .before .before .before .before .before .before .numeral-at .ensures in
+    let b = c .before .before .numeral-at2 .ensures in
+    let s = not-false _ (c .before .before .before .before .if3 .left) in
+    let t = not-false _ (c .if4 .left) in
     rw (shot-at, m, n, test-true d s, test-true b t, spelled-value d s, spelled-value b t)
 
 pub shot-line-spec : {M : Type 1} → statement M
 shot-line-spec =
     tie.close
     (tie.spec
+    array-copy-out-from
+    array-copy-out-to
     name-at-requires
     returns
     name-at-requires-2
     returns-2
-    number-at-requires
+    array-copy-out-numeral-at
+    numeral-at-requires
     returns-3
-    number-at-requires-2
+    array-copy-out-numeral-at-2
+    numeral-at-requires-2
     returns-4
-    array-copy-out-from
-    array-copy-out-to
     returns-5)

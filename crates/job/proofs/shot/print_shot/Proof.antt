@@ -5,27 +5,27 @@ use lib.IntN.{ℤ}
 use mir.Syntax.{w16}
 use mir.Val.{SFits}
 use mir.Facts.{toZ-ofZ}
-use Rattle.job.specs.Rounding.{noisyDistance, noisyBearing, noisyRow}
-use Rattle.job.proofs.Writing.{row-bound}
+use Rattle.job.specs.Rounding.{noisyDistance, noisyBearing}
+use Rattle.job.specs.Listing.{noisyRow}
 use Rattle.job.proofs.shot.print_shot.Statement.{statement}
 use Rattle.job.proofs.shot.print_shot.Tie as tie
 
 cast-noisy-distance : tie.Need-cast-noisy-distance
-cast-noisy-distance c = omega (arith, c .before .before .before .pre .0 .distance)
+cast-noisy-distance c = omega (arith, c .before .before .before .pre .1 .distance)
 
 noisy-distance-requires : tie.Need-noisy-distance-requires
 noisy-distance-requires c κs = (
   c .before .before .before .before .pre .0 .sigma-distance,
-  c .before .before .before .before .pre .0 .distance,
+  c .before .before .before .before .pre .1 .distance,
 )
 
 cast-noisy-bearing : tie.Need-cast-noisy-bearing
-cast-noisy-bearing c = omega (arith, c .before .before .before .before .before .before .pre .0 .bearing)
+cast-noisy-bearing c = omega (arith, c .before .before .before .before .before .before .pre .1 .bearing)
 
 noisy-bearing-requires : tie.Need-noisy-bearing-requires
 noisy-bearing-requires c κs = (
   c .before .before .before .before .before .before .before .pre .0 .sigma-bearing,
-  c .before .before .before .before .before .before .before .pre .0 .bearing,
+  c .before .before .before .before .before .before .before .pre .1 .bearing,
 )
 
 part-requires : tie.Need-part-requires
@@ -35,16 +35,7 @@ part-requires-2 : tie.Need-part-requires-2
 part-requires-2 c κs = tt
 
 put-shot-requires : tie.Need-put-shot-requires
-put-shot-requires c κs =
-    let at = c .before .before .before .before .before .before .before .before .before .before .before .before .before in
-    let b =
-    row-bound (c .before .part .result .now) (c .part2 .result .now)
-    (c .before .before .before .before .before .before .before .before .noisy-distance .result)
-    (c .before .before .before .before .before .noisy-bearing .result)
-    (rw (c .before .part .ensures) (at .pre .0 .from)) (rw (c .part2 .ensures) (at .pre .0 .to))
-    (c .before .before .before .before .before .before .before .before .noisy-distance .ensures .1)
-    (c .before .before .before .before .before .noisy-bearing .ensures .1) in
-    omega (arith, b, at .pre .1)
+put-shot-requires c κs = tt
 
 same-length : tie.Need-same-length
 same-length c = c .before .before .put-shot .kept .0

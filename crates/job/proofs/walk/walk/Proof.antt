@@ -3,9 +3,10 @@ use Prim.Native.Nat.{_-_}
 use native.Mathlib.Omega.{arith}
 use mathlib.Core.Path.{sym, _∙_}
 use lib.ListN.{length}
-use Rattle.job.proofs.Split.{end-within}
-use Rattle.job.proofs.Going.{steady, turn-on, turn-off, all-taken}
-use Rattle.job.specs.Walks.{Going}
+use Rattle.text.proofs.Split.{end-within}
+use borrow.Author.Needs.{needs}
+use Rattle.job.proofs.Going.{line-on, line-off, all-taken}
+use Rattle.job.specs.Private.{Going}
 use Rattle.job.proofs.walk.walk.Statement.{statement}
 use Rattle.job.proofs.walk.walk.Tie as tie
 
@@ -19,7 +20,7 @@ loop-holds : tie.Need-loop-holds Inv-loop μ-loop
 loop-holds c = c .before .before .pre
 
 line-end-requires : tie.Need-line-end-requires Inv-loop μ-loop
-line-end-requires c κs = c .loop-test .taken
+line-end-requires c κs = search needs
 
 sub-take-line : tie.Need-sub-take-line Inv-loop μ-loop
 sub-take-line c = omega (arith, c .line-end .ensures)
@@ -37,7 +38,7 @@ part-take-line-end c = omega (
 )
 
 take-line-requires : tie.Need-take-line-requires Inv-loop μ-loop
-take-line-requires c κs = steady _ _ _ _ (c .before .before .before .before .loop .inv)
+take-line-requires c κs = c .before .before .before .before .loop .inv .steady
 
 same-length : tie.Need-same-length Inv-loop μ-loop
 same-length c = c .before .before .before .take-line .kept .1 .1 .0 ∙
@@ -47,7 +48,7 @@ same-length c = c .before .before .before .take-line .kept .1 .1 .0 ∙
 returns : tie.Need-returns Inv-loop μ-loop
 returns c =
     let at = c .before .before .before .before .before .before .before .before in
-    let go = turn-off _ (at .loop .out) (at .loop .s) (at .loop .at)
+    let go = line-off _ (at .loop .out) (at .loop .s) (at .loop .at)
     (c .before .before .before .before .before .before .line-end .result) (c .before .before .before .take-line .result)
     (c .before .before .before .take-line .last .1 .1 .0) (at .loop .inv)
     (c .before .before .before .before .before .before .before .loop-test .taken)
@@ -72,7 +73,7 @@ loop-less c = omega (
 loop-again : tie.Need-loop-again Inv-loop μ-loop
 loop-again c =
     let at = c .before .before .before .before .before .before .before .before .before in
-    let go = turn-on _ (at .loop .out) (at .loop .s) (at .loop .at)
+    let go = line-on _ (at .loop .out) (at .loop .s) (at .loop .at)
     (c .before .before .before .before .before .before .before .line-end .result)
     (c .before .before .before .before .take-line .result) (c .before .before .before .before .take-line .last .1 .1 .0)
     (at .loop .inv) (c .before .before .before .before .before .before .before .before .loop-test .taken)

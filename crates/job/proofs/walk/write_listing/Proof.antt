@@ -1,6 +1,6 @@
 -- `job::walk::write_listing` meets its contract.
 use borrow.Author.Needs.{needs}
-use Rattle.job.proofs.Going.{going-start, wrote-refused, wrote-missing, end-room, wrote-listed}
+use Rattle.job.proofs.Going.{going-start, wrote-refused, wrote-missing, wrote-listed}
 use Rattle.job.proofs.walk.write_listing.Statement.{statement}
 use Rattle.job.proofs.walk.write_listing.Tie as tie
 
@@ -29,9 +29,7 @@ returns-2 c = wrote-missing _ _ _ (c .before .before .before .before .before .wa
     (c .if2 .taken)
 
 put-end-requires : tie.Need-put-end-requires
-put-end-requires c κs =
-    let g = c .before .before .before .before .before .before .walk .ensures .yes (c .before .before .if1 .left) in
-    end-room _ _ _ g
+put-end-requires c κs = search needs
 
 same-length-3 : tie.Need-same-length-3
 same-length-3 c = search needs

@@ -1,0 +1,111 @@
+-- What the private functions return, and what they keep.
+use Prim.Native.Nat.{ℕ, _+_, _*_, _/_, _≤_, _<_}
+use mathlib.Core.Path.{_≡_}
+use mathlib.Core.Bool.{cond}
+use mathlib.Core.List.{List}
+use lib.Dec.{eqb}
+use lib.ListN.{length, take, drop}
+use Rattle.text.specs.Limits.{nameLength}
+use Rattle.text.specs.Fields.{partOf}
+use Rattle.text.specs.Scan.{lines}
+use Rattle.text.specs.Buffer.{written, placeAfter}
+use Rattle.job.specs.Limits.{lastLine, listingRoom, mostSigma, mostDistance, mostBearing}
+use Rattle.job.specs.Forms.{Form, seeds, sigma, shot, noForm}
+use Rattle.job.specs.Refusals.{refusal}
+use Rattle.job.specs.Listing.{noisyRow}
+use Rattle.job.specs.Job.{Outcome, refused, listed, onto, outcome, listingOf, printed, settingAfter}
+use Rattle.job.specs.declared.line.Seeds.{Seeds as SeedsFields}
+use Rattle.job.specs.declared.line.Sigma.{Sigma as SigmaFields}
+use Rattle.job.specs.declared.line.Shot.{Shot as ShotFields}
+use Rattle.job.specs.declared.line.Line.{Line}
+use Rattle.job.specs.declared.line.Line.the-variants.{Seeds, Sigma, Shot, NoForm}
+use Rattle.job.specs.declared.shot.Noise.{Noise}
+use Rattle.job.specs.declared.state.Setting.{Setting}
+use Rattle.job.specs.declared.state.State.{State}
+use Rattle.job.specs.declared.state.Taken.{Taken}
+use Rattle.job.specs.declared.walk.Walked.{Walked}
+use Rattle.job.specs.declared.JobAnswer.{JobAnswer}
+
+-- ---- A line once read
+
+-- the seeds, the sigmas and the shot that a line says
+abbrev pub seedsIn : SeedsFields → Form
+seedsIn x = seeds (x .a0) (x .a1) (x .a2) (x .b0) (x .b1) (x .b2)
+
+abbrev pub sigmaIn : SigmaFields → Form
+sigmaIn x = sigma (x .distance) (x .bearing)
+
+abbrev pub shotIn : List ℕ → ShotFields → Form
+shotIn line x = shot (partOf line (x .from)) (partOf line (x .to)) (x .distance) (x .bearing)
+
+-- what each case of the enum says of a line: the three kinds with their values, or no form
+abbrev pub said : List ℕ → Line → Form
+said line (Seeds s) = seedsIn s
+said line (Sigma s) = sigmaIn s
+said line (Shot s) = shotIn line s
+said line NoForm = noForm
+
+-- ---- What a line does to the state of a job
+
+-- sigmas within their range
+pub record Steady (distance bearing : ℕ) : Type 0 where
+  pub sigma-distance : distance ≤ mostSigma
+  pub sigma-bearing : bearing ≤ mostSigma
+
+-- a shot within its ranges
+pub record Ranged (x : ShotFields) : Type 0 where
+  pub distance : x .distance ≤ mostDistance
+  pub bearing : x .bearing ≤ mostBearing
+
+-- the most that 16 bits hold in size, and the noise that they give
+abbrev pub mostSize : ℕ
+mostSize = 32768
+
+abbrev pub mostNoise : ℕ
+mostNoise = (mostSigma * mostSize + 1024) / 2048
+
+-- the row of a shot of a line, with its noise
+abbrev pub rowOf : List ℕ → ShotFields → Noise → List ℕ
+rowOf line x n = noisyRow (n .distance) (n .bearing) (partOf line (x .from)) (partOf line (x .to)) (x .distance) (x .bearing)
+    (n .first) (n .second)
+
+-- accepted, the next line with its setting and the listing's length; refused, the state as it was
+unfoldable pub taken : State → ℕ → ℕ → Setting → Taken
+taken s number used setting =
+    cond (eqb number 0)
+    (record { number = 0; next = record { line = s .line + 1; used = used; setting = setting } })
+    (record { number = number; next = s })
+
+-- a line that says x: the state after it, and the buffer with what it prints
+unfoldable pub takenOf : State → Form → List ℕ → Taken
+takenOf s x out =
+    taken s (refusal (s .line) x) (placeAfter out (s .used) (printed x (s .setting))) (settingAfter x (s .setting))
+
+unfoldable pub bufferOf : State → Form → List ℕ → List ℕ
+bufferOf s x out = cond (eqb (refusal (s .line) x) 0) (written out (s .used) (printed x (s .setting))) out
+
+-- ---- A job half way and at its end
+
+-- the most bytes of a row: two names, a distance of 7 digits, a bearing of 5, and what ends each
+abbrev pub rowLength : ℕ
+rowLength = 2 * nameLength + 7 + 5 + 4
+
+-- the lines before `at` are accepted: what they left in the state and in the buffer, and what the lines ahead add to it
+pub record Going (text out : List ℕ) (s : State) (at : ℕ) : Type 0 where
+  pub place : at ≤ length text
+  pub room : length out ≡ listingRoom
+  pub line : s .line ≤ lastLine + 1
+  pub steady : Steady (s .setting .distance) (s .setting .bearing)
+  pub used : s .used + 24 ≤ rowLength * s .line
+  pub so-far : listingOf text ≡ onto (take (s .used) out) (outcome (s .line) (s .setting) (lines (drop at text)))
+
+-- all lines are accepted, or the first that is not gives number and line
+pub record Ended (text out : List ℕ) (r : Walked) : Type 0 where
+  pub yes : r .number ≡ 0 → Going text out (r .state) (length text)
+  pub no : (r .number ≡ 0 → ⊥) → listingOf text ≡ refused (r .number) (r .state .line)
+
+-- the refusal, or the listing at the start of the buffer
+abbrev pub Wrote : Outcome → JobAnswer → List ℕ → Type 0
+Wrote (refused number line) r out = (r ≡ record { number = number; line = line; length = 0 }) × (0 < number)
+Wrote (listed bytes) r out =
+    (r ≡ record { number = 0; line = 0; length = length bytes }) × (take (length bytes) out ≡ bytes) × (length bytes ≤ length out)
