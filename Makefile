@@ -1,6 +1,6 @@
 # make run [JOB=file]   proves and builds the listing program, runs it on a job and shows the listing
 # make test             everything: the comparison with another implementation, then the gate
-# make lib              proves and writes target/staticlib/libabi.a, for C and Rust
+# make lib              proves and writes target/staticlib/libjabulghi.a, for C and Rust
 # make bench            times beside plain C and other generators
 JOB ?= examples/traverse.job
 
@@ -14,7 +14,7 @@ test:
 	.ci/run
 
 lib:
-	rt staticlib abi
+	rt staticlib jabulghi
 
 bench:
 	bench/run

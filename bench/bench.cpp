@@ -66,23 +66,30 @@ static void table(const char *what, std::vector<Row> &rows) {
 
 static const uint32_t SEEDS[6] = {123456789, 987654321, 192837465, 2, 8, 16};
 
+static jabulghi_record seeded() {
+    jabulghi_record record;
+    if (jabulghi_seed(SEEDS[0], SEEDS[1], SEEDS[2], SEEDS[3], SEEDS[4], SEEDS[5], &record) != JABULGHI_OK) fail("the seeds");
+    return record;
+}
+
 static void samples() {
     static int16_t block[LENGTH];
     static double doubles[LENGTH];
-    static uint32_t ours[6], plain[6], bits[6];
+    static jabulghi_record ours = seeded();
+    static uint32_t plain[6], bits[6];
     static int16_t expected[LENGTH];
-    for (uint32_t *r : {ours, plain, bits}) {
+    for (uint32_t *r : {plain, bits}) {
         memcpy(r, SEEDS, sizeof SEEDS);
     }
     for (int j = 0; j < 50; j++) {
-        jabulghi_block(ours, expected, LENGTH);
+        jabulghi_block(&ours, expected, LENGTH);
         plain_block(plain, block, LENGTH);
         if (memcmp(block, expected, sizeof block) != 0) fail("samples of plain C");
         plain_block_bits(bits, block, LENGTH);
         if (memcmp(block, expected, sizeof block) != 0) fail("samples of plain C, root by bits");
     }
     std::vector<Row> rows;
-    rows.push_back({"jabulghi_block", [] { jabulghi_block(ours, block, LENGTH); }, {}});
+    rows.push_back({"jabulghi_block", [] { jabulghi_block(&ours, block, LENGTH); }, {}});
     rows.push_back({"the same steps in plain C, root by floating point", [] { plain_block(plain, block, LENGTH); }, {}});
     rows.push_back({"the same steps in plain C, root bit by bit", [] { plain_block_bits(bits, block, LENGTH); }, {}});
 #ifdef HAVE_GSL
@@ -103,18 +110,18 @@ static void samples() {
 }
 
 static void draws() {
-    static uint32_t words[LENGTH], expected[LENGTH], ours[6], plain[6];
-    memcpy(ours, SEEDS, sizeof SEEDS);
+    static jabulghi_record ours = seeded();
+    static uint32_t words[LENGTH], expected[LENGTH], plain[6];
     memcpy(plain, SEEDS, sizeof SEEDS);
     for (uint32_t &x : expected) {
-        jabulghi_draw_a(ours, &x);
+        jabulghi_draw_a(&ours, &x);
     }
     auto check = [](const char *what) {
         if (memcmp(words, expected, sizeof words) != 0) fail(what);
         printf("the first %zu draws of %s from the same registers are ours\n", LENGTH, what);
     };
     std::vector<Row> rows;
-    rows.push_back({"jabulghi_draw_a", [] { for (uint32_t &x : words) jabulghi_draw_a(ours, &x); }, {}});
+    rows.push_back({"jabulghi_draw_a", [] { for (uint32_t &x : words) jabulghi_draw_a(&ours, &x); }, {}});
     rows.push_back({"the same steps in plain C", [] { for (uint32_t &x : words) plain_draw_a(plain, &x); }, {}});
     rows[1].fill();
     check("plain C");

@@ -1,8 +1,8 @@
-//! Links target/staticlib/libabi.a of the repository.
+//! Links target/staticlib/libjabulghi.a of the repository.
 fn main() {
     let root = std::path::Path::new(env!("CARGO_MANIFEST_DIR")).parent().unwrap();
     let folder = root.join("target/staticlib");
     println!("cargo:rustc-link-search=native={}", folder.display());
-    println!("cargo:rustc-link-lib=static=abi");
-    println!("cargo:rerun-if-changed={}", folder.join("libabi.a").display());
+    println!("cargo:rustc-link-lib=static=jabulghi");
+    println!("cargo:rerun-if-changed={}", folder.join("libjabulghi.a").display());
 }

@@ -4,18 +4,23 @@
 #include <stdio.h>
 #include <string.h>
 
-static void show_record(const uint32_t *r) {
-    for (int j = 0; j < 6; j++) printf(" %" PRIu32, r[j]);
+/* A record is six registers with nothing between them: where that fails, the size of an array is negative. */
+typedef char record_is_six_registers[sizeof(jabulghi_record) == 6 * sizeof(uint32_t) ? 1 : -1];
+typedef char a_comes_first[offsetof(jabulghi_record, a) == 0 ? 1 : -1];
+typedef char b_comes_after[offsetof(jabulghi_record, b) == 3 * sizeof(uint32_t) ? 1 : -1];
+
+static void show_record(const jabulghi_record *r) {
+    printf(" %" PRIu32 " %" PRIu32 " %" PRIu32 " %" PRIu32 " %" PRIu32 " %" PRIu32, r->a[0], r->a[1], r->a[2], r->b[0], r->b[1], r->b[2]);
     printf("\n");
 }
 
-static void seed(uint32_t *r, uint32_t a0) {
+static void seed(jabulghi_record *r, uint32_t a0) {
     uint32_t number = jabulghi_seed(a0, 8, 16, 2, 8, 16, r);
     printf("seed %" PRIu32 ":", number);
     show_record(r);
 }
 
-static void draw(const char *name, uint32_t call(uint32_t *, uint32_t *), uint32_t *r) {
+static void draw(const char *name, uint32_t call(jabulghi_record *, uint32_t *), jabulghi_record *r) {
     uint32_t word = 7, number = call(r, &word);
     printf("draw %s %" PRIu32 ": 0x%08" PRIX32 ", record", name, number, word);
     show_record(r);
@@ -27,14 +32,14 @@ static void sample(uint64_t k, uint32_t v) {
     printf("sample %" PRIu32 ": %d %d\n", number, s[0], s[1]);
 }
 
-static void pair(uint32_t *r) {
+static void pair(jabulghi_record *r) {
     int16_t s[2] = {7, 7};
     uint32_t number = jabulghi_pair(r, s);
     printf("pair %" PRIu32 ": %d %d, record", number, s[0], s[1]);
     show_record(r);
 }
 
-static void block(uint32_t *r, size_t length) {
+static void block(jabulghi_record *r, size_t length) {
     int16_t s[6] = {7, 7, 7, 7, 7, 7};
     uint32_t number = jabulghi_block(r, s, length);
     printf("block %" PRIu32 ": %d %d %d %d %d %d, record", number, s[0], s[1], s[2], s[3], s[4], s[5]);
@@ -71,24 +76,24 @@ static void list_shots(int shots) {
 #define EXAMPLE SEEDS "(sigma 4 10)\n(shot A1 A2 12345 4500)\n(shot A2 A3 9000 65530)\n"
 
 int main(void) {
-    uint32_t r[6] = {7, 7, 7, 7, 7, 7}, unfit[6] = {2, 8, 16, 2, 8, 15};
-    seed(r, 1);
-    seed(r, 2);
-    draw("a", jabulghi_draw_a, r);
-    draw("a", jabulghi_draw_a, r);
-    draw("b", jabulghi_draw_b, r);
-    draw("a", jabulghi_draw_a, unfit);
-    draw("b", jabulghi_draw_b, unfit);
+    jabulghi_record r = {{7, 7, 7}, {7, 7, 7}}, unfit = {{2, 8, 16}, {2, 8, 15}};
+    seed(&r, 1);
+    seed(&r, 2);
+    draw("a", jabulghi_draw_a, &r);
+    draw("a", jabulghi_draw_a, &r);
+    draw("b", jabulghi_draw_b, &r);
+    draw("a", jabulghi_draw_a, &unfit);
+    draw("b", jabulghi_draw_b, &unfit);
     sample(1, 49152);
     sample((uint64_t)1 << 40, 24576);
     sample((uint64_t)1 << 48, 65536);
     sample(0, 65536);
-    pair(r);
-    pair(unfit);
-    block(r, 0);
-    block(r, 4);
-    block(r, 5);
-    block(unfit, 5);
+    pair(&r);
+    pair(&unfit);
+    block(&r, 0);
+    block(&r, 4);
+    block(&r, 5);
+    block(&unfit, 5);
     list_text(EXAMPLE, 20480);
     list_text(EXAMPLE, 51);
     list_text(SEEDS "(sigma 4 10)\n", 24);

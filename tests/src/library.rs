@@ -1,14 +1,14 @@
-//! The static library's functions as include/jabulghi.h declares them, called on marked memory.
+//! The static library's functions as include/jabulghi.h declares them, called on marked memory. A record is its six registers.
 use crate::stream::{Record, A};
 use std::fmt;
 
 extern "C" {
-    fn jabulghi_seed(a0: u32, a1: u32, a2: u32, b0: u32, b1: u32, b2: u32, registers: *mut u32) -> u32;
-    fn jabulghi_draw_a(registers: *mut u32, draw: *mut u32) -> u32;
-    fn jabulghi_draw_b(registers: *mut u32, draw: *mut u32) -> u32;
+    fn jabulghi_seed(a0: u32, a1: u32, a2: u32, b0: u32, b1: u32, b2: u32, record: *mut u32) -> u32;
+    fn jabulghi_draw_a(record: *mut u32, draw: *mut u32) -> u32;
+    fn jabulghi_draw_b(record: *mut u32, draw: *mut u32) -> u32;
     fn jabulghi_sample(k: u64, v: u32, samples: *mut i16) -> u32;
-    fn jabulghi_pair(registers: *mut u32, samples: *mut i16) -> u32;
-    fn jabulghi_block(registers: *mut u32, block: *mut i16, length: usize) -> u32;
+    fn jabulghi_pair(record: *mut u32, samples: *mut i16) -> u32;
+    fn jabulghi_block(record: *mut u32, block: *mut i16, length: usize) -> u32;
 }
 
 /// Elements on either side of lent memory that a call must leave alone.

@@ -1,8 +1,8 @@
--- `abi::jabulghi_draw_a` meets its contract: number, lent number and registers are those of the call below it.
--- Assumes nothing.
+-- `jabulghi::jabulghi_draw_a` meets its contract: number, lent number and registers are those of the call below it.
+use mathlib.Core.Path.{refl}
 use borrow.Author.Needs.{needs}
-use Rattle.abi.proofs.jabulghi_draw_a.Statement.{statement}
-use Rattle.abi.proofs.jabulghi_draw_a.Tie as tie
+use Rattle.jabulghi.proofs.jabulghi_draw_a.Statement.{statement}
+use Rattle.jabulghi.proofs.jabulghi_draw_a.Tie as tie
 
 unpacked-requires : tie.Need-unpacked-requires
 unpacked-requires c κs = search needs
@@ -14,7 +14,8 @@ packed-requires : tie.Need-packed-requires
 packed-requires c κs = search needs
 
 returns : tie.Need-returns
-returns c = (cc, (cc, cc))
+returns c =
+    rw (← (c .before .before .before .unpacked .ensures), ← (c .before .before .draw-a .ensures)) (refl, (refl, c .packed .ensures))
 
 pub jabulghi-draw-a-spec : {M : Type 1} → statement M
 jabulghi-draw-a-spec =

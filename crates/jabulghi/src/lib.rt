@@ -1,4 +1,5 @@
-// The makers' C interface: each function equals the call below it. A generator record is six lent registers, a's s0, s1, s2 and then b's.
+// The makers' C interface: each function equals the call below it. A generator record is lent as six registers, a's s0, s1, s2 and then b's: the
+// header's struct jabulghi_record.
 ghost use mathlib.Core.Path.{_≡_};
 ghost use Prim.Native.Nat.{_<_, _^_};
 ghost use mathlib.Core.List.{[], _∷_};
@@ -8,7 +9,7 @@ ghost use Rattle.sample.specs.Sample.{samplesOf, nineSixteenths};
 ghost use Rattle.exact.specs.Pair.{Close};
 ghost use Rattle.noise.specs.Noise.{pairOf, blockOf, blockHolds};
 ghost use Rattle.job.specs.Job.{jobOf, answerOf, bufferAfter};
-ghost use Rattle.abi.specs.Registers.{registersOf, generatorOf, samplesIn};
+ghost use Rattle.jabulghi.specs.Registers.{registersOf, generatorOf, samplesIn};
 use streams::Generator;
 use streams::Stream;
 
@@ -63,10 +64,11 @@ pub extern "C" fn jabulghi_draw_a(registers: &mut [u32; 6], draw: &mut u32) -> u
     ensures { λ _. ⌜ now (draw .exit) ≡ drawA (generatorOf (now (registers .entry))) .draw ⌝ }
     ensures { λ _. ⌜ now (registers .exit) ≡ registersOf (drawA (generatorOf (now (registers .entry))) .next) ⌝ }
 {
-    let from_a = unpacked(*registers).draw_a();
-    let next = from_a.next;
+    let g = unpacked(*registers);
+    let from_a = g.draw_a();
+    let after_a = from_a.next;
     *draw = from_a.draw;
-    *registers = packed(next);
+    *registers = packed(after_a);
     from_a.number
 }
 
@@ -77,10 +79,11 @@ pub extern "C" fn jabulghi_draw_b(registers: &mut [u32; 6], draw: &mut u32) -> u
     ensures { λ _. ⌜ now (draw .exit) ≡ drawB (generatorOf (now (registers .entry))) .draw ⌝ }
     ensures { λ _. ⌜ now (registers .exit) ≡ registersOf (drawB (generatorOf (now (registers .entry))) .next) ⌝ }
 {
-    let from_b = unpacked(*registers).draw_b();
-    let next = from_b.next;
+    let g = unpacked(*registers);
+    let from_b = g.draw_b();
+    let after_b = from_b.next;
     *draw = from_b.draw;
-    *registers = packed(next);
+    *registers = packed(after_b);
     from_b.number
 }
 
@@ -105,9 +108,9 @@ pub extern "C" fn jabulghi_pair(registers: &mut [u32; 6], samples: &mut [i16; 2]
 {
     let g = unpacked(*registers);
     let pair = noise::pair(g);
-    let next = pair.next;
+    let after_pair = pair.next;
     *samples = [pair.first, pair.second];
-    *registers = packed(next);
+    *registers = packed(after_pair);
     pair.number
 }
 
@@ -120,8 +123,8 @@ pub extern "C" fn jabulghi_block(registers: &mut [u32; 6], block: &mut [i16]) ->
 {
     let g = unpacked(*registers);
     let filled = noise::block(g, block);
-    let next = filled.next;
-    *registers = packed(next);
+    let after_block = filled.next;
+    *registers = packed(after_block);
     filled.number
 }
 

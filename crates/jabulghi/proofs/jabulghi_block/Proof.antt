@@ -1,8 +1,8 @@
--- `abi::jabulghi_block` meets its contract: number, lent block and registers are those of the call below it.
--- Assumes nothing.
+-- `jabulghi::jabulghi_block` meets its contract: number, lent block and registers are those of the call below it.
+use mathlib.Core.Path.{refl}
 use borrow.Author.Needs.{needs}
-use Rattle.abi.proofs.jabulghi_block.Statement.{statement}
-use Rattle.abi.proofs.jabulghi_block.Tie as tie
+use Rattle.jabulghi.proofs.jabulghi_block.Statement.{statement}
+use Rattle.jabulghi.proofs.jabulghi_block.Tie as tie
 
 unpacked-requires : tie.Need-unpacked-requires
 unpacked-requires c κs = search needs
@@ -17,7 +17,10 @@ same-length : tie.Need-same-length
 same-length c = search needs
 
 returns : tie.Need-returns
-returns c = (cc, (cc, cc))
+returns c =
+    let unpacked = c .before .before .before .before .before .unpacked in
+    let block = c .before .before .before .block in
+    rw (← (unpacked .ensures), ← (block .ensures .0)) (refl, (block .ensures .1, c .packed .ensures))
 
 pub jabulghi-block-spec : {M : Type 1} → statement M
 jabulghi-block-spec =

@@ -1,11 +1,11 @@
--- `abi::jabulghi_sample` meets its contract: number and lent samples are those of the call from k and v, and so is its closeness.
--- Assumes nothing.
+-- `jabulghi::jabulghi_sample` meets its contract: number and lent samples are those of the call from k and v, and so is its closeness.
+use mathlib.Core.Path.{refl}
 use borrow.Author.Needs.{needs}
 use mir.Syntax.{w16}
 use mir.Val.{SFits}
-use Rattle.abi.proofs.Stored.{stored}
-use Rattle.abi.proofs.jabulghi_sample.Statement.{statement}
-use Rattle.abi.proofs.jabulghi_sample.Tie as tie
+use Rattle.jabulghi.proofs.Stored.{stored}
+use Rattle.jabulghi.proofs.jabulghi_sample.Statement.{statement}
+use Rattle.jabulghi.proofs.jabulghi_sample.Tie as tie
 
 sample-requires : tie.Need-sample-requires
 sample-requires c κs = search needs
@@ -16,7 +16,7 @@ returns c =
     let s = c .before .before .sample in
     let first : SFits w16 (s .result .first) = record { sfits = given .1 .0 .1 } in
     let second : SFits w16 (s .result .second) = record { sfits = given .1 .1 .0 .1 } in
-    (cc, (stored first second (cc) (cc), rw (s .ensures .0) at (s .ensures .1)))
+    rw (← (s .ensures .0)) (refl, (stored first second, s .ensures .1))
 
 pub jabulghi-sample-spec : {M : Type 1} → statement M
 jabulghi-sample-spec = tie.close (tie.spec sample-requires returns)

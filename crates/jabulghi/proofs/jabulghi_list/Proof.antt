@@ -1,0 +1,19 @@
+-- `jabulghi::jabulghi_list` meets its contract: number, line, length and listing are those of the call below it.
+use mathlib.Core.Path.{refl}
+use borrow.Author.Needs.{needs}
+use Rattle.jabulghi.proofs.jabulghi_list.Statement.{statement}
+use Rattle.jabulghi.proofs.jabulghi_list.Tie as tie
+
+list-requires : tie.Need-list-requires
+list-requires c κs = search needs
+
+same-length : tie.Need-same-length
+same-length c = search needs
+
+returns : tie.Need-returns
+returns c =
+    let list = c .before .before .list in
+    rw (← (list .ensures .0)) (refl, (refl, (refl, list .ensures .1)))
+
+pub jabulghi-list-spec : {M : Type 1} → statement M
+jabulghi-list-spec = tie.close (tie.spec list-requires same-length returns)
