@@ -1,5 +1,6 @@
 //! Whole jobs: the library's listing beside the other implementation's.
 use crate::cases::{below, same, Case};
+use crate::given;
 use crate::job;
 use crate::library::{Lent, Mark};
 use crate::random::Random;
@@ -86,6 +87,19 @@ impl Case for Job {
         out.extend(below(*room as u64).into_iter().map(|r| Job(text.clone(), r as usize)));
         out
     }
+}
+
+/// The jobs written out, with room enough; an accepted one also with just its listing's room, a byte more, a byte less and none.
+pub fn given(tables: &Tables) -> String {
+    let texts = given::texts();
+    let mut numbers = [0; 11];
+    for text in &texts {
+        let length = job::list(tables, text, usize::MAX).2.len();
+        for room in [20_480, length, length + 1, length.saturating_sub(1), 0] {
+            numbers[same(tables, &Job(text.clone(), room)).0 as usize] += 1;
+        }
+    }
+    format!("{} jobs written out, each with five buffers, by number {numbers:?}", texts.len())
 }
 
 pub fn jobs(tables: &Tables, random: &mut Random) -> String {

@@ -1,7 +1,11 @@
 //! Runs the static library beside another implementation of document 01, written from the document alone.
-//! JABULGHI_SEED gives the generated inputs another seed.
+//! JABULGHI_SEED gives the generated inputs another seed. With the words `checks FOLDER` it writes what the program crates/checks reads and
+//! has to print.
 mod cases;
+mod checks;
+mod edges;
 mod fixed;
+mod given;
 mod inputs;
 mod job;
 mod library;
@@ -22,8 +26,17 @@ fn main() {
     let seed = std::env::var("JABULGHI_SEED").map_or(1996, |s| s.parse().expect("JABULGHI_SEED is a number"));
     let tables = Tables::new();
     readings::check(&tables);
+    let words: Vec<String> = std::env::args().skip(1).collect();
+    if let [word, folder] = &words[..] {
+        assert_eq!(word, "checks");
+        return checks::write(&tables, folder.as_ref());
+    }
     println!("the other implementation gives document 01's readings and example; inputs from seed {seed}");
     type Group = fn(&Tables, &mut Random) -> String;
+    let edges: [fn(&Tables) -> String; 4] = [edges::records, edges::cells, edges::lengths, listings::given];
+    for group in edges {
+        println!("{}, all equal", group(&tables));
+    }
     let groups: [Group; 6] = [draws, histories, samples, pairs, blocks, listings::jobs];
     for (j, group) in groups.into_iter().enumerate() {
         let start = Instant::now();
