@@ -1,2 +1,0 @@
--- What the proof of `size` uses.
-mod Signs

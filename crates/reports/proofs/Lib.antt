@@ -1,3 +1,0 @@
-mod Samples
-mod Checksums
-mod Registers
