@@ -9,9 +9,7 @@ use lib.IntN.{ℤ, pos, negsuc, natAbs}
 use lib.ListN.{length}
 use borrow.Author.Tests.{ltb-false, eqb-true, not-false}
 use Rattle.streams.specs.declared.Generator.{Generator}
-use Rattle.streams.specs.Streams.{accepted, pick, uniformsOf}
-use Rattle.sample.specs.Sample.{samplesOf}
-use Rattle.sample.proofs.Theorems.{theorems}
+use Rattle.noise.proofs.Theorems.{pair-sizes}
 use Rattle.noise.specs.Noise.{pairOf}
 use Rattle.noise.specs.declared.PairAnswer.{PairAnswer}
 use Rattle.job.specs.Limits.{lastLine, mostSigma, mostDistance, mostBearing}
@@ -27,25 +25,12 @@ use Rattle.job.proofs.Sizes.{noise-small}
 use Rattle.job.proofs.Rows.{row-bound}
 use Rattle.job.proofs.Names.{names-short}
 
--- the samples of a pair are those of some k and v, or 0
+-- the samples of a pair have 16 bits
 abbrev Small : PairAnswer → Type 0
 Small r = (natAbs (r .first) ≤ mostSize) × (natAbs (r .second) ≤ mostSize)
 
 pub pair-small : (g : Generator) → Small (pairOf g)
-unfolding pairOf
-pair-small g = go (accepted g)
-  where
-    go : (b : Bool) → Small
-        (pick {A = PairAnswer} b
-        (record {
-          number = 0;
-          first = samplesOf (uniformsOf g .k) (uniformsOf g .v) .first;
-          second = samplesOf (uniformsOf g .k) (uniformsOf g .v) .second;
-          next = uniformsOf g .next;
-        })
-        (record { number = 1; first = pos 0; second = pos 0; next = g }))
-    go true = let s = theorems .sizes (uniformsOf g .k) (uniformsOf g .v) in (omega (arith, s .0), omega (arith, s .1))
-    go false = (omega arith, omega arith)
+pair-small g = let s = pair-sizes g in (omega (arith, s .0), omega (arith, s .1))
 
 noise-bound : (σ n : ℕ) → σ ≤ mostSigma → n ≤ mostSize → noiseSize σ n ≤ mostNoise
 unfolding noiseSize

@@ -6,9 +6,8 @@ use mathlib.Core.Bool.{Bool, true, false, not, _||_, true≢false}
 use mathlib.Core.List.{List}
 use lib.Dec.{ltb}
 use borrow.Author.Tests.{lt-ltb, le-ltb, eq-eqb, ne-eqb, ltb-false}
-use Rattle.streams.specs.Streams.{accepted, pick, seedOf}
-use Rattle.streams.specs.declared.Generator.{Generator}
-use Rattle.streams.specs.declared.Seeded.{Seeded}
+use Rattle.streams.specs.Streams.{seedOf}
+use Rattle.streams.proofs.Theorems.{record-cases}
 use Rattle.job.specs.Limits.{lastLine, mostSeed, mostSigma, mostDistance, mostBearing}
 use Rattle.job.specs.Forms.{Form, seeds, sigma, shot, noForm}
 use Rattle.job.specs.Refusals.{formless, misplaced, tooMany, beyond, seedNumber, refusal}
@@ -98,15 +97,8 @@ module _ (k d b : ℕ) where
 -- seeding does not answer with a job's own number for a listing that is too long
 pub seed-not-10 : (x : Form) → seedNumber x ≡ 10 → ⊥
 unfolding seedNumber seedOf
-seed-not-10 (seeds a0 a1 a2 b0 b1 b2) e = either (accepted (g a0 a1 a2 b0 b1 b2)) e
-  where
-    g : ℕ → ℕ → ℕ → ℕ → ℕ → ℕ → Generator
-    g a0 a1 a2 b0 b1 b2 = record { a = record { s0 = a0; s1 = a1; s2 = a2 }; b = record { s0 = b0; s1 = b1; s2 = b2 } }
-
-    either : (t : Bool) → pick {A = Seeded} t (record { number = 0; next = g a0 a1 a2 b0 b1 b2 })
-        (record { number = 1; next = g 0 0 0 0 0 0 }) .number ≡ 10 → ⊥
-    either true e = omega (arith, e)
-    either false e = omega (arith, e)
+seed-not-10 (seeds a0 a1 a2 b0 b1 b2) e =
+    record-cases (λ (n : ℕ). n ≡ 10 → ⊥) _ (λ e. omega (arith, e)) (λ e. omega (arith, e)) e
 seed-not-10 (sigma d b) e = omega (arith, e)
 seed-not-10 (shot from to d b) e = omega (arith, e)
 seed-not-10 noForm e = omega (arith, e)

@@ -93,6 +93,15 @@ accepted-minima g = (
   λ m. rw (fit-minima (g .a) .1 (m .0), fit-minima (g .b) .1 (m .1)),
 )
 
+-- The number of any record is one of these.
+pub record-cases : (P : ℕ → Type 0) (g : Generator) → P 0 → P 1 → P (recordNumber g)
+unfolding recordNumber
+record-cases P g accepted refused = by-test (fit (g .a) && fit (g .b))
+  where
+    by-test : (t : Bool) → P (cond t 0 1)
+    by-test true = accepted
+    by-test false = refused
+
 -- 2, 8 and 16 are accepted, and one below in any of the six registers is not.
 abbrev registers : ℕ → ℕ → ℕ → ℕ → ℕ → ℕ → Generator
 registers a0 a1 a2 b0 b1 b2 = fresh (record { s0 = a0; s1 = a1; s2 = a2 }) (record { s0 = b0; s1 = b1; s2 = b2 })
