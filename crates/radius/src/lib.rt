@@ -69,7 +69,7 @@ fn difference_or_zero(x: u64, y: u64) -> u64
 // Q, the logarithm of 2^48 / m at 2^40, from the tables A and B and ln 2.
 fn logarithm(coarse: &[u64], fine: &[u64], ln2: u64, m: u64) -> u64
     requires { ⌜ (0 < m) × (m < 2 ^ width) × (ln2 < 2 ^ 40) ⌝ }
-    ensures { λ r. ⌜ r ≡ logarithm (entryOf (now (coarse .entry)) 256) (entryOf (now (fine .entry)) 0) ln2 width m ⌝ }
+    ensures { λ r. ⌜ (r ≡ logarithm (entryOf (now (coarse .entry)) 256) (entryOf (now (fine .entry)) 0) ln2 width m) × (r < 2 ^ 46) ⌝ }
 {
     let doublings = (WIDTH - top_bit(m)) as u64;
     let cell = cell_of(m);
@@ -148,5 +148,7 @@ fn numerator(k: u64) -> u64
 pub fn radius(coarse: &[u64], fine: &[u64], k: u64) -> u64
     ensures { λ r. ⌜ r ≡ radius (entryOf (now (coarse .entry)) 256) (entryOf (now (fine .entry)) 0) lnTwo width (numerator (k % 2 ^ width)) ⌝ }
 {
-    root(2 * logarithm(coarse, fine, tables::ln_two(), numerator(k % LIMIT)))
+    let ln2 = tables::ln_two();
+    let m = numerator(k % LIMIT);
+    root(2 * logarithm(coarse, fine, ln2, m))
 }

@@ -2,6 +2,7 @@
 use mathlib.Core.Path.{_≡_, refl, ap}
 use mathlib.Core.List.{List, [], _∷_}
 use Prim.Native.Nat.{ℕ, zero, suc, _+_, _*_, _/_, _≤_, _<_, min}
+use native.Mathlib.Numerals.{add-one}
 use native.Mathlib.Omega.{arith}
 use lib.IntN.{ℤ}
 use lib.ListN.{length, take, getD, set}
@@ -37,7 +38,7 @@ filled-all (suc n) (z ∷ zs) (x ∷ []) h = refl
 filled-all (suc n) (z ∷ zs) (x ∷ y ∷ out) h = ap (λ (l : List ℤ). firstAt z ∷ secondAt z ∷ l) (filled-all n zs out (omega arith))
 
 -- one pair more: two stores
-pub filled-step : (i : ℕ) (zs : List ℕ) (out : List ℤ) → i < length zs → 2 * i + 1 < length out →
+filled-step : (i : ℕ) (zs : List ℕ) (out : List ℤ) → i < length zs → 2 * i + 1 < length out →
     set (set (filled (take i zs) out) (2 * i) (firstAt (getD zs i 0))) (2 * i + 1) (secondAt (getD zs i 0))
     ≡ filled (take (suc i) zs) out
 unfolding filled
@@ -49,3 +50,9 @@ filled-step (suc i) (z ∷ zs) (x ∷ y ∷ out) h g =
     let a : 2 * suc i ≡ suc (suc (2 * i)) = omega arith in
     let b : 2 * suc i + 1 ≡ suc (suc (2 * i + 1)) = omega arith in
     rw (b, a) (ap (λ (l : List ℤ). firstAt z ∷ secondAt z ∷ l) (filled-step i zs out (omega arith) (omega arith)))
+
+-- the same of a slice that is filled so far, and of two numbers that are the next samples
+pub filled-next : (i : ℕ) (zs : List ℕ) (out now : List ℤ) (a b : ℤ) → now ≡ filled (take i zs) out →
+    a ≡ firstAt (getD zs i 0) → b ≡ secondAt (getD zs i 0) → i < length zs → 2 * i + 1 < length out →
+    set (set now (2 * i) a) (2 * i + 1) b ≡ filled (take (i + 1) zs) out
+filled-next i zs out now a b e first second h g = rw (e, first, second, add-one i) (filled-step i zs out h g)

@@ -6,7 +6,7 @@ use native.Mathlib.Nat.{div-mul-le-self}
 use native.Mathlib.Omega.{arith}
 use borrow.Author.Needs.{needs}
 use Rattle.radius.specs.Steps.{width, mantissa, coarseIndex, rest, fineIndex, remainder, correction}
-use Rattle.radius.proofs.StepLaws.{fine-range, divisor-pos, divisor-range}
+use Rattle.radius.proofs.StepLaws.{coarse-range, fine-range, divisor-pos, divisor-range}
 use Rattle.radius.proofs.cell_of.Statement.{statement}
 use Rattle.radius.proofs.cell_of.Tie as tie
 
@@ -38,20 +38,21 @@ unfolding coarseIndex rest fineIndex
 add-correction c =
     let pre = c .before .pre in
     let small = fine-range width (c .before .args .m) (omega arith) (omega arith) (pre .0) (pre .1) in
-    rw (c .mantissa .ensures) (omega (arith, small))
+    omega (arith, rw (← c .mantissa .ensures) at small)
 
 mul-correction-2 : tie.Need-mul-correction-2
 unfolding coarseIndex rest fineIndex
 mul-correction-2 c =
     let pre = c .before .pre in
     let small = divisor-range width (c .before .args .m) (omega arith) (omega arith) (pre .0) (pre .1) in
-    rw (c .mantissa .ensures) (omega (arith, small .1))
+    omega (arith, rw (← c .mantissa .ensures) at (small .1))
 
 div-correction : tie.Need-div-correction
 unfolding coarseIndex rest fineIndex
 div-correction c =
     let pre = c .before .pre in
-    rw (c .mantissa .ensures) (divisor-range width (c .before .args .m) (omega arith) (omega arith) (pre .0) (pre .1) .0)
+    let range = coarse-range width (c .before .args .m) (omega arith) (omega arith) (pre .0) (pre .1) in
+    rw (c .mantissa .ensures) (omega (arith, range .0))
 
 returns : tie.Need-returns
 unfolding coarseIndex rest fineIndex remainder correction

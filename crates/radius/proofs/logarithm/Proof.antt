@@ -1,9 +1,11 @@
 -- `radius::logarithm` meets its contract: it is step 5 at what its callees return, and 48 times a number below 2^40 fits.
-use Prim.Native.Nat.{_≤_, _-_}
+use mathlib.Core.Path.{_≡_}
+use Prim.Native.Nat.{ℕ, _-_, _^_, _≤_, _<_}
 use native.Mathlib.Nat.{mul-le-mul}
 use native.Mathlib.Omega.{arith}
+use Rattle.tables.specs.Tables.{entryOf}
 use Rattle.radius.specs.Steps.{width, logarithm}
-use Rattle.radius.proofs.StepLaws.{top-below}
+use Rattle.radius.proofs.StepLaws.{top-below, logarithm-range}
 use borrow.Author.Needs.{needs}
 use Rattle.radius.proofs.logarithm.Statement.{statement}
 use Rattle.radius.proofs.logarithm.Tie as tie
@@ -45,9 +47,16 @@ difference-or-zero-requires-2 c κs = search needs
 difference-or-zero-requires-3 : tie.Need-difference-or-zero-requires-3
 difference-or-zero-requires-3 c κs = search needs
 
+-- the logarithm is at most 48 K
+bounded : (A B : ℕ → ℕ) (K m r : ℕ) → K < 2 ^ 40 → r ≡ logarithm A B K width m → (r ≡ logarithm A B K width m) × (r < 2 ^ 46)
+bounded A B K m r h e = (e, rw e (omega (arith, logarithm-range A B K width m)))
+
 returns : tie.Need-returns
 unfolding logarithm
-returns c = cc
+returns c =
+    let start = c .before .before .before .before .before .before .before .before .before in
+    bounded (entryOf (start .args .coarse .now) 256) (entryOf (start .args .fine .now) 0) (start .args .ln2) (start .args .m)
+    (c .difference-or-zero3 .result) (start .pre .2) cc
 
 pub logarithm-spec : {M : Type 1} → statement M
 logarithm-spec =

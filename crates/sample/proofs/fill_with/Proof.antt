@@ -2,14 +2,13 @@
 -- is n - i.
 use mathlib.Core.Path.{_≡_, refl, _∙_}
 use Prim.Native.Nat.{_+_, _*_, _-_, _≤_, _<_}
-use native.Mathlib.Numerals.{add-one}
 use native.Mathlib.Omega.{arith}
 use borrow.Author.Needs.{needs}
 use mir.Syntax.{w16}
 use mir.Facts.{toZ-ofZ}
 use lib.ListN.{length, take, length-set}
 use Rattle.sample.specs.Sample.{filled}
-use Rattle.sample.proofs.FillLaws.{filled-all, filled-step}
+use Rattle.sample.proofs.FillLaws.{filled-all, filled-next}
 use Rattle.sample.proofs.fill_with.Statement.{statement}
 use Rattle.sample.proofs.fill_with.Tie as tie
 
@@ -74,7 +73,7 @@ loop-again c =
     let room : 2 * i + 1 < length (start .args .out .now) = omega arith in (
       omega arith,
       simp length-set (head .loop .inv .1),
-      rw (first, second, head .loop .inv .2, add-one i) (filled-step i (start .args .z .now) (start .args .out .now) inside room),
+      filled-next i (start .args .z .now) (start .args .out .now) _ _ _ (head .loop .inv .2) first second inside room,
     )
 
 same-length : tie.Need-same-length Inv-loop μ-loop

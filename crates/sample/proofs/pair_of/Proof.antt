@@ -50,11 +50,14 @@ module _ (c : tie.After-angle-of) where
       let tables = c .before .before .before .before .before .before .before .before .pre in
       c .angle-of .ensures .1 ∙ cosine-read (tables .cos-coarse) (tables .sin-coarse) (tables .cos-fine) (tables .sin-fine) _
 
+  parts-small : (c .angle-of .result .sine ≤ 2 ^ 30) × (c .angle-of .result .cosine ≤ 2 ^ 30)
+  parts-small = (rw sine-is (sine-range _), rw cosine-is (cosine-range _))
+
 size-requires : tie.Need-size-requires
-size-requires c κs = (radius-small (c .before), rw (sine-is c) (sine-range _))
+size-requires c κs = omega (arith, radius-small (c .before), parts-small c)
 
 size-requires-2 : tie.Need-size-requires-2
-size-requires-2 c κs = (radius-small (c .before .before), rw (cosine-is (c .before)) (cosine-range _))
+size-requires-2 c κs = omega (arith, radius-small (c .before .before), parts-small (c .before))
 
 turn-requires : tie.Need-turn-requires
 turn-requires c κs = search needs

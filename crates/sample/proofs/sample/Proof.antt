@@ -15,13 +15,13 @@ use Rattle.sample.proofs.sample.Tie as tie
 
 returns : tie.Need-returns
 unfolding samplesOf
-returns c = answer-close _ _ _ (rw (le-leb (2 ^ width) (c .before .args .k) (c .if1 .taken)) refl)
+returns c = answer-close _ _ _ (rw (le-leb (2 ^ width) (c .before .args .k) (omega arith)) refl)
 
 returns-2 : tie.Need-returns-2
 unfolding samplesOf
 returns-2 c =
     answer-close _ _ _
-    (rw (lt-leb (2 ^ width) (c .before .before .args .k) (c .before .if1 .left), lt-ltb 65535 (c .before .before .args .v) (c .if2 .taken)) refl)
+    (rw (lt-leb (2 ^ width) (c .before .before .args .k) (omega arith), lt-ltb 65535 (c .before .before .args .v) (omega arith)) refl)
 
 log-coarse-requires : tie.Need-log-coarse-requires
 log-coarse-requires c κs = search needs
