@@ -10,9 +10,9 @@ fn word(bytes: &[u8]) {
 }
 
 // A blank and a number.
-fn number(n: u64) {
+fn number(n: u32) {
     word(b" ");
-    io::print_decimal(STDOUT_FILENO, n);
+    io::print_decimal(STDOUT_FILENO, n as u64);
 }
 
 // The size of a sample.
@@ -51,19 +51,20 @@ fn part(bytes: &[u8], length: usize) {
 }
 
 // A job's number and line, and its listing.
-fn show_job(text: &[u8], listing: &mut [u8]) {
-    let answer = job::list(text, listing);
-    number(answer.number as u64);
-    number(answer.line as u64);
+fn show_job(text: &[u8]) {
+    let mut listing = [0u8; 20480];
+    let answer = job::list(text, &mut listing);
+    number(answer.number);
+    number(answer.line);
     word(b"\n");
-    part(listing, answer.length);
+    part(&listing, answer.length);
 }
 
-fn show_jobs(text: &[u8], listing: &mut [u8]) {
+fn show_jobs(text: &[u8]) {
     if 9553 <= text.len() {
-        show_job(&text[0..91], listing);
-        show_job(&text[0..9553], listing);
-        show_job(text, listing);
+        show_job(&text[0..91]);
+        show_job(&text[0..9553]);
+        show_job(text);
     }
 }
 
@@ -72,7 +73,7 @@ fn show_samples(k: u64, v: u32) {
     let s = sample::sample(k, v);
     let first = s.first;
     let second = s.second;
-    number(s.number as u64);
+    number(s.number);
     samples(&[first, second]);
 }
 
@@ -81,8 +82,8 @@ fn show_block(s0: u32, others: u32) {
     let seeded = Generator::seed(s0, others, others, others, others, others);
     let mut block = [0i16; 6];
     let filled = noise::block(seeded.next, &mut block);
-    number(seeded.number as u64);
-    number(filled.number as u64);
+    number(seeded.number);
+    number(filled.number);
     samples(&block);
 }
 
@@ -101,8 +102,7 @@ fn show_many() {
 fn main() {
     let mut text = [0u8; 9572];
     io::read_full(STDIN_FILENO, &mut text);
-    let mut listing = [0u8; 20480];
-    show_jobs(&text, &mut listing);
+    show_jobs(&text);
     show_samples(281474976710656, 0);
     show_samples(0, 65536);
     show_block(1, 16);
