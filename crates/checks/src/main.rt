@@ -19,8 +19,8 @@ fn number(n: u32) {
 fn size(sample: i16) -> u32 {
     let wide = sample as i32;
     if wide < 0 {
-        let turned = -wide;
-        return turned as u32;
+        let negated = -wide;
+        return negated as u32;
     }
     wide as u32
 }
