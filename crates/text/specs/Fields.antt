@@ -61,9 +61,9 @@ pub record Spells (test : Bool) (digits : List ℕ) (r : Numeral) : Type 0 where
   pub ok : r .ok ≡ test
   pub value : r .value ≡ cond test (value 0 digits) 0
 
--- three numerals, ok where all three are numerals
+-- three fields: ok where all are numerals, and what each spells
 pub record SpellThree (x y z : List ℕ) (r : Three) : Type 0 where
   pub ok : r .ok ≡ numeral x && numeral y && numeral z
-  pub first : r .first ≡ cond (r .ok) (value 0 x) 0
-  pub second : r .second ≡ cond (r .ok) (value 0 y) 0
-  pub third : r .third ≡ cond (r .ok) (value 0 z) 0
+  pub first : r .first ≡ cond (numeral x) (value 0 x) 0
+  pub second : r .second ≡ cond (numeral y) (value 0 y) 0
+  pub third : r .third ≡ cond (numeral z) (value 0 z) 0

@@ -33,22 +33,16 @@ pub fn put(out: &mut [u8], at: usize, bytes: &[u8]) -> usize
     at + i
 }
 
-pub fn put_byte(out: &mut [u8], at: usize, b: u8) -> usize
-    ensures { λ r. ⌜ Puts (now (out .entry)) at (b ∷ []) r (now (out .exit)) ⌝ }
-{
-    if out.len() <= at {
-        return at;
-    }
-    out[at] = b;
-    at + 1
-}
-
 // A field and the byte that ends it.
 pub fn put_field(out: &mut [u8], at: usize, bytes: &[u8], end: u8) -> usize
     ensures { λ r. ⌜ Puts (now (out .entry)) at (now (bytes .entry) ++ (end ∷ [])) r (now (out .exit)) ⌝ }
 {
     let next = put(out, at, bytes);
-    put_byte(out, next, end)
+    if out.len() <= next {
+        return next;
+    }
+    out[next] = end;
+    next + 1
 }
 
 // The digits of a number, from an index on.

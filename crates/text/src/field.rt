@@ -3,6 +3,7 @@ use crate::limits::NAME_LENGTH;
 use crate::limits::NUMERAL_LENGTH;
 ghost use Prim.Native.Nat.{_≤_};
 ghost use mathlib.Core.Path.{_≡_};
+ghost use mathlib.Core.Bool.{_&&_};
 ghost use lib.ListN.{length};
 ghost use Rattle.text.specs.Limits.{numeralLength};
 ghost use Rattle.text.specs.Fields.{within, all, digit, letterOrDigit, name, numeral, partOf, Spells, SpellThree};
@@ -19,7 +20,7 @@ pub struct Numeral {
     pub value: u64,
 }
 
-// The values of three numerals, ok where all three are numerals.
+// What stands in three fields: ok where all three are numerals, and the value of each.
 pub struct Three {
     pub ok: bool,
     pub first: u64,
@@ -153,30 +154,24 @@ pub fn numeral_at(line: &[u8], place: Place) -> Numeral
     numeral_of(part(line, place))
 }
 
+fn both(a: bool, b: bool) -> bool
+    ensures { λ r. ⌜ r ≡ a && b ⌝ }
+{
+    if a {
+        return b;
+    }
+    false
+}
+
 // The numerals at three places.
 pub fn three_at(line: &[u8], first: Place, second: Place, third: Place) -> Three
     ensures { λ r. ⌜ SpellThree (partOf (now (line .entry)) first) (partOf (now (line .entry)) second) (partOf (now (line .entry)) third) r ⌝ }
 {
-    let none = Three {
-        ok: false,
-        first: 0,
-        second: 0,
-        third: 0,
-    };
     let x = numeral_at(line, first);
-    if !x.ok {
-        return none;
-    }
     let y = numeral_at(line, second);
-    if !y.ok {
-        return none;
-    }
     let z = numeral_at(line, third);
-    if !z.ok {
-        return none;
-    }
     Three {
-        ok: true,
+        ok: both(both(x.ok, y.ok), z.ok),
         first: x.value,
         second: y.value,
         third: z.value,

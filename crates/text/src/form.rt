@@ -1,7 +1,7 @@
 // The reader of a form: bytes that a line has as they stand, and # for each field.
 use crate::field::Place;
 use crate::limits::FORM_FIELDS;
-use crate::line::field_end;
+use crate::line::scan;
 ghost use mathlib.Core.Path.{_≡_};
 ghost use Rattle.text.specs.Forms.{foundIn, readFew};
 ghost use Rattle.text.specs.Private.{formStep};
@@ -30,7 +30,7 @@ fn form_step(f: u8, line: &[u8], c: Found) -> Found
                 places,
             };
         }
-        let end = field_end(line, at);
+        let end = scan(line, at, b"\n ()");
         places[count] = Place { from: at, to: end };
         return Found {
             ok: true,

@@ -1,8 +1,8 @@
-// Where a field or a line of a text ends: scans from a place on, up to a byte that stops them.
+// Scans of a text from a place on, up to a byte that stops them, and the lines of a text.
 ghost use Prim.Native.Nat.{_+_};
 ghost use mathlib.Core.Path.{_≡_};
 ghost use lib.ListN.{length, drop};
-ghost use Rattle.text.specs.Scan.{oneOf, upTo, field, firstLine};
+ghost use Rattle.text.specs.Scan.{oneOf, upTo, firstLine};
 
 // Whether the byte is one of these.
 pub fn is_one_of(bytes: &[u8], b: u8) -> bool
@@ -30,13 +30,6 @@ pub fn scan(text: &[u8], at: usize, stops: &[u8]) -> usize
         end += 1;
     }
     end
-}
-
-// Where the field that begins at a place ends.
-pub fn field_end(line: &[u8], at: usize) -> usize
-    ensures { λ r. ⌜ r ≡ at + length (field (drop at (now (line .entry)))) ⌝ }
-{
-    scan(line, at, b"\n ()")
 }
 
 // Where the line that begins at a place ends: past its line feed, or at the end of the text.

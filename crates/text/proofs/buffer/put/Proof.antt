@@ -16,7 +16,7 @@ abbrev μ-loop : tie.MeasureT-loop
 μ-loop out₀ at bytes n i₀ out i = n - i
 
 fitting-requires : tie.Need-fitting-requires Inv-loop μ-loop
-fitting-requires c κs = search needs
+fitting-requires c κs = tt
 
 loop-holds : tie.Need-loop-holds Inv-loop μ-loop
 loop-holds c =

@@ -6,7 +6,7 @@ use Rattle.text.proofs.buffer.put_numeral.Statement.{statement}
 use Rattle.text.proofs.buffer.put_numeral.Tie as tie
 
 digits-of-requires : tie.Need-digits-of-requires
-digits-of-requires c κs = search needs
+digits-of-requires c κs = tt
 
 sub-put-field : tie.Need-sub-put-field
 sub-put-field c = search needs
@@ -18,7 +18,7 @@ part-put-field-end : tie.Need-part-put-field-end
 part-put-field-end c = omega (arith, c .before .before .before .digits-of .ensures .size)
 
 put-field-requires : tie.Need-put-field-requires
-put-field-requires c κs = search needs
+put-field-requires c κs = tt
 
 same-length : tie.Need-same-length
 same-length c = search needs

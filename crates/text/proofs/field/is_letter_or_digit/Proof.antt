@@ -5,14 +5,14 @@ use Rattle.text.proofs.field.is_letter_or_digit.Statement.{statement}
 use Rattle.text.proofs.field.is_letter_or_digit.Tie as tie
 
 is-within-requires : tie.Need-is-within-requires
-is-within-requires c κs = search needs
+is-within-requires c κs = tt
 
 returns : tie.Need-returns
 unfolding letterOrDigit letter digit
 returns c = rw (← c .before .is-within .ensures, c .if1 .taken)
 
 is-within-requires-2 : tie.Need-is-within-requires-2
-is-within-requires-2 c κs = search needs
+is-within-requires-2 c κs = tt
 
 returns-2 : tie.Need-returns-2
 unfolding letterOrDigit letter digit
@@ -25,7 +25,7 @@ returns-2 c = rw (
 )
 
 is-within-requires-3 : tie.Need-is-within-requires-3
-is-within-requires-3 c κs = search needs
+is-within-requires-3 c κs = tt
 
 returns-3 : tie.Need-returns-3
 unfolding letterOrDigit letter digit

@@ -20,7 +20,7 @@ returns-2 c = rw (lt-leb _ 12 (c .if2 .taken))
     (sym (rw (and-false (ltb 0 (length (c .before .before .before .args .part .now))))))
 
 only-letters-or-digits-requires : tie.Need-only-letters-or-digits-requires
-only-letters-or-digits-requires c κs = search needs
+only-letters-or-digits-requires c κs = tt
 
 returns-3 : tie.Need-returns-3
 unfolding name

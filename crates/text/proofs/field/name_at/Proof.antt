@@ -4,10 +4,10 @@ use Rattle.text.proofs.field.name_at.Statement.{statement}
 use Rattle.text.proofs.field.name_at.Tie as tie
 
 part-requires : tie.Need-part-requires
-part-requires c κs = search needs
+part-requires c κs = tt
 
 is-name-requires : tie.Need-is-name-requires
-is-name-requires c κs = search needs
+is-name-requires c κs = tt
 
 returns : tie.Need-returns
 returns c = rw (← c .before .part .ensures) (c .is-name .ensures)

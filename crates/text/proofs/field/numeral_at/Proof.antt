@@ -4,10 +4,10 @@ use Rattle.text.proofs.field.numeral_at.Statement.{statement}
 use Rattle.text.proofs.field.numeral_at.Tie as tie
 
 part-requires : tie.Need-part-requires
-part-requires c κs = search needs
+part-requires c κs = tt
 
 numeral-of-requires : tie.Need-numeral-of-requires
-numeral-of-requires c κs = search needs
+numeral-of-requires c κs = tt
 
 returns : tie.Need-returns
 returns c = rw (← c .before .part .ensures) (c .numeral-of .ensures)

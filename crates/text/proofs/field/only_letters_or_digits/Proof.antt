@@ -24,7 +24,7 @@ shared-slice-read-is-letter-or-digit :
 shared-slice-read-is-letter-or-digit c = search needs
 
 is-letter-or-digit-requires : tie.Need-is-letter-or-digit-requires Inv-loop μ-loop
-is-letter-or-digit-requires c κs = search needs
+is-letter-or-digit-requires c κs = tt
 
 returns : tie.Need-returns Inv-loop μ-loop
 returns c =

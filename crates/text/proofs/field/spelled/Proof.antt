@@ -25,7 +25,7 @@ shared-slice-read-b : tie.Need-shared-slice-read-b Inv-loop μ-loop
 shared-slice-read-b c = search needs
 
 is-within-requires : tie.Need-is-within-requires Inv-loop μ-loop
-is-within-requires c κs = search needs
+is-within-requires c κs = tt
 
 returns : tie.Need-returns Inv-loop μ-loop
 unfolding digit

@@ -9,8 +9,11 @@ returns : tie.Need-returns
 unfolding formStep
 returns c = rw (eq-eqb _ 35 (c .before .if1 .taken), le-leb 6 _ (c .if2 .taken), formStep)
 
-field-end-requires : tie.Need-field-end-requires
-field-end-requires c κs = search needs
+slice-aggregate-scan : tie.Need-slice-aggregate-scan
+slice-aggregate-scan c = search needs
+
+scan-requires : tie.Need-scan-requires
+scan-requires c κs = tt
 
 mul-places : tie.Need-mul-places
 mul-places c = search needs
@@ -18,22 +21,22 @@ mul-places c = search needs
 array-set-from-places : tie.Need-array-set-from-places
 array-set-from-places c = search needs
 
-add-t12 : tie.Need-add-t12
-add-t12 c = search needs
+add-t15 : tie.Need-add-t15
+add-t15 c = search needs
 
 returns-2 : tie.Need-returns-2
 unfolding formStep
-returns-2 c = rw (eq-eqb _ 35 (c .before .before .if1 .taken), lt-leb 6 _ (c .before .if2 .left), c .field-end .ensures, formStep)
+returns-2 c = rw (eq-eqb _ 35 (c .before .before .before .if1 .taken), lt-leb 6 _ (c .before .before .if2 .left), c .scan .ensures, formStep)
 
 returns-3 : tie.Need-returns-3
 unfolding formStep
 returns-3 c = rw (ne-eqb _ 35 (c .before .if1 .left), le-leb _ _ (c .if3 .taken), formStep)
 
-shared-slice-read-t19 : tie.Need-shared-slice-read-t19
-shared-slice-read-t19 c = search needs
+shared-slice-read-t22 : tie.Need-shared-slice-read-t22
+shared-slice-read-t22 c = search needs
 
-add-t16 : tie.Need-add-t16
-add-t16 c = search needs
+add-t19 : tie.Need-add-t19
+add-t19 c = search needs
 
 returns-4 : tie.Need-returns-4
 unfolding formStep
@@ -44,12 +47,13 @@ form-step-spec =
     tie.close
     (tie.spec
     returns
-    field-end-requires
+    slice-aggregate-scan
+    scan-requires
     mul-places
     array-set-from-places
-    add-t12
+    add-t15
     returns-2
     returns-3
-    shared-slice-read-t19
-    add-t16
+    shared-slice-read-t22
+    add-t19
     returns-4)

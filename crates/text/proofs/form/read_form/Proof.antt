@@ -23,7 +23,7 @@ shared-slice-read-form-step : tie.Need-shared-slice-read-form-step Inv-loop μ-l
 shared-slice-read-form-step c = search needs
 
 form-step-requires : tie.Need-form-step-requires Inv-loop μ-loop
-form-step-requires c κs = search needs
+form-step-requires c κs = tt
 
 returns : tie.Need-returns Inv-loop μ-loop
 unfolding foundIn

@@ -8,7 +8,7 @@ slice-aggregate-scan : tie.Need-slice-aggregate-scan
 slice-aggregate-scan c = search needs
 
 scan-requires : tie.Need-scan-requires
-scan-requires c κs = search needs
+scan-requires c κs = tt
 
 add-result : tie.Need-add-result
 add-result c = search needs

@@ -22,7 +22,7 @@ shared-slice-read-is-one-of : tie.Need-shared-slice-read-is-one-of Inv-loop μ-l
 shared-slice-read-is-one-of c = search needs
 
 is-one-of-requires : tie.Need-is-one-of-requires Inv-loop μ-loop
-is-one-of-requires c κs = search needs
+is-one-of-requires c κs = tt
 
 returns : tie.Need-returns Inv-loop μ-loop
 returns c =
