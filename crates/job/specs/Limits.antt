@@ -1,11 +1,11 @@
 -- The limits of a job (document 01, "A job and its listing"); src/limits.rt has the same.
 use Prim.Native.Nat.{ℕ, _+_}
 
--- "text of at most 60,000 bytes"
+-- "A job is text of at most" so many bytes
 abbrev pub mostBytes : ℕ
 mostBytes = 60000
 
--- "0 to 500 lines"
+-- the shots of a job
 abbrev pub mostShots : ℕ
 mostShots = 500
 
@@ -13,23 +13,23 @@ mostShots = 500
 abbrev pub lastLine : ℕ
 lastLine = mostShots + 2
 
--- "a listing buffer of 20,480 bytes"
+-- the bytes of the listing program's buffer
 abbrev pub listingRoom : ℕ
 listingRoom = 20480
 
--- "a seed is at most 4294967295"
+-- "a seed is at most"
 abbrev pub mostSeed : ℕ
 mostSeed = 4294967295
 
--- "each 0 to 1000"
+-- "distance in mm and bearing in steps": the most of each sigma
 abbrev pub mostSigma : ℕ
 mostSigma = 1000
 
--- "distance 0 to 1,000,000 mm"
+-- in mm
 abbrev pub mostDistance : ℕ
 mostDistance = 1000000
 
--- "bearing 0 to 65535", "65536 steps a turn"
+-- in steps, of which a turn has one more
 abbrev pub mostBearing : ℕ
 mostBearing = 65535
 

@@ -46,7 +46,7 @@ pub record Theorems : Type 0 where
   pub bearing-range : (sigma b : ℕ) (z : ℤ) → noisyBearing sigma b z < turnSteps
   pub bearing-up : (sigma b n : ℕ) → noisyBearing sigma b (pos n) ≡ (b + noiseSize sigma n) % turnSteps
   pub bearing-down : (sigma b n : ℕ) → (noisyBearing sigma b (negsuc n) + noiseSize sigma (suc n)) % turnSteps ≡ b % turnSteps
-  -- a job is listed just where its text says accepted lines, two at least, in at most 60,000 bytes: the header, the rows of its
+  -- a job is listed just where its text says accepted lines, two at least, in few enough bytes: the header, the rows of its
   -- shots in the job's order, and the count of the lines after the first two
   pub listed-job : (xs : List Form) → Accepts 1 xs → 2 ≤ length xs → length (textOf xs) ≤ mostBytes
       → jobOf (textOf xs) ≡ listed (header ++ (rows start xs ++ endRow (length xs - 2)))
@@ -59,6 +59,6 @@ pub record Theorems : Type 0 where
       → jobOf text ≡ refused (refusal (1 + length xs) (readLine l)) (1 + length xs)
   pub missing-line : (text : List ℕ) (xs : List Form) → length text ≤ mostBytes → Accepts 1 xs → lines text ≡ map printLine xs
       → length xs < 2 → jobOf text ≡ refused 8 (1 + length xs)
-  -- a listing fits 20,480 bytes, so the listing program never prints 10
+  -- a listing fits the listing program's buffer, so that it never prints 10
   pub fits : (text bytes : List ℕ) → jobOf text ≡ listed bytes → length bytes ≤ listingRoom
   pub never-too-long : (text : List ℕ) → answerOf (jobOf text) listingRoom .number ≡ 10 → ⊥
