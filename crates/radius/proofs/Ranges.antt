@@ -4,15 +4,11 @@ use native.Mathlib.Nat.{lt-of-not-le, mul-le-mul}
 use native.Mathlib.Omega.{arith}
 use Rattle.tables.specs.Tables.{lnTwo}
 use Rattle.tables.proofs.Bounds.{bounds}
-use Rattle.radius.specs.Steps.{width, logarithm, radius, radiusOf}
+use Rattle.radius.specs.Steps.{width, logarithm, radius, radiusOf, radiusLimit}
 use Rattle.radius.proofs.StepLaws.{logarithm-range, whole-root}
 
 pub ln-two-range : lnTwo < 2 ^ 40
 ln-two-range = omega (arith, bounds .ln-two)
-
--- the radius at 2^20 that is 16706.5 units of 2^-11
-abbrev pub radiusLimit : ℕ
-radiusLimit = 8553728
 
 -- F² ≤ 2Q ≤ 96 K
 pub radius-range : (A B : ℕ → ℕ) (m : ℕ) → radius A B lnTwo width m < radiusLimit

@@ -56,3 +56,7 @@ radius A B K b m = wholeRoot (2 * logarithm A B K b m)
 -- F for k, at the tables
 unfoldable pub radiusOf : ℕ → ℕ
 radiusOf k = radius (entryOf logCoarse 256) (entryOf logFine 0) lnTwo width (numerator k)
+
+-- F is below this (the law `radius-range`), which is 16706.5 units of 2^-11.
+abbrev pub radiusLimit : ℕ
+radiusLimit = 8553728

@@ -1,5 +1,5 @@
 -- Laws of the rounding: the sign apart from the size, and the largest size.
-use mathlib.Core.Path.{_≡_, refl, sym, ap, ap₂, _∙_}
+use mathlib.Core.Path.{_≡_, refl, sym}
 use mathlib.Core.Bool.{Bool, true, false}
 use Prim.Native.Nat.{ℕ, zero, suc, _+_, _-_, _*_, _^_, _≤_, _<_}
 use native.Mathlib.Nat.{mul-zero, zero-add, div-eq-of-lt, mul-le-mul, pow-suc}
@@ -7,11 +7,10 @@ use native.Mathlib.Numerals.{add-one}
 use native.Mathlib.Omega.{arith}
 use lib.IntN.{ℤ, pos, negsuc, negℤ, natAbs, negℤ-negℤ}
 use lib.Pow.{pow-pos}
-use Rattle.exact.specs.Pair.{along, turn}
-use Rattle.exact.proofs.MemberLaws.{turn-keeps}
-use Rattle.radius.specs.Steps.{radiusOf}
-use Rattle.radius.proofs.Ranges.{radiusLimit, radius-of-range}
-use Rattle.angle.specs.Steps.{quarter, inQuarter, sineAt, cosineAt, signedOf}
+use Rattle.exact.specs.Pair.{along}
+use Rattle.radius.specs.Steps.{radiusOf, radiusLimit}
+use Rattle.radius.proofs.Ranges.{radius-of-range}
+use Rattle.angle.specs.Steps.{signedOf}
 use Rattle.angle.proofs.Signs.{natAbs-neg}
 use Rattle.angle.proofs.Ranges.{signed-range}
 use Rattle.sample.specs.Steps.{fractionBits, size, rounded}
@@ -33,17 +32,6 @@ rounded-neg f F h (negsuc n) = sym (negℤ-negℤ (pos (size f F (suc n))))
 pub rounded-along : (f F : ℕ) → f ≤ 49 → (b : Bool) (G : ℤ) → along b (rounded f F G) ≡ rounded f F (along b G)
 rounded-along f F h true G = sym (rounded-neg f F h G)
 rounded-along f F h false G = refl
-
--- the two samples are the sizes of the sine and the cosine, turned
-pub samples-turned : (k v : ℕ) → (firstOf k v, secondOf k v)
-    ≡ turn negℤ (quarter v) (pos (size fractionBits (radiusOf k) (sineAt (inQuarter v))), pos (size fractionBits (radiusOf k) (cosineAt (inQuarter v))))
-unfolding firstOf secondOf signedOf
-samples-turned k v =
-    let (first, second) = turn-keeps negℤ negℤ (λ G x. rounded fractionBits (radiusOf k) G ≡ x)
-    (λ G x e. rounded-neg fractionBits (radiusOf k) (omega arith) G ∙ ap negℤ e) (quarter v)
-    (pos (sineAt (inQuarter v)), pos (cosineAt (inQuarter v)))
-    (pos (size fractionBits (radiusOf k) (sineAt (inQuarter v))), pos (size fractionBits (radiusOf k) (cosineAt (inQuarter v)))) refl refl in
-    ap₂ {A = ℤ} {B = ℤ} (λ x y. (x, y)) first second
 
 pub size-of : (f F : ℕ) (G : ℤ) → natAbs (rounded f F G) ≡ size f F (natAbs G)
 size-of f F (pos g) = refl

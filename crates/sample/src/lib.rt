@@ -1,9 +1,10 @@
 // Two samples from k and v (document 01, 'Angle and sample').
 ghost use mathlib.Core.Path.{_≡_};
 ghost use Prim.Native.Nat.{_/_, _^_, _≤_, _<_, min};
-ghost use Rattle.exact.specs.Pair.{Close};
-ghost use Rattle.radius.specs.Steps.{width};
-ghost use Rattle.sample.specs.Steps.{fractionBits, size};
+ghost use lib.IntN.{pos};
+ghost use Rattle.exact.specs.Pair.{along, Close};
+ghost use Rattle.radius.specs.Steps.{width, radiusLimit};
+ghost use Rattle.sample.specs.Steps.{fractionBits, rounded};
 ghost use Rattle.sample.specs.Private.{Loaded};
 ghost use Rattle.sample.specs.Sample.{firstAt, secondAt, samplesOf, nineSixteenths, filled};
 
@@ -20,12 +21,14 @@ pub struct Samples {
     pub second: i16,
 }
 
-// A sample's size: the nearest whole number of units, halves up, of the radius times the size of a sine or cosine.
-fn size(radius: u64, part: u64) -> u32
-    requires { ⌜ (radius < 2 ^ 24) × (part ≤ 2 ^ 30) ⌝ }
-    ensures { λ r. ⌜ r ≡ size fractionBits radius part ⌝ }
+// A sample: the nearest whole number of units, halves away from zero, of the radius times a number with its sign apart.
+fn rounded(radius: u64, size: u64, negative: bool) -> i16
+    requires { ⌜ (radius < radiusLimit) × (size ≤ 2 ^ 30) ⌝ }
+    ensures { λ r. ⌜ r ≡ rounded fractionBits radius (along negative (pos size)) ⌝ }
 {
-    ((radius * part + HALF) / UNIT) as u32
+    let units = (radius * size + HALF) / UNIT;
+    let x = units as i16;
+    if negative { -x } else { x }
 }
 
 struct Pair {
@@ -33,19 +36,20 @@ struct Pair {
     second: i16,
 }
 
-// The two samples of z = 65536 k + v, from the lent tables A, B, C, D, c and s. The sizes are rounded before the turn: a change
-// of a sine's sign is a change of its sample's.
+// The two samples of z = 65536 k + v, from the lent tables A, B, C, D, c and s.
 fn pair_of(lc: &[u64], lf: &[u64], cc: &[u64], sc: &[u64], cf: &[u64], sf: &[u64], z: u64) -> Pair
     requires { ⌜ Loaded (now lc) (now lf) (now cc) (now sc) (now cf) (now sf) ⌝ }
     ensures { λ r. ⌜ (r .first ≡ firstAt z) × (r .second ≡ secondAt z) ⌝ }
 {
     let v = z % 65536;
-    let f = radius::radius(lc, lf, z / 65536);
     let angle = angle::angle_of(cc, sc, cf, sf, v % 16384);
-    let t = angle::turn(v / 16384, size(f, angle.sine), size(f, angle.cosine));
+    let t = angle::turn(v / 16384, angle.sine, angle.cosine);
+    let sine = t.first;
+    let cosine = t.second;
+    let f = radius::radius(lc, lf, z / 65536);
     Pair {
-        first: t.first as i16,
-        second: t.second as i16,
+        first: rounded(f, sine.size, sine.negative),
+        second: rounded(f, cosine.size, cosine.negative),
     }
 }
 

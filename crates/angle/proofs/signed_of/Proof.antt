@@ -1,10 +1,13 @@
 -- `angle::signed_of` meets its contract: the tables loaded are the tables, whose entries are read as they are.
-use mathlib.Core.Path.{_≡_, refl, _∙_}
-use Prim.Native.Nat.{_%_, _^_, _≤_}
+use mathlib.Core.Path.{_≡_, refl, ap₂, _∙_}
+use Prim.Native.Nat.{_%_}
 use native.Mathlib.Omega.{arith}
-use Rattle.angle.specs.Steps.{sineAt, cosineAt, signedOf}
-use Rattle.angle.proofs.Ranges.{sine-range, cosine-range, sine-read, cosine-read}
 use borrow.Author.Needs.{needs}
+use lib.IntN.{ℤ}
+use mir.Syntax.{w64}
+use mir.Facts.{toZ-ofZ}
+use Rattle.angle.specs.Steps.{sineAt, cosineAt}
+use Rattle.angle.proofs.Ranges.{sine-read, cosine-read, TurnedFor, turned-for}
 use Rattle.angle.proofs.signed_of.Statement.{statement}
 use Rattle.angle.proofs.signed_of.Tie as tie
 
@@ -38,6 +41,12 @@ cast-angle-of c = search needs
 angle-of-requires : tie.Need-angle-of-requires
 angle-of-requires c κs = search needs
 
+cast-turn : tie.Need-cast-turn
+cast-turn c = search needs
+
+turn-requires : tie.Need-turn-requires
+turn-requires c κs = search needs
+
 -- the sine and the cosine at the tables
 module _ (c : tie.After-angle-of) where
   sine-is : c .angle-of .result .sine ≡ sineAt (c .before .before .before .before .before .before .before .before .before .args .v % 16384)
@@ -47,9 +56,6 @@ module _ (c : tie.After-angle-of) where
       ∙ sine-read (loaded .before .before .before .cos-coarse .ensures) (loaded .before .before .sin-coarse .ensures)
       (loaded .before .cos-fine .ensures) (loaded .sin-fine .ensures) _
 
-  sine-small : c .angle-of .result .sine ≤ 2 ^ 30
-  sine-small = rw sine-is (sine-range _)
-
   cosine-is : c .angle-of .result .cosine ≡ cosineAt (c .before .before .before .before .before .before .before .before .before .args .v % 16384)
   cosine-is =
       let loaded = c .before .before .before .before .before in
@@ -57,26 +63,24 @@ module _ (c : tie.After-angle-of) where
       ∙ cosine-read (loaded .before .before .before .cos-coarse .ensures) (loaded .before .before .sin-coarse .ensures)
       (loaded .before .cos-fine .ensures) (loaded .sin-fine .ensures) _
 
-  cosine-small : c .angle-of .result .cosine ≤ 2 ^ 30
-  cosine-small = rw cosine-is (cosine-range _)
+-- turned by the quarters of v
+turned : (c : tie.After-turn) → TurnedFor (c .before .before .before .before .before .before .before .before .before .before .args .v) (c .turn .result .first, c .turn .result .second)
+turned c = turned-for _ _ (c .turn .ensures ∙ rw (sine-is (c .before), cosine-is (c .before)) refl)
 
-cast-turn : tie.Need-cast-turn
-cast-turn c = search needs
+with-sign-requires : tie.Need-with-sign-requires
+with-sign-requires c κs = omega (arith, turned (c .before .before) .first-small)
 
-cast-turn-2 : tie.Need-cast-turn-2
-cast-turn-2 c = omega (arith, sine-small (c .before))
-
-cast-turn-3 : tie.Need-cast-turn-3
-cast-turn-3 c = omega (arith, cosine-small (c .before .before))
-
-turn-requires : tie.Need-turn-requires
-turn-requires c κs = search needs
+with-sign-requires-2 : tie.Need-with-sign-requires-2
+with-sign-requires-2 c κs = omega (arith, turned (c .before .before .before) .second-small)
 
 returns : tie.Need-returns
-unfolding signedOf
 returns c =
-    let angle = c .before .before .before in
-    c .turn .ensures ∙ rw (sine-is angle, cosine-is angle) refl
+    let sine = c .before .with-sign in
+    let cosine = c .with-sign2 in
+    let t = turned (c .before .before .before .before) in
+    ap₂ {A = ℤ} {B = ℤ} (λ x y. (x, y))
+    (toZ-ofZ {w = w64} {z = sine .result} (record { sfits = sine .ok }) ∙ sine .ensures ∙ t .first-is)
+    (toZ-ofZ {w = w64} {z = cosine .result} (record { sfits = cosine .ok }) ∙ cosine .ensures ∙ t .second-is)
 
 pub signed-of-spec : {M : Type 1} → statement M
 signed-of-spec =
@@ -93,7 +97,7 @@ signed-of-spec =
     cast-angle-of
     angle-of-requires
     cast-turn
-    cast-turn-2
-    cast-turn-3
     turn-requires
+    with-sign-requires
+    with-sign-requires-2
     returns)

@@ -1,0 +1,48 @@
+-- `sample::rounded` meets its contract: the size is at most 16706, so that it and its negative fit 16 bits.
+use mathlib.Core.Path.{sym}
+use Prim.Native.Nat.{_+_, _*_, _/_, _≤_, _<_, _^_}
+use native.Mathlib.Nat.{mul-le-mul, le-of-lt}
+use native.Mathlib.Omega.{arith}
+use lib.IntN.{pos}
+use mir.Syntax.{w16}
+use mir.Facts.{toZ-pos}
+use Rattle.radius.specs.Steps.{radiusLimit}
+use Rattle.angle.proofs.Signs.{minus-fits, minus-reads}
+use Rattle.sample.specs.Steps.{fractionBits, size}
+use Rattle.sample.proofs.RoundingLaws.{rounded-along, size-range}
+use Rattle.sample.proofs.rounded.Statement.{statement}
+use Rattle.sample.proofs.rounded.Tie as tie
+
+product : (c : tie.Start) → c .args .radius * c .args .size ≤ radiusLimit * 2 ^ 30
+product c = mul-le-mul (le-of-lt (c .pre .0)) (c .pre .1)
+
+fits : (c : tie.Start) → (c .args .radius * c .args .size + 2 ^ 38) / 2 ^ 39 < 2 ^ 15
+unfolding size
+fits c = omega (arith, size-range (c .args .radius) (c .args .size) (c .pre .0) (c .pre .1))
+
+mul-units : tie.Need-mul-units
+mul-units c = omega (arith, product c)
+
+add-units : tie.Need-add-units
+add-units c = omega (arith, product c)
+
+cast-x : tie.Need-cast-x
+cast-x c = record { sfits = omega (arith, product c) }
+
+sub-result : tie.Need-sub-result
+sub-result c = minus-fits w16 _ (fits (c .before))
+
+returns : tie.Need-returns
+unfolding size
+returns c =
+    rw (← rounded-along fractionBits (c .before .args .radius) (omega arith) (c .before .args .negative) (pos (c .before .args .size)), c .if1 .taken)
+    (minus-reads w16 _ (fits (c .before)))
+
+returns-2 : tie.Need-returns-2
+unfolding size
+returns-2 c =
+    rw (← rounded-along fractionBits (c .before .args .radius) (omega arith) (c .before .args .negative) (pos (c .before .args .size)), c .if1 .left)
+    (toZ-pos w16 (fits (c .before)))
+
+pub rounded-spec : {M : Type 1} → statement M
+rounded-spec = tie.close (tie.spec mul-units add-units cast-x sub-result returns returns-2)
