@@ -7,7 +7,6 @@ use native.Mathlib.Decide.{decLe}
 use native.Mathlib.Omega.{arith}
 use lib.IntN.{ℤ, pos, negℤ, negℤ-negℤ}
 use lib.Pow.{pow-pos}
-use Rattle.exact.specs.Fraction.{dyadic, _≤ᶠ_}
 use Rattle.exact.specs.Rotation.{rotation, compose, coarse, fine, quotientUp}
 use Rattle.exact.specs.Pair.{Enclosure, along, negate, sineOf, cosineOf, members}
 use Rattle.exact.proofs.MemberLaws.{turn-keeps}

@@ -2,14 +2,14 @@
 use mathlib.Core.Path.{_≡_, refl, sym, ap, _∙_}
 use mathlib.Core.Bool.{Bool, true, false, not}
 use mathlib.Core.List.{List}
-use Prim.Native.Nat.{ℕ, _*_, _/_, _%_, _^_, _≤_}
+use Prim.Native.Nat.{ℕ, _/_, _%_, _^_, _≤_}
 use native.Mathlib.Nat.{mul-le-mul, mod-eq-of-lt}
 use native.Mathlib.Omega.{arith}
 use lib.IntN.{pos, negℤ, natAbs, negℤ-negℤ}
 use lib.Pow.{pow-mono}
 use Rattle.exact.specs.Pair.{turn, along}
 use Rattle.exact.proofs.MemberLaws.{turn-keeps}
-use Rattle.tables.specs.Tables.{entryOf, cosCoarse, sinCoarse, cosFine, sinFine}
+use Rattle.tables.specs.Tables.{cosCoarse, sinCoarse, cosFine, sinFine}
 use Rattle.tables.proofs.Bounds.{bounds}
 use Rattle.angle.specs.Steps.{quarter, inQuarter, coarseAngle, fineAngle, sine, cosine, sineAt, cosineAt, signedOf, read, plain, flipped, valueOf}
 use Rattle.angle.specs.declared.Signed.{Signed}

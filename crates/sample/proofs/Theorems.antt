@@ -1,13 +1,13 @@
 -- The theorems of specs/Theorems.antt.
-use mathlib.Core.Path.{_≡_, refl, sym, ap, ap₂, _∙_}
+use mathlib.Core.Path.{_≡_, refl, ap, ap₂, _∙_}
 use mathlib.Core.Bool.{Bool, true, false, cond}
-use Prim.Native.Nat.{ℕ, zero, suc, _+_, _/_, _%_, _^_, _≤_, _<_, zero-le}
+use Prim.Native.Nat.{ℕ, _+_, _/_, _%_, _^_, _≤_, _<_, zero-le}
 use native.Mathlib.Omega.{arith}
 use mathlib.Core.List.{List, map}
 use lib.Dec.{leb, ltb}
 use lib.ListN.{getD}
 use Rattle.sample.specs.declared.Samples.{Samples}
-use lib.IntN.{ℤ, pos, negsuc, negℤ, natAbs, negℤ-negℤ}
+use lib.IntN.{ℤ, negℤ, natAbs, negℤ-negℤ}
 use borrow.Author.Tests.{le-ltb}
 use Rattle.exact.proofs.MemberLaws.{turn-half}
 use Rattle.radius.specs.Steps.{width, radiusOf}

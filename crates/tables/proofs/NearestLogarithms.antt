@@ -1,17 +1,16 @@
 -- The logarithm tables and ln 2 hold the nearest whole numbers: one test over any index and scale, which antt computes with 20 terms
 -- of the series, and one lemma that carries it to each entry.
-use mathlib.Core.Path.{_≡_, refl}
+use mathlib.Core.Path.{_≡_}
 use mathlib.Core.Bool.{Bool, _&&_}
-use mathlib.Core.Logic.{_⊎_, inl, inr}
 use mathlib.Core.List.{List}
-use Prim.Native.Nat.{ℕ, zero, suc, _+_, _*_, _-_, _^_, _<_, _≤_}
+use Prim.Native.Nat.{ℕ, zero, suc, _+_, _*_, _^_, _<_, _≤_}
 use native.Mathlib.Nat.{mul-pos, one-le-pow, lt-irrefl, mul-le-mul-right}
 use native.Mathlib.Decide.{decLt}
 use native.Mathlib.Omega.{arith}
 use lib.Dec.{T, leb, leb→le}
 use lib.ListN.{length}
 use store.Enc.{and-l, and-r}
-use Rattle.exact.specs.Fraction.{Fraction, whole, dyadic, _+ᶠ_, _≤ᶠ_, _<ᶠ_}
+use Rattle.exact.specs.Fraction.{Fraction, whole, dyadic, _≤ᶠ_, _<ᶠ_}
 use Rattle.exact.proofs.FractionLaws.{≤ᶠ-refl, <ᶠ-≤ᶠ-trans, ≤ᶠ-<ᶠ-trans}
 use Rattle.exact.specs.Series.{AtMostLn, AtLeastLn, partialSum, term}
 use Rattle.exact.proofs.SeriesLaws.{scaledTop, scaledBottom}

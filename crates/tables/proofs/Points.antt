@@ -2,13 +2,13 @@
 -- from one whole number alone.
 use mathlib.Core.Path.{_≡_}
 use mathlib.Core.Bool.{false}
-use Prim.Native.Nat.{ℕ, suc, _+_, _*_, _^_, _<_, _≤_}
+use Prim.Native.Nat.{ℕ, _+_, _*_, _^_, _<_, _≤_}
 use native.Mathlib.Nat.{le-antisymm, mul-le-mul-left, mul-lt-mul-of-pos-right, lt-of-mul-lt-mul-right}
 use native.Mathlib.Omega.{arith}
 use lib.IntN.{pos}
 use lib.Pow.{pow-pos}
-use Rattle.exact.specs.Fraction.{Fraction, whole, halved, dyadic, _≤ᶠ_}
-use Rattle.exact.specs.Pair.{Enclosure, Within, CloseTo}
+use Rattle.exact.specs.Fraction.{whole, halved, dyadic}
+use Rattle.exact.specs.Pair.{Within, CloseTo}
 use Rattle.tables.specs.Promise.{NearestIn}
 
 -- N for 2^n and F for 2^f, at the point t / b
