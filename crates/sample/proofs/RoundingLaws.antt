@@ -41,7 +41,7 @@ size-of f F (negsuc g) = natAbs-neg (pos (size f F (suc g)))
 pub size-range : (F G : ℕ) → F < radiusLimit → G ≤ 2 ^ 30 → size fractionBits F G ≤ 16706
 unfolding size
 size-range F G h g =
-    let product : F * G ≤ 8553727 * 2 ^ 30 = mul-le-mul {n₁ = F} {m₁ = G} {n₂ = 8553727} {m₂ = 2 ^ 30} (omega arith) g in
+    let product : F * G ≤ (radiusLimit - 1) * 2 ^ 30 = mul-le-mul {n₁ = F} {m₁ = G} {n₂ = radiusLimit - 1} {m₂ = 2 ^ 30} (omega arith) g in
     omega (arith, product)
 
 -- no sample's size is above 16706
