@@ -15,23 +15,13 @@ fn number(n: u32) {
     io::print_decimal(STDOUT_FILENO, n as u64);
 }
 
-// The size of a sample.
-fn size(sample: i16) -> u32 {
-    let wide = sample as i32;
-    if wide < 0 {
-        let negated = -wide;
-        return negated as u32;
-    }
-    wide as u32
-}
-
 // A blank and a sample, its sign before it.
 fn signed(sample: i16) {
     word(b" ");
     if sample < 0 {
         word(b"-");
     }
-    io::print_decimal(STDOUT_FILENO, size(sample) as u64);
+    io::print_decimal(STDOUT_FILENO, sample::size_of(sample) as u64);
 }
 
 // Samples, and the end of the line.

@@ -1,1 +1,1 @@
-// The exact mathematics that the samples are compared with: definitions and laws only, in specs/.
+// The exact mathematics that the samples are compared with: definitions in specs/ and laws in proofs/ only.

@@ -4,3 +4,4 @@ mod RoundingMargin
 pub mod FillLaws
 pub mod Closeness
 pub mod Theorems
+pub mod Sizes

@@ -1,7 +1,7 @@
 // Two samples from k and v (document 01, 'Angle and sample').
 ghost use mathlib.Core.Path.{_≡_};
 ghost use Prim.Native.Nat.{_/_, _^_, _≤_, _<_, min};
-ghost use lib.IntN.{pos};
+ghost use lib.IntN.{pos, natAbs};
 ghost use Rattle.exact.specs.Pair.{along, Close};
 ghost use Rattle.radius.specs.Steps.{width, radiusLimit};
 ghost use Rattle.sample.specs.Steps.{fractionBits, rounded};
@@ -132,4 +132,16 @@ pub fn fill(z: &[u64], out: &mut [i16])
     let cf = tables::cos_fine();
     let sf = tables::sin_fine();
     fill_with(&lc, &lf, &cc, &sc, &cf, &sf, z, out)
+}
+
+// The size of a sample.
+pub fn size_of(sample: i16) -> u32
+    ensures { λ r. ⌜ (r ≡ natAbs sample) × (r ≤ 32768) ⌝ }
+{
+    let wide = sample as i32;
+    if wide < 0 {
+        let negated = -wide;
+        return negated as u32;
+    }
+    wide as u32
 }

@@ -1,9 +1,9 @@
--- `checks::size` fits its type: the laws are those of the job's own `size`.
+-- `sample::size_of` meets its contract.
 use native.Mathlib.Omega.{arith}
-use borrow.Author.Needs.{needs}
-use Rattle.job.proofs.Sizes.{wide-fits, negated, kept}
-use Rattle.checks.proofs.size.Statement.{statement}
-use Rattle.checks.proofs.size.Tie as tie
+use mathlib.Core.Path.{refl}
+use Rattle.sample.proofs.Sizes.{wide-fits, negated, kept}
+use Rattle.sample.proofs.size_of.Statement.{statement}
+use Rattle.sample.proofs.size_of.Tie as tie
 
 cast-wide : tie.Need-cast-wide
 cast-wide c = wide-fits (c .args .sample) (c .fits .sample)
@@ -17,7 +17,9 @@ cast-result c =
     rw (t .size) (tt, omega (arith, t .small))
 
 returns : tie.Need-returns
-returns c = search needs
+returns c =
+    let t = negated (c .before .args .sample) (c .before .fits .sample) (c .if1 .taken) in
+    rw (t .size) (refl, t .small)
 
 cast-result-2 : tie.Need-cast-result-2
 cast-result-2 c =
@@ -25,7 +27,9 @@ cast-result-2 c =
     rw (t .size) (tt, omega (arith, t .small))
 
 returns-2 : tie.Need-returns-2
-returns-2 c = search needs
+returns-2 c =
+    let t = kept (c .before .args .sample) (c .before .fits .sample) (c .if1 .left) in
+    rw (t .size) (refl, t .small)
 
-pub size-spec : {M : Type 1} → statement M
-size-spec = tie.close (tie.spec cast-wide sub-negated cast-result returns cast-result-2 returns-2)
+pub size-of-spec : {M : Type 1} → statement M
+size-of-spec = tie.close (tie.spec cast-wide sub-negated cast-result returns cast-result-2 returns-2)
