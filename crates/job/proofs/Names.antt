@@ -7,7 +7,7 @@ use mathlib.Core.List.{List, []}
 use lib.Dec.{eqb}
 use lib.ListN.{length}
 use Rattle.text.specs.Limits.{nameLength}
-use Rattle.text.specs.Buffer.{written, placeAfter}
+use Rattle.text.specs.Buffer.{written}
 use Rattle.text.proofs.Plain.{name-length}
 use Rattle.text.proofs.Writing.{written-none}
 use Rattle.job.specs.Forms.{Form, shot, noForm, readLine, Printable}

@@ -6,7 +6,7 @@ use mathlib.Core.Bool.{Bool, true, false, cond, not, _&&_, _||_, and-eq-true-iff
 use mathlib.Core.List.{List, [], _∷_, _++_, append-assoc}
 use lib.Dec.{eqb, leb, ltb}
 use lib.ListN.{length}
-use borrow.Author.Tests.{ne-eqb, leb-true, eqb-true}
+use borrow.Author.Tests.{ne-eqb, leb-true}
 use Rattle.text.specs.Fields.{all, digit, letter, letterOrDigit, name, decimal}
 use Rattle.text.specs.Scan.{oneOf, separator, lineFeed, lines}
 use Rattle.text.specs.Forms.{printForm, marks, isEmpty}

@@ -1,7 +1,6 @@
 -- `job::line::read_line` meets its contract.
 use native.Mathlib.Omega.{arith}
-use mathlib.Core.Path.{sym, _∙_}
-use borrow.Author.Needs.{needs}
+use mathlib.Core.Path.{refl, sym, _∙_}
 use Rattle.job.specs.Forms.{seedsForm, sigmaForm, shotForm}
 use Rattle.job.proofs.Reading.{found, missed}
 use Rattle.job.proofs.RoundTrip.{all-marks, read-seeds, read-sigma, read-shot, read-none}
@@ -9,13 +8,13 @@ use Rattle.job.proofs.line.read_line.Statement.{statement}
 use Rattle.job.proofs.line.read_line.Tie as tie
 
 slice-aggregate-read-form : tie.Need-slice-aggregate-read-form
-slice-aggregate-read-form c = search needs
+slice-aggregate-read-form c = refl
 
 read-form-requires : tie.Need-read-form-requires
-read-form-requires c κs = search needs
+read-form-requires c κs = tt
 
 seeds-line-requires : tie.Need-seeds-line-requires
-seeds-line-requires c κs = search needs
+seeds-line-requires c κs = tt
 
 returns : tie.Need-returns
 unfolding seedsForm sigmaForm shotForm
@@ -23,13 +22,13 @@ returns c = c .seeds-line .ensures ∙ sym
     (read-seeds _ _ (found seedsForm _ _ (c .before .before .read-form .ensures) (omega (arith, all-marks .0)) 6 (all-marks .0) (c .before .if1 .taken)))
 
 slice-aggregate-read-form-2 : tie.Need-slice-aggregate-read-form-2
-slice-aggregate-read-form-2 c = search needs
+slice-aggregate-read-form-2 c = refl
 
 read-form-requires-2 : tie.Need-read-form-requires-2
-read-form-requires-2 c κs = search needs
+read-form-requires-2 c κs = tt
 
 sigma-line-requires : tie.Need-sigma-line-requires
-sigma-line-requires c κs = search needs
+sigma-line-requires c κs = tt
 
 returns-2 : tie.Need-returns-2
 unfolding seedsForm sigmaForm shotForm
@@ -40,13 +39,13 @@ returns-2 c =
     (found sigmaForm _ _ (c .before .before .read-form2 .ensures) (omega (arith, all-marks .1)) 2 (all-marks .1) (c .before .if2 .taken)))
 
 slice-aggregate-read-form-3 : tie.Need-slice-aggregate-read-form-3
-slice-aggregate-read-form-3 c = search needs
+slice-aggregate-read-form-3 c = refl
 
 read-form-requires-3 : tie.Need-read-form-requires-3
-read-form-requires-3 c κs = search needs
+read-form-requires-3 c κs = tt
 
 shot-line-requires : tie.Need-shot-line-requires
-shot-line-requires c κs = search needs
+shot-line-requires c κs = tt
 
 returns-3 : tie.Need-returns-3
 unfolding seedsForm sigmaForm shotForm

@@ -1,38 +1,38 @@
 -- `job::line::seeds_line` meets its contract.
 use mathlib.Core.Path.{sym, _∙_}
 use borrow.Author.Tests.{not-true, not-false}
-use borrow.Author.Needs.{needs}
+use native.Mathlib.Omega.{arith}
 use Rattle.text.proofs.Readings.{three-first, three-second, three-third}
 use Rattle.job.proofs.Reading.{seeds-at}
 use Rattle.job.proofs.line.seeds_line.Statement.{statement}
 use Rattle.job.proofs.line.seeds_line.Tie as tie
 
 array-copy-out-three-at : tie.Need-array-copy-out-three-at
-array-copy-out-three-at c = search needs
+array-copy-out-three-at c = omega arith
 
 array-copy-out-three-at-2 : tie.Need-array-copy-out-three-at-2
-array-copy-out-three-at-2 c = search needs
+array-copy-out-three-at-2 c = omega arith
 
 array-copy-out-three-at-3 : tie.Need-array-copy-out-three-at-3
-array-copy-out-three-at-3 c = search needs
+array-copy-out-three-at-3 c = omega arith
 
 three-at-requires : tie.Need-three-at-requires
-three-at-requires c κs = search needs
+three-at-requires c κs = tt
 
 returns : tie.Need-returns
 returns c = rw (seeds-at, sym (c .before .before .three-at .ensures .ok) ∙ not-true _ (c .if1 .taken))
 
 array-copy-out-three-at-4 : tie.Need-array-copy-out-three-at-4
-array-copy-out-three-at-4 c = search needs
+array-copy-out-three-at-4 c = omega arith
 
 array-copy-out-three-at-5 : tie.Need-array-copy-out-three-at-5
-array-copy-out-three-at-5 c = search needs
+array-copy-out-three-at-5 c = omega arith
 
 array-copy-out-three-at-6 : tie.Need-array-copy-out-three-at-6
-array-copy-out-three-at-6 c = search needs
+array-copy-out-three-at-6 c = omega arith
 
 three-at-requires-2 : tie.Need-three-at-requires-2
-three-at-requires-2 c κs = search needs
+three-at-requires-2 c κs = tt
 
 returns-2 : tie.Need-returns-2
 returns-2 c =

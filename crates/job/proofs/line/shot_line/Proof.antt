@@ -1,26 +1,26 @@
 -- `job::line::shot_line` meets its contract.
 use mathlib.Core.Path.{sym, _∙_}
 use borrow.Author.Tests.{not-true, not-false}
-use borrow.Author.Needs.{needs}
+use native.Mathlib.Omega.{arith}
 use Rattle.text.proofs.Readings.{test-true, test-false, spelled-value}
 use Rattle.job.proofs.Reading.{shot-at}
 use Rattle.job.proofs.line.shot_line.Statement.{statement}
 use Rattle.job.proofs.line.shot_line.Tie as tie
 
 array-copy-out-from : tie.Need-array-copy-out-from
-array-copy-out-from c = search needs
+array-copy-out-from c = omega arith
 
 array-copy-out-to : tie.Need-array-copy-out-to
-array-copy-out-to c = search needs
+array-copy-out-to c = omega arith
 
 name-at-requires : tie.Need-name-at-requires
-name-at-requires c κs = search needs
+name-at-requires c κs = tt
 
 returns : tie.Need-returns
 returns c = rw (shot-at, sym (c .before .name-at .ensures) ∙ not-true _ (c .if1 .taken))
 
 name-at-requires-2 : tie.Need-name-at-requires-2
-name-at-requires-2 c κs = search needs
+name-at-requires-2 c κs = tt
 
 returns-2 : tie.Need-returns-2
 returns-2 c =
@@ -28,10 +28,10 @@ returns-2 c =
     rw (shot-at, m, sym (c .before .name-at2 .ensures) ∙ not-true _ (c .if2 .taken))
 
 array-copy-out-numeral-at : tie.Need-array-copy-out-numeral-at
-array-copy-out-numeral-at c = search needs
+array-copy-out-numeral-at c = omega arith
 
 numeral-at-requires : tie.Need-numeral-at-requires
-numeral-at-requires c κs = search needs
+numeral-at-requires c κs = tt
 
 returns-3 : tie.Need-returns-3
 returns-3 c =
@@ -40,10 +40,10 @@ returns-3 c =
     rw (shot-at, m, n, test-false (c .before .before .numeral-at .ensures) (not-true _ (c .if3 .taken)))
 
 array-copy-out-numeral-at-2 : tie.Need-array-copy-out-numeral-at-2
-array-copy-out-numeral-at-2 c = search needs
+array-copy-out-numeral-at-2 c = omega arith
 
 numeral-at-requires-2 : tie.Need-numeral-at-requires-2
-numeral-at-requires-2 c κs = search needs
+numeral-at-requires-2 c κs = tt
 
 returns-4 : tie.Need-returns-4
 returns-4 c =

@@ -1,25 +1,25 @@
 -- `job::line::sigma_line` meets its contract.
 use borrow.Author.Tests.{not-true, not-false}
-use borrow.Author.Needs.{needs}
+use native.Mathlib.Omega.{arith}
 use Rattle.text.proofs.Readings.{test-true, test-false, spelled-value}
 use Rattle.job.proofs.Reading.{sigma-at}
 use Rattle.job.proofs.line.sigma_line.Statement.{statement}
 use Rattle.job.proofs.line.sigma_line.Tie as tie
 
 array-copy-out-numeral-at : tie.Need-array-copy-out-numeral-at
-array-copy-out-numeral-at c = search needs
+array-copy-out-numeral-at c = omega arith
 
 numeral-at-requires : tie.Need-numeral-at-requires
-numeral-at-requires c κs = search needs
+numeral-at-requires c κs = tt
 
 returns : tie.Need-returns
 returns c = rw (sigma-at, test-false (c .before .before .numeral-at .ensures) (not-true _ (c .if1 .taken)))
 
 array-copy-out-numeral-at-2 : tie.Need-array-copy-out-numeral-at-2
-array-copy-out-numeral-at-2 c = search needs
+array-copy-out-numeral-at-2 c = omega arith
 
 numeral-at-requires-2 : tie.Need-numeral-at-requires-2
-numeral-at-requires-2 c κs = search needs
+numeral-at-requires-2 c κs = tt
 
 returns-2 : tie.Need-returns-2
 returns-2 c =

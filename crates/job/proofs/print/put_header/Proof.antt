@@ -1,6 +1,5 @@
 -- `job::print::put_header` meets its contract.
 use mathlib.Core.Path.{refl}
-use borrow.Author.Needs.{needs}
 use Rattle.job.specs.Listing.{header}
 use Rattle.job.proofs.print.put_header.Statement.{statement}
 use Rattle.job.proofs.print.put_header.Tie as tie
@@ -9,7 +8,7 @@ slice-aggregate-put : tie.Need-slice-aggregate-put
 slice-aggregate-put c = refl
 
 put-requires : tie.Need-put-requires
-put-requires c κs = search needs
+put-requires c κs = tt
 
 same-length : tie.Need-same-length
 same-length c = c .before .before .put .kept .0

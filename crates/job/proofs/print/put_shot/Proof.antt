@@ -1,6 +1,6 @@
 -- `job::print::put_shot` meets its contract.
+use mathlib.Core.Path.{_∙_}
 use mathlib.Core.List.{[], _∷_, _++_}
-use borrow.Author.Needs.{needs}
 use Rattle.text.specs.Fields.{decimal}
 use Rattle.text.proofs.Writing.{then-puts}
 use Rattle.job.proofs.Rows.{row-parts}
@@ -8,19 +8,19 @@ use Rattle.job.proofs.print.put_shot.Statement.{statement}
 use Rattle.job.proofs.print.put_shot.Tie as tie
 
 put-field-requires : tie.Need-put-field-requires
-put-field-requires c κs = search needs
+put-field-requires c κs = tt
 
 put-field-requires-2 : tie.Need-put-field-requires-2
-put-field-requires-2 c κs = search needs
+put-field-requires-2 c κs = tt
 
 put-numeral-requires : tie.Need-put-numeral-requires
-put-numeral-requires c κs = search needs
+put-numeral-requires c κs = tt
 
 put-numeral-requires-2 : tie.Need-put-numeral-requires-2
-put-numeral-requires-2 c κs = search needs
+put-numeral-requires-2 c κs = tt
 
 same-length : tie.Need-same-length
-same-length c = search needs
+same-length c = c .before .before .put-numeral2 .kept .0 ∙ c .before .before .before .before .before .before .put-numeral .kept .0 ∙ c .before .before .before .before .before .before .before .before .before .before .put-field2 .kept .0 ∙ c .before .before .before .before .before .before .before .before .before .before .before .before .before .before .put-field .kept .0
 
 returns : tie.Need-returns
 returns c =

@@ -10,7 +10,7 @@ use Rattle.job.proofs.state.listed_shot.Statement.{statement}
 use Rattle.job.proofs.state.listed_shot.Tie as tie
 
 pair-requires : tie.Need-pair-requires
-pair-requires c κs = search needs
+pair-requires c κs = tt
 
 print-shot-requires : tie.Need-print-shot-requires
 print-shot-requires c κs = search needs
@@ -19,7 +19,7 @@ add-t15 : tie.Need-add-t15
 add-t15 c = search needs
 
 same-length : tie.Need-same-length
-same-length c = search needs
+same-length c = c .before .before .before .before .print-shot .kept .1 .1 .1 .0
 
 returns : tie.Need-returns
 unfolding taken printed settingAfter

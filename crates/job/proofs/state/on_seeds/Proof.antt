@@ -1,7 +1,6 @@
 -- `job::state::on_seeds` meets its contract.
 use mathlib.Core.Path.{sym, ap, _∙_}
 use borrow.Author.Tests.{ne-eqb}
-use borrow.Author.Needs.{needs}
 use Rattle.streams.specs.declared.Seeded.{Seeded}
 use Rattle.job.specs.Private.{taken}
 use Rattle.job.specs.Job.{settingAfter}
@@ -14,7 +13,7 @@ unfolding taken
 returns c = let at = c .before .before in rw (seeds-8 _ _ _ _ _ _ (at .args .s .line) (c .if1 .taken))
 
 seeds-beyond-requires : tie.Need-seeds-beyond-requires
-seeds-beyond-requires c κs = search needs
+seeds-beyond-requires c κs = tt
 
 returns-2 : tie.Need-returns-2
 unfolding taken

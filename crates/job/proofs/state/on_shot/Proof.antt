@@ -40,7 +40,7 @@ listed-shot-requires : tie.Need-listed-shot-requires
 listed-shot-requires c κs = search needs
 
 same-length : tie.Need-same-length
-same-length c = search needs
+same-length c = c .before .before .listed-shot .kept .1 .1 .1 .0
 
 returns-5 : tie.Need-returns-5
 unfolding takenOf bufferOf

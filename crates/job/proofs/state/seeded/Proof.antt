@@ -24,7 +24,7 @@ cast-seed-6 : tie.Need-cast-seed-6
 cast-seed-6 c = omega (arith, seeds-within _ _ _ _ _ _ (c .before .before .before .before .before .before .pre) .1 .2)
 
 seed-requires : tie.Need-seed-requires
-seed-requires c κs = search needs
+seed-requires c κs = tt
 
 returns : tie.Need-returns
 returns c = search needs

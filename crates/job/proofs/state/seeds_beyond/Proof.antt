@@ -1,18 +1,17 @@
 -- `job::state::seeds_beyond` meets its contract.
 use mathlib.Core.Path.{sym, _∙_}
-use borrow.Author.Needs.{needs}
 use Rattle.job.proofs.Refused.{beyond-first, beyond-last}
 use Rattle.job.proofs.state.seeds_beyond.Statement.{statement}
 use Rattle.job.proofs.state.seeds_beyond.Tie as tie
 
 three-beyond-requires : tie.Need-three-beyond-requires
-three-beyond-requires c κs = search needs
+three-beyond-requires c κs = tt
 
 returns : tie.Need-returns
 returns c = sym (beyond-first _ _ _ _ _ _ (sym (c .before .three-beyond .ensures) ∙ c .if1 .taken))
 
 three-beyond-requires-2 : tie.Need-three-beyond-requires-2
-three-beyond-requires-2 c κs = search needs
+three-beyond-requires-2 c κs = tt
 
 returns-2 : tie.Need-returns-2
 returns-2 c = c .three-beyond2 .ensures ∙ sym

@@ -9,19 +9,19 @@ use Rattle.job.proofs.state.take_line.Statement.{statement}
 use Rattle.job.proofs.state.take_line.Tie as tie
 
 read-line-requires : tie.Need-read-line-requires
-read-line-requires c κs = search needs
+read-line-requires c κs = tt
 
 enum-known-said : tie.Need-enum-known-said
 enum-known-said c = search needs
 
 on-seeds-requires : tie.Need-on-seeds-requires
-on-seeds-requires c κs = search needs
+on-seeds-requires c κs = tt
 
 enum-known-said-2 : tie.Need-enum-known-said-2
 enum-known-said-2 c = search needs
 
 on-sigma-requires : tie.Need-on-sigma-requires
-on-sigma-requires c κs = search needs
+on-sigma-requires c κs = tt
 
 enum-known-said-3 : tie.Need-enum-known-said-3
 enum-known-said-3 c = search needs
@@ -49,7 +49,7 @@ returns-2 c =
     rw e (state-same (at .args .s) _ (at .args .out .now) refl _ (c .on-sigma .ensures), buffer-same (at .args .s) _ (at .args .out .now) refl)
 
 same-length : tie.Need-same-length
-same-length c = search needs
+same-length c = c .before .before .on-shot .kept .1 .1 .1 .0
 
 returns-3 : tie.Need-returns-3
 returns-3 c =

@@ -1,11 +1,10 @@
 -- `job::walk::first_state` meets its contract.
-use borrow.Author.Needs.{needs}
 use Rattle.job.specs.Job.{start}
 use Rattle.job.proofs.walk.first_state.Statement.{statement}
 use Rattle.job.proofs.walk.first_state.Tie as tie
 
 seed-requires : tie.Need-seed-requires
-seed-requires c κs = search needs
+seed-requires c κs = tt
 
 returns : tie.Need-returns
 unfolding start

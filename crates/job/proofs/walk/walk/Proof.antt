@@ -4,7 +4,6 @@ use native.Mathlib.Omega.{arith}
 use mathlib.Core.Path.{sym, _∙_}
 use lib.ListN.{length}
 use Rattle.text.proofs.Split.{end-within}
-use borrow.Author.Needs.{needs}
 use Rattle.job.proofs.Going.{line-on, line-off, all-taken}
 use Rattle.job.specs.Private.{Going}
 use Rattle.job.proofs.walk.walk.Statement.{statement}
@@ -20,7 +19,7 @@ loop-holds : tie.Need-loop-holds Inv-loop μ-loop
 loop-holds c = c .before .before .pre
 
 line-end-requires : tie.Need-line-end-requires Inv-loop μ-loop
-line-end-requires c κs = search needs
+line-end-requires c κs = tt
 
 sub-take-line : tie.Need-sub-take-line Inv-loop μ-loop
 sub-take-line c = omega (arith, c .line-end .ensures)

@@ -1,14 +1,14 @@
 -- `job::walk::write_listing` meets its contract.
-use borrow.Author.Needs.{needs}
+use mathlib.Core.Path.{_∙_}
 use Rattle.job.proofs.Going.{going-start, wrote-refused, wrote-missing, wrote-listed}
 use Rattle.job.proofs.walk.write_listing.Statement.{statement}
 use Rattle.job.proofs.walk.write_listing.Tie as tie
 
 put-header-requires : tie.Need-put-header-requires
-put-header-requires c κs = search needs
+put-header-requires c κs = tt
 
 first-state-requires : tie.Need-first-state-requires
-first-state-requires c κs = search needs
+first-state-requires c κs = tt
 
 walk-requires : tie.Need-walk-requires
 walk-requires c κs = going-start _ _ _ _ _ (c .before .before .before .before .before .before .before .before .pre)
@@ -16,23 +16,23 @@ walk-requires c κs = going-start _ _ _ _ _ (c .before .before .before .before .
     (c .before .first-state .ensures)
 
 same-length : tie.Need-same-length
-same-length c = search needs
+same-length c = c .before .before .before .before .walk .kept .1 .0 ∙ c .before .before .before .before .before .before .before .before .before .put-header .kept .0
 
 returns : tie.Need-returns
 returns c = wrote-refused _ _ _ (c .before .before .before .before .walk .ensures) (c .if1 .taken)
 
 same-length-2 : tie.Need-same-length-2
-same-length-2 c = search needs
+same-length-2 c = c .before .before .before .before .before .walk .kept .1 .0 ∙ c .before .before .before .before .before .before .before .before .before .before .put-header .kept .0
 
 returns-2 : tie.Need-returns-2
 returns-2 c = wrote-missing _ _ _ (c .before .before .before .before .before .walk .ensures .yes (c .before .if1 .left))
     (c .if2 .taken)
 
 put-end-requires : tie.Need-put-end-requires
-put-end-requires c κs = search needs
+put-end-requires c κs = tt
 
 same-length-3 : tie.Need-same-length-3
-same-length-3 c = search needs
+same-length-3 c = c .before .before .put-end .kept .0 ∙ c .before .before .before .before .before .before .before .before .before .walk .kept .1 .0 ∙ c .before .before .before .before .before .before .before .before .before .before .before .before .before .before .put-header .kept .0
 
 returns-3 : tie.Need-returns-3
 returns-3 c =

@@ -1,5 +1,4 @@
 -- `text::field::is_letter_or_digit` meets its contract.
-use borrow.Author.Needs.{needs}
 use Rattle.text.specs.Fields.{letterOrDigit, letter, digit}
 use Rattle.text.proofs.field.is_letter_or_digit.Statement.{statement}
 use Rattle.text.proofs.field.is_letter_or_digit.Tie as tie

@@ -5,7 +5,6 @@ use mathlib.Core.Bool.{and-false}
 use lib.ListN.{length}
 use lib.Dec.{ltb}
 use borrow.Author.Tests.{lt-leb, le-leb, lt-ltb, le-ltb}
-use borrow.Author.Needs.{needs}
 use Rattle.text.specs.Fields.{name}
 use Rattle.text.proofs.field.is_name.Statement.{statement}
 use Rattle.text.proofs.field.is_name.Tie as tie

@@ -1,5 +1,4 @@
 -- `text::field::name_at` meets its contract.
-use borrow.Author.Needs.{needs}
 use Rattle.text.proofs.field.name_at.Statement.{statement}
 use Rattle.text.proofs.field.name_at.Tie as tie
 

@@ -1,5 +1,4 @@
 -- `text::field::numeral_at` meets its contract.
-use borrow.Author.Needs.{needs}
 use Rattle.text.proofs.field.numeral_at.Statement.{statement}
 use Rattle.text.proofs.field.numeral_at.Tie as tie
 
