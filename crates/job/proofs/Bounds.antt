@@ -1,6 +1,7 @@
 -- What an accepted line keeps within bounds: the lines, the sigmas and the listing's length.
 use Prim.Native.Nat.{ℕ, _+_, _≤_}
 use native.Mathlib.Omega.{arith}
+use native.Mathlib.Nat.{mul-le-mul}
 use mathlib.Core.Path.{_≡_, refl}
 use mathlib.Core.Bool.{Bool, true, false, cond, true≢false}
 use mathlib.Core.List.{List}
@@ -13,16 +14,17 @@ use Rattle.noise.proofs.Theorems.{pair-sizes}
 use Rattle.noise.specs.Noise.{pairOf}
 use Rattle.noise.specs.declared.PairAnswer.{PairAnswer}
 use Rattle.job.specs.Limits.{lastLine, mostSigma, mostDistance, mostBearing}
-use Rattle.job.specs.Forms.{Form, seeds, sigma, shot, noForm, readLine}
-use Rattle.job.specs.Rounding.{noiseSize, noisyDistance, noisyBearing}
-use Rattle.job.specs.Listing.{noisyRow}
+use Rattle.forms.specs.Forms.{Form, seeds, sigma, shot, noForm, readLine}
+use Rattle.rows.specs.Rounding.{noiseSize, noisyDistance, noisyBearing}
+use Rattle.rows.specs.Listing.{shotRow, noisyRow}
+use Rattle.text.specs.Limits.{nameLength}
+use Rattle.text.proofs.Decimal.{decimal-length}
 use Rattle.job.specs.Private.{Steady, rowLength, mostSize, mostNoise}
 use Rattle.job.specs.Refusals.{formless, misplaced, tooMany, beyond, seedNumber, refusal}
 use Rattle.job.specs.Job.{settingAfter, printed}
 use Rattle.job.specs.declared.state.Setting.{Setting}
 use Rattle.job.proofs.Refused.{or-false}
-use Rattle.job.proofs.Sizes.{noise-small}
-use Rattle.job.proofs.Rows.{row-bound}
+use Rattle.rows.proofs.Rows.{row-length}
 use Rattle.job.proofs.Names.{names-short}
 
 -- the samples of a pair have 16 bits
@@ -34,7 +36,7 @@ pair-small g = let s = pair-sizes g in (omega (arith, s .0), omega (arith, s .1)
 
 noise-bound : (σ n : ℕ) → σ ≤ mostSigma → n ≤ mostSize → noiseSize σ n ≤ mostNoise
 unfolding noiseSize
-noise-bound σ n h k = omega (arith, noise-small σ n h k)
+noise-bound σ n h k = omega (arith, mul-le-mul h k)
 
 distance-bound : (σ d : ℕ) (z : ℤ) → σ ≤ mostSigma → d ≤ mostDistance → natAbs z ≤ mostSize → noisyDistance σ d z ≤ mostDistance + mostNoise
 unfolding noisyDistance
@@ -45,6 +47,13 @@ bearing-bound : (σ b : ℕ) (z : ℤ) → noisyBearing σ b z ≤ mostBearing
 unfolding noisyBearing
 bearing-bound σ b (pos n) = omega arith
 bearing-bound σ b (negsuc n) = omega arith
+
+-- a row of a listing is at most rowLength bytes long
+row-bound : (f t : List ℕ) (m s : ℕ) → length f ≤ nameLength → length t ≤ nameLength → m ≤ mostDistance + mostNoise → s ≤ mostBearing → length (shotRow f t m s) ≤ rowLength
+row-bound f t m s a b c d =
+    let p = decimal-length 6 m (omega arith) in
+    let q = decimal-length 4 s (omega arith) in
+    rw (row-length f t m s) (omega arith)
 
 -- an accepted line has none of the causes
 pub record Accepted (k : ℕ) (x : Form) : Type 0 where

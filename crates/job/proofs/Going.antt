@@ -14,8 +14,8 @@ use Rattle.text.proofs.Decimal.{decimal-length}
 use Rattle.text.proofs.Split.{lines-from, end-within, part-line}
 use Rattle.text.proofs.Writing.{written-length, written-take, place-fits}
 use Rattle.job.specs.Limits.{listingRoom}
-use Rattle.job.specs.Forms.{Form, readLine}
-use Rattle.job.specs.Listing.{header, endRow}
+use Rattle.forms.specs.Forms.{Form, readLine}
+use Rattle.rows.specs.Listing.{header, endRow}
 use Rattle.job.specs.Refusals.{refusal}
 use Rattle.job.specs.Job.{Outcome, refused, listed, onto, outcome, start, listingOf, settingAfter, printed}
 use Rattle.job.specs.Private.{taken, takenOf, bufferOf, Going, Ended, Wrote}
@@ -24,7 +24,7 @@ use Rattle.job.specs.declared.state.State.{State}
 use Rattle.job.specs.declared.state.Taken.{Taken}
 use Rattle.job.specs.declared.walk.Walked.{Walked}
 use Rattle.job.proofs.Bounds.{steps}
-use Rattle.job.proofs.Rows.{header-length, end-length}
+use Rattle.rows.proofs.Rows.{header-length, end-length}
 
 pub onto-onto : (a b : List ℕ) (o : Outcome) → onto a (onto b o) ≡ onto (a ++ b) o
 onto-onto a b (refused n k) = refl

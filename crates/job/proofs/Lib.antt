@@ -1,7 +1,3 @@
-pub mod RoundTrip
-pub mod Reading
-pub mod Rows
-pub mod Sizes
 pub mod Refused
 pub mod Names
 pub mod Bounds

@@ -9,7 +9,7 @@ use borrow.Author.Tests.{lt-ltb, le-ltb, eq-eqb, ne-eqb, ltb-false}
 use Rattle.streams.specs.Streams.{seedOf}
 use Rattle.streams.proofs.Theorems.{record-cases}
 use Rattle.job.specs.Limits.{lastLine, mostSeed, mostSigma, mostDistance, mostBearing}
-use Rattle.job.specs.Forms.{Form, seeds, sigma, shot, noForm}
+use Rattle.forms.specs.Forms.{Form, seeds, sigma, shot, noForm}
 use Rattle.job.specs.Refusals.{formless, misplaced, tooMany, beyond, seedNumber, refusal}
 
 pub none-6 : (k : ℕ) → refusal k noForm ≡ 6

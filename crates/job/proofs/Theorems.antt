@@ -1,26 +1,23 @@
 -- The theorems of specs/Theorems.antt.
-use Prim.Native.Nat.{ℕ, suc, _+_, _-_, _*_, _%_, _≤_, _<_}
+use Prim.Native.Nat.{ℕ, _+_, _-_, _*_, _≤_, _<_}
 use native.Mathlib.Omega.{arith}
 use mathlib.Core.Path.{_≡_, refl, sym, ap, _∙_}
 use mathlib.Core.Bool.{Bool, true, false, cond}
 use mathlib.Core.List.{List, map, [], _∷_, _++_}
 use lib.Dec.{eqb, ltb}
-use lib.IntN.{ℤ, pos, negsuc}
 use lib.ListN.{length, length-append}
 use borrow.Author.Tests.{eqb-true, eqb-false, le-leb}
 use Rattle.text.specs.Scan.{lines}
 use Rattle.text.proofs.Decimal.{decimal-length}
-use Rattle.job.specs.Limits.{mostBytes, lastLine, listingRoom, turnSteps}
-use Rattle.job.specs.Forms.{Form, readLine, printLine}
-use Rattle.job.specs.Listing.{header, endRow}
-use Rattle.job.specs.Rounding.{noiseSize, noisyDistance, noisyBearing}
+use Rattle.job.specs.Limits.{mostBytes, lastLine, listingRoom}
+use Rattle.forms.specs.Forms.{Form, readLine, printLine}
+use Rattle.rows.specs.Listing.{header, endRow}
 use Rattle.job.specs.Refusals.{formless, misplaced, tooMany, beyond, seedNumber, refusal}
 use Rattle.job.specs.Job.{Outcome, refused, listed, onto, outcome, start, listingOf, jobOf, answerOf, settingAfter, printed}
 use Rattle.job.specs.Theorems.{Theorems, Accepts}
 use Rattle.job.specs.Private.{Steady, rowLength}
 use Rattle.job.specs.declared.state.Setting.{Setting}
-use Rattle.job.proofs.RoundTrip.{read-printed, printed-read}
-use Rattle.job.proofs.Rows.{header-length, end-length}
+use Rattle.rows.proofs.Rows.{header-length, end-length}
 use Rattle.job.proofs.Refused.{seed-not-10}
 use Rattle.job.proofs.Bounds.{steps}
 use Rattle.job.proofs.Going.{outcome-yes, outcome-no}
@@ -35,43 +32,6 @@ use Rattle.job.proofs.Jobs.{
   refused-not-listed,
   bytes-same,
 }
-
--- ---- the noise
-
-nearest : (sigma size q : ℕ) → 2048 * q ≤ sigma * size + 1024 → sigma * size + 1024 < 2048 * q + 2048 → noiseSize sigma size ≡ q
-unfolding noiseSize
-nearest sigma size q h k = omega arith
-
-rounded : (sigma size : ℕ) → (2048 * noiseSize sigma size ≤ sigma * size + 1024) ×
-    (sigma * size + 1024 < 2048 * noiseSize sigma size + 2048)
-unfolding noiseSize
-rounded sigma size = (omega arith, omega arith)
-
-module _ (sigma x n : ℕ) where
-  distance-up : noisyDistance sigma x (pos n) ≡ x + noiseSize sigma n
-  unfolding noisyDistance
-  distance-up = refl
-
-  distance-down : noiseSize sigma (suc n) ≤ x → noisyDistance sigma x (negsuc n) + noiseSize sigma (suc n) ≡ x
-  unfolding noisyDistance
-  distance-down h = omega arith
-
-  distance-none : x ≤ noiseSize sigma (suc n) → noisyDistance sigma x (negsuc n) ≡ 0
-  unfolding noisyDistance
-  distance-none h = omega arith
-
-  bearing-up : noisyBearing sigma x (pos n) ≡ (x + noiseSize sigma n) % turnSteps
-  unfolding noisyBearing
-  bearing-up = refl
-
-  bearing-down : (noisyBearing sigma x (negsuc n) + noiseSize sigma (suc n)) % turnSteps ≡ x % turnSteps
-  unfolding noisyBearing
-  bearing-down = omega arith
-
-bearing-range : (sigma x : ℕ) (z : ℤ) → noisyBearing sigma x z < turnSteps
-unfolding noisyBearing
-bearing-range sigma x (pos n) = omega arith
-bearing-range sigma x (negsuc n) = omega arith
 
 -- ---- the length of a listing
 
@@ -193,16 +153,6 @@ missing-line text xs n h e s =
 
 pub theorems : Theorems
 theorems = record {
-  read-printed = read-printed;
-  printed-read = printed-read;
-  nearest = nearest;
-  rounded = rounded;
-  distance-up = distance-up;
-  distance-down = distance-down;
-  distance-none = distance-none;
-  bearing-range = bearing-range;
-  bearing-up = bearing-up;
-  bearing-down = bearing-down;
   listed-job = λ xs a n l. job-short _ l ∙ listed-lines xs a n;
   job-listed = λ text bytes e. listed-says text bytes (short-job text bytes e);
   first-bad = first-bad;

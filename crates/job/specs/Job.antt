@@ -8,8 +8,8 @@ use Rattle.streams.specs.Streams.{seedOf}
 use Rattle.noise.specs.Noise.{pairOf}
 use Rattle.text.specs.Scan.{lines}
 use Rattle.job.specs.Limits.{mostBytes}
-use Rattle.job.specs.Forms.{Form, seeds, sigma, shot, noForm, readLine}
-use Rattle.job.specs.Listing.{header, endRow, noisyRow}
+use Rattle.forms.specs.Forms.{Form, seeds, sigma, shot, noForm, readLine}
+use Rattle.rows.specs.Listing.{header, endRow, noisyRow}
 use Rattle.job.specs.Refusals.{refusal}
 use Rattle.job.specs.declared.state.Setting.{Setting}
 use Rattle.job.specs.declared.JobAnswer.{JobAnswer}

@@ -1,5 +1,6 @@
 -- The limits of a job (document 01, "A job and its listing"); src/limits.rt has the same.
-use Prim.Native.Nat.{ℕ, _+_}
+use Prim.Native.Nat.{ℕ, _+_, _-_}
+use Rattle.rows.specs.Rounding.{turnSteps}
 
 -- "A job is text of at most" so many bytes
 abbrev pub mostBytes : ℕ
@@ -29,9 +30,6 @@ mostSigma = 1000
 abbrev pub mostDistance : ℕ
 mostDistance = 1000000
 
--- in steps, of which a turn has one more
+-- in steps, one less than a turn has
 abbrev pub mostBearing : ℕ
-mostBearing = 65535
-
-abbrev pub turnSteps : ℕ
-turnSteps = mostBearing + 1
+mostBearing = turnSteps - 1

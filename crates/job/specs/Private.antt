@@ -10,40 +10,17 @@ use Rattle.text.specs.Fields.{partOf}
 use Rattle.text.specs.Scan.{lines}
 use Rattle.text.specs.Buffer.{written, placeAfter}
 use Rattle.job.specs.Limits.{lastLine, listingRoom, mostSigma, mostDistance, mostBearing}
-use Rattle.job.specs.Forms.{Form, seeds, sigma, shot, noForm}
+use Rattle.forms.specs.Forms.{Form}
+use Rattle.forms.specs.declared.Shot.{Shot as ShotFields}
 use Rattle.job.specs.Refusals.{refusal}
-use Rattle.job.specs.Listing.{noisyRow}
+use Rattle.rows.specs.Listing.{noisyRow}
 use Rattle.job.specs.Job.{Outcome, refused, listed, onto, outcome, listingOf, printed, settingAfter}
-use Rattle.job.specs.declared.line.Seeds.{Seeds as SeedsFields}
-use Rattle.job.specs.declared.line.Sigma.{Sigma as SigmaFields}
-use Rattle.job.specs.declared.line.Shot.{Shot as ShotFields}
-use Rattle.job.specs.declared.line.Line.{Line}
-use Rattle.job.specs.declared.line.Line.the-variants.{Seeds, Sigma, Shot, NoForm}
 use Rattle.job.specs.declared.shot.Noise.{Noise}
 use Rattle.job.specs.declared.state.Setting.{Setting}
 use Rattle.job.specs.declared.state.State.{State}
 use Rattle.job.specs.declared.state.Taken.{Taken}
 use Rattle.job.specs.declared.walk.Walked.{Walked}
 use Rattle.job.specs.declared.JobAnswer.{JobAnswer}
-
--- ---- A line once read
-
--- the seeds, the sigmas and the shot that a line says
-abbrev pub seedsIn : SeedsFields → Form
-seedsIn x = seeds (x .a0) (x .a1) (x .a2) (x .b0) (x .b1) (x .b2)
-
-abbrev pub sigmaIn : SigmaFields → Form
-sigmaIn x = sigma (x .distance) (x .bearing)
-
-abbrev pub shotIn : List ℕ → ShotFields → Form
-shotIn line x = shot (partOf line (x .from)) (partOf line (x .to)) (x .distance) (x .bearing)
-
--- what each case of the enum says of a line: the three kinds with their values, or no form
-abbrev pub said : List ℕ → Line → Form
-said line (Seeds s) = seedsIn s
-said line (Sigma s) = sigmaIn s
-said line (Shot s) = shotIn line s
-said line NoForm = noForm
 
 -- ---- What a line does to the state of a job
 

@@ -5,7 +5,7 @@ use mathlib.Core.Bool.{Bool, true, false, cond, not, _||_}
 use lib.Dec.{ltb, eqb}
 use Rattle.streams.specs.Streams.{seedOf}
 use Rattle.job.specs.Limits.{lastLine, mostSeed, mostSigma, mostDistance, mostBearing}
-use Rattle.job.specs.Forms.{Form, seeds, sigma, shot, noForm}
+use Rattle.forms.specs.Forms.{Form, seeds, sigma, shot, noForm}
 
 -- "line is none of the three forms, or lacks its line feed"
 unfoldable pub formless : Form → Bool

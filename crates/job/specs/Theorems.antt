@@ -1,14 +1,12 @@
 -- What the definitions of a job say, as theorems: the record below has a proof in proofs/Theorems.antt.
-use Prim.Native.Nat.{ℕ, suc, _+_, _-_, _*_, _%_, _≤_, _<_}
+use Prim.Native.Nat.{ℕ, _+_, _-_, _≤_, _<_}
 use mathlib.Core.Path.{_≡_}
 use mathlib.Core.List.{List, [], _∷_, _++_, map}
-use lib.IntN.{ℤ, pos, negsuc}
 use lib.ListN.{length}
 use Rattle.text.specs.Scan.{lines}
-use Rattle.job.specs.Limits.{mostBytes, listingRoom, turnSteps}
-use Rattle.job.specs.Forms.{Form, noForm, readLine, printLine, Printable}
-use Rattle.job.specs.Listing.{header, endRow}
-use Rattle.job.specs.Rounding.{noiseSize, noisyDistance, noisyBearing}
+use Rattle.job.specs.Limits.{mostBytes, listingRoom}
+use Rattle.forms.specs.Forms.{Form, readLine, printLine, Printable}
+use Rattle.rows.specs.Listing.{header, endRow}
 use Rattle.job.specs.Refusals.{refusal}
 use Rattle.job.specs.Job.{refused, listed, start, jobOf, answerOf, printed, settingAfter}
 use Rattle.job.specs.declared.state.Setting.{Setting}
@@ -29,23 +27,6 @@ Accepts k [] = Unit {0}
 Accepts k (x ∷ xs) = Printable x × (refusal k x ≡ 0) × Accepts (k + 1) xs
 
 pub record Theorems : Type 0 where
-  -- the three forms: a line that is printed is read as itself, and a line that is read is the one that is printed
-  pub read-printed : (x : Form) → Printable x → readLine (printLine x) ≡ x
-  pub printed-read : (l : List ℕ) → (readLine l ≡ noForm → ⊥) → Printable (readLine l) × (printLine (readLine l) ≡ l)
-  -- the noise is the whole number q nearest to sigma × size / 2048, and at a half the larger one
-  pub nearest : (sigma size q : ℕ) → 2048 * q ≤ sigma * size + 1024 → sigma * size + 1024 < 2048 * q + 2048 → noiseSize sigma
-      size ≡ q
-  pub rounded : (sigma size : ℕ) → (2048 * noiseSize sigma size ≤ sigma * size + 1024) ×
-      (sigma * size + 1024 < 2048 * noiseSize sigma size + 2048)
-  -- with the sample's sign: added to the distance, or taken from it down to 0
-  pub distance-up : (sigma d n : ℕ) → noisyDistance sigma d (pos n) ≡ d + noiseSize sigma n
-  pub distance-down : (sigma d n : ℕ) → noiseSize sigma (suc n) ≤ d → noisyDistance sigma d (negsuc n) + noiseSize sigma
-      (suc n) ≡ d
-  pub distance-none : (sigma d n : ℕ) → d ≤ noiseSize sigma (suc n) → noisyDistance sigma d (negsuc n) ≡ 0
-  -- the bearing mod 65536
-  pub bearing-range : (sigma b : ℕ) (z : ℤ) → noisyBearing sigma b z < turnSteps
-  pub bearing-up : (sigma b n : ℕ) → noisyBearing sigma b (pos n) ≡ (b + noiseSize sigma n) % turnSteps
-  pub bearing-down : (sigma b n : ℕ) → (noisyBearing sigma b (negsuc n) + noiseSize sigma (suc n)) % turnSteps ≡ b % turnSteps
   -- a job is listed just where its text says accepted lines, two at least, in few enough bytes: the header, the rows of its
   -- shots in the job's order, and the count of the lines after the first two
   pub listed-job : (xs : List Form) → Accepts 1 xs → 2 ≤ length xs → length (textOf xs) ≤ mostBytes

@@ -1,8 +1,5 @@
 // Jobs and their listings (document 01, "A job and its listing").
 pub mod limits;
-mod line;
-mod print;
-mod rounding;
 mod shot;
 mod state;
 mod walk;

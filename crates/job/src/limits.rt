@@ -1,5 +1,7 @@
 // The limits of a job (document 01, "A job and its listing"); specs/Limits.antt has the same.
 
+use rows::TURN_STEPS;
+
 // The bytes of a job.
 pub const MOST_BYTES: usize = 60000;
 
@@ -20,7 +22,4 @@ pub const MOST_SIGMA: u64 = 1000;
 pub const MOST_DISTANCE: u64 = 1000000;
 
 // In steps.
-pub const MOST_BEARING: u64 = 65535;
-
-// The steps of a turn.
-pub const TURN_STEPS: u32 = 65536;
+pub const MOST_BEARING: u64 = TURN_STEPS - 1;

@@ -1,8 +1,8 @@
 // The row of a shot with its noise.
-use crate::line::Shot;
-use crate::print::put_shot;
-use crate::rounding::noisy_bearing;
-use crate::rounding::noisy_distance;
+use forms::Shot;
+use rows::noisy_bearing;
+use rows::noisy_distance;
+use rows::put_shot;
 use text::field::part;
 ghost use Rattle.text.specs.Buffer.{Puts};
 ghost use Rattle.job.specs.Private.{Steady, Ranged, rowOf};

@@ -4,13 +4,13 @@ use crate::limits::MOST_BEARING;
 use crate::limits::MOST_DISTANCE;
 use crate::limits::MOST_SEED;
 use crate::limits::MOST_SIGMA;
-use crate::line::Line;
-use crate::line::Seeds;
-use crate::line::Shot;
-use crate::line::Sigma;
-use crate::line::read_line;
 use crate::shot::Noise;
 use crate::shot::print_shot;
+use forms::Line;
+use forms::Seeds;
+use forms::Shot;
+use forms::Sigma;
+use forms::read_line;
 use streams::Generator;
 use streams::Seeded;
 ghost use Prim.Native.Nat.{_≤_};
@@ -20,10 +20,11 @@ ghost use lib.Dec.{ltb};
 ghost use Rattle.streams.specs.Streams.{seedOf};
 ghost use Rattle.text.specs.Buffer.{written, placeAfter};
 ghost use Rattle.job.specs.Limits.{lastLine, mostSeed};
-ghost use Rattle.job.specs.Forms.{readLine};
+ghost use Rattle.forms.specs.Forms.{readLine};
 ghost use Rattle.job.specs.Refusals.{beyond, refusal};
 ghost use Rattle.job.specs.Job.{printed, settingAfter};
-ghost use Rattle.job.specs.Private.{taken, takenOf, bufferOf, seedsIn, sigmaIn, shotIn, Steady, Ranged};
+ghost use Rattle.job.specs.Private.{taken, takenOf, bufferOf, Steady, Ranged};
+ghost use Rattle.forms.specs.Forms.{seedsIn, sigmaIn, shotIn};
 
 // What the shots to come are printed with: the generator record and the sigmas.
 pub struct Setting {

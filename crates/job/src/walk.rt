@@ -1,10 +1,10 @@
 // A whole job: line after line, and the listing in a buffer that has room for any.
 use crate::JobAnswer;
-use crate::print::put_end;
-use crate::print::put_header;
 use crate::state::Setting;
 use crate::state::State;
 use crate::state::take_line;
+use rows::put_end;
+use rows::put_header;
 use streams::Generator;
 use text::line::line_end;
 ghost use mathlib.Core.Path.{_≡_};

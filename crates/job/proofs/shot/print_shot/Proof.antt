@@ -5,8 +5,8 @@ use lib.IntN.{ℤ}
 use mir.Syntax.{w16}
 use mir.Val.{SFits}
 use mir.Facts.{toZ-ofZ}
-use Rattle.job.specs.Rounding.{noisyDistance, noisyBearing}
-use Rattle.job.specs.Listing.{noisyRow}
+use Rattle.rows.specs.Rounding.{noisyDistance, noisyBearing}
+use Rattle.rows.specs.Listing.{noisyRow}
 use Rattle.job.proofs.shot.print_shot.Statement.{statement}
 use Rattle.job.proofs.shot.print_shot.Tie as tie
 
@@ -14,19 +14,13 @@ cast-noisy-distance : tie.Need-cast-noisy-distance
 cast-noisy-distance c = omega (arith, c .before .before .before .pre .1 .distance)
 
 noisy-distance-requires : tie.Need-noisy-distance-requires
-noisy-distance-requires c κs = (
-  c .before .before .before .before .pre .0 .sigma-distance,
-  c .before .before .before .before .pre .1 .distance,
-)
+noisy-distance-requires c κs = tt
 
 cast-noisy-bearing : tie.Need-cast-noisy-bearing
 cast-noisy-bearing c = omega (arith, c .before .before .before .before .before .before .pre .1 .bearing)
 
 noisy-bearing-requires : tie.Need-noisy-bearing-requires
-noisy-bearing-requires c κs = (
-  c .before .before .before .before .before .before .before .pre .0 .sigma-bearing,
-  c .before .before .before .before .before .before .before .pre .1 .bearing,
-)
+noisy-bearing-requires c κs = tt
 
 part-requires : tie.Need-part-requires
 part-requires c κs = tt
@@ -52,8 +46,8 @@ returns c =
     let first : SFits w16 (n .first) = record { sfits = given .1 .1 .0 .1 } in
     let second : SFits w16 (n .second) = record { sfits = given .1 .1 .1 .0 .1 } in
     let mm = c .before .before .before .before .before .before .before .before .before .before .before .noisy-distance
-    .ensures .0 ∙ ap (λ (z : ℤ). noisyDistance (n .distance) (x .distance) z) (toZ-ofZ first) in
-    let step = c .before .before .before .before .before .before .before .before .noisy-bearing .ensures .0 ∙ ap
+    .ensures ∙ ap (λ (z : ℤ). noisyDistance (n .distance) (x .distance) z) (toZ-ofZ first) in
+    let step = c .before .before .before .before .before .before .before .before .noisy-bearing .ensures ∙ ap
     (λ (z : ℤ). noisyBearing (n .bearing) (x .bearing) z) (toZ-ofZ second) in
     rw (← c .before .before .before .before .part .ensures, ← c .before .before .before .part2 .ensures, ← mm, ← step)
     (c .before .before .put-shot .ensures)
