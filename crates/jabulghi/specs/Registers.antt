@@ -1,5 +1,4 @@
 -- A generator record as the six numbers that a maker keeps (document 01, "The two streams"): a's s0, s1, s2, then b's.
--- Assumes nothing.
 use Prim.Native.Nat.{ℕ}
 use mathlib.Core.Path.{_≡_, refl}
 use mathlib.Core.List.{List, [], _∷_}
