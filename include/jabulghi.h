@@ -28,6 +28,9 @@ enum {
     JABULGHI_LISTING_TOO_LONG = 10  /* listing longer than the buffer lent */
 };
 
+/* Every listing fits this many bytes. */
+#define JABULGHI_LISTING_ROOM 20480
+
 /* A generator record that the caller keeps: registers s0, s1, s2 of stream a and of stream b. An accepted record has s0 at least 2,
  * s1 at least 8 and s2 at least 16 in both. A record that was accepted is never refused later. */
 typedef struct { uint32_t a[3], b[3]; } jabulghi_record;

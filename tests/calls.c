@@ -49,7 +49,7 @@ static void block(jabulghi_record *r, size_t length) {
 static char text[60002];
 
 static void list(size_t length, size_t room) {
-    static uint8_t listing[20480];
+    static uint8_t listing[JABULGHI_LISTING_ROOM];
     memset(listing, '-', sizeof listing);
     uint32_t line = 7;
     size_t written = 7;
@@ -67,11 +67,12 @@ static void list_shots(int shots) {
     for (int j = 0; j < shots; j++) end += sprintf(end, "(shot A B %d %d)\n", j, j);
     uint32_t line = 7;
     size_t written = 7;
-    static uint8_t listing[20480];
+    static uint8_t listing[JABULGHI_LISTING_ROOM];
     uint32_t number = jabulghi_list((const uint8_t *)text, (size_t)(end - text), listing, sizeof listing, &line, &written);
     printf("%d shots %" PRIu32 ": line %" PRIu32 ", length %zu\n", shots, number, line, written);
 }
 
+#define SHOTS 500
 #define SEEDS "(seeds (a 2 8 16) (b 2 8 16))\n"
 #define EXAMPLE SEEDS "(sigma 4 10)\n(shot A1 A2 12345 4500)\n(shot A2 A3 9000 65530)\n"
 
@@ -94,17 +95,17 @@ int main(void) {
     block(&r, 4);
     block(&r, 5);
     block(&unfit, 5);
-    list_text(EXAMPLE, 20480);
+    list_text(EXAMPLE, JABULGHI_LISTING_ROOM);
     list_text(EXAMPLE, 51);
     list_text(SEEDS "(sigma 4 10)\n", 24);
-    list_text(SEEDS "(sigma 4 10)", 20480);
-    list_text(SEEDS "(sigma 4 1001)\n", 20480);
-    list_text(SEEDS SEEDS, 20480);
-    list_text(SEEDS, 20480);
-    list_text("(seeds (a 1 8 16) (b 2 8 16))\n(sigma 4 10)\n", 20480);
-    list_shots(500);
-    list_shots(501);
+    list_text(SEEDS "(sigma 4 10)", JABULGHI_LISTING_ROOM);
+    list_text(SEEDS "(sigma 4 1001)\n", JABULGHI_LISTING_ROOM);
+    list_text(SEEDS SEEDS, JABULGHI_LISTING_ROOM);
+    list_text(SEEDS, JABULGHI_LISTING_ROOM);
+    list_text("(seeds (a 1 8 16) (b 2 8 16))\n(sigma 4 10)\n", JABULGHI_LISTING_ROOM);
+    list_shots(SHOTS);
+    list_shots(SHOTS + 1);
     memset(text, '\n', 60001);
-    list(60000, 20480);
-    list(60001, 20480);
+    list(60000, JABULGHI_LISTING_ROOM);
+    list(60001, JABULGHI_LISTING_ROOM);
 }

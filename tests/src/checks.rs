@@ -1,13 +1,13 @@
 //! What the program crates/checks reads, and what it has to print, by the other implementation alone.
-use crate::job;
+use crate::job::{self, ROOM, SHOTS};
 use crate::readings::JOB;
 use crate::sample::Tables;
 use crate::stream::{block, seed};
 use std::path::Path;
 
-/// A job of 501 shots that begins with document 01's.
+/// A job of one shot too many that begins with document 01's.
 fn text() -> Vec<u8> {
-    [JOB, "(shot A B 5 65530)\n".repeat(499).as_bytes()].concat()
+    [JOB, "(shot A B 5 65530)\n".repeat(SHOTS - 1).as_bytes()].concat()
 }
 
 fn line(numbers: impl IntoIterator<Item = i64>) -> String {
@@ -16,7 +16,7 @@ fn line(numbers: impl IntoIterator<Item = i64>) -> String {
 
 /// A job's number and line, and its listing.
 fn job(tables: &Tables, text: &[u8]) -> String {
-    let (number, at, listing) = job::list(tables, text, 20_480);
+    let (number, at, listing) = job::list(tables, text, ROOM);
     line([number.into(), at.into()]) + std::str::from_utf8(&listing).unwrap()
 }
 

@@ -1,6 +1,8 @@
 //! Jobs written out: every number of document 01's table with its line, two causes on one line, and forms, ranges, sizes and buffers
 //! at their edges.
 
+use crate::job::SHOTS;
+
 const SEEDS: &str = "(seeds (a 2 8 16) (b 2 8 16))\n";
 const HEAD: &str = "(seeds (a 2 8 16) (b 2 8 16))\n(sigma 4 10)\n";
 const SHOT: &str = "(shot A1 A2 12345 4500)\n";
@@ -10,18 +12,18 @@ pub fn shots(count: usize) -> String {
     (0..count).map(|j| format!("(shot S{j} T{} {} {})\n", j + 1, j * 1993 % 1_000_001, j * 7919 % 65536)).collect()
 }
 
-/// Accepted ones: no shot to 500 and beyond, sigmas at their ends, noise across the ends of distance and bearing.
+/// Accepted ones: no shot to the most and beyond, sigmas at their ends, noise across the ends of distance and bearing.
 fn whole(out: &mut Vec<Vec<u8>>) {
     let mut add = |text: String| out.push(text.into_bytes());
     add(format!("{HEAD}{SHOT}(shot A2 A3 9000 65530)\n"));
-    for count in [0, 1, 2, 499, 500, 501, 502] {
+    for count in [0, 1, 2, SHOTS - 1, SHOTS, SHOTS + 1, SHOTS + 2] {
         add(format!("{HEAD}{}", shots(count)));
     }
     for (s, t) in [(0, 0), (0, 1000), (1000, 0), (1000, 1000), (1, 1)] {
         add(format!("{SEEDS}(sigma {s} {t})\n{}", shots(60)));
     }
     let most = u32::MAX;
-    add(format!("(seeds (a {most} {most} {most}) (b {most} {most} {most}))\n(sigma 1000 1000)\n{}", shots(500)));
+    add(format!("(seeds (a {most} {most} {most}) (b {most} {most} {most}))\n(sigma 1000 1000)\n{}", shots(SHOTS)));
     add(format!("(seeds (a 123456789 987654321 555555555) (b 314159265 271828182 161803398))\n(sigma 37 911)\n{}", shots(300)));
     let ends = [0, 1, 500, 1_000_000].map(|d| [0, 1, 65534, 65535].map(|b| format!("(shot a b {d} {b})\n")).concat());
     add(format!("{SEEDS}(sigma 1000 1000)\n{}", ends.concat().repeat(8)));
@@ -42,8 +44,8 @@ fn ends(out: &mut Vec<Vec<u8>>) {
     for size in [60_000, 60_001] {
         add(format!("{full}{}", "x".repeat(size - full.len())));
     }
-    // 500 shots of the longest kind, and the listing that takes the most room
-    let longest = "(shot ABCDEFGHIJKL abcdefghijkl 1000000 65535)\n".repeat(500);
+    // the most shots of the longest kind, and the listing that takes the most room
+    let longest = "(shot ABCDEFGHIJKL abcdefghijkl 1000000 65535)\n".repeat(SHOTS);
     for sigma in [0, 1000] {
         add(format!("{SEEDS}(sigma {sigma} {sigma})\n{longest}"));
     }
@@ -128,7 +130,7 @@ fn places(out: &mut Vec<Vec<u8>>) {
         out.push(format!("{line}\n(sigma 4 10)\n").into_bytes());
         out.push(format!("{HEAD}{SHOT}{line}\n{SHOT}").into_bytes());
     }
-    let (sigma, full) = ("(sigma 4 10)\n", format!("{HEAD}{}", shots(500)));
+    let (sigma, full) = ("(sigma 4 10)\n", format!("{HEAD}{}", shots(SHOTS)));
     let texts = [
         format!("{sigma}{SEEDS}"),
         format!("{SEEDS}{SEEDS}"),

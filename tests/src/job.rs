@@ -2,6 +2,10 @@
 use crate::sample::Tables;
 use crate::stream::{accepted, pair, Record};
 
+/// The most shots of a job, and the room that its listing never exceeds.
+pub const SHOTS: usize = 500;
+pub const ROOM: usize = 20_480;
+
 /// The three forms: `#` stands for a number, `@` for a name.
 const SEEDS: &[u8] = b"(seeds (a # # #) (b # # #))";
 const SIGMA: &[u8] = b"(sigma # #)";
@@ -63,7 +67,7 @@ pub fn list(tables: &Tables, text: &[u8], room: usize) -> (u32, u32, Vec<u8>) {
         if form != wanted {
             return refused(8, line);
         }
-        if line > 502 {
+        if line as usize > SHOTS + 2 {
             return refused(9, line);
         }
         let most: &[u64] = match line {

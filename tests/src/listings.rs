@@ -82,7 +82,7 @@ impl Case for Job {
         }
         texts.retain(|shorter| shorter.len() < text.len());
         // each with the room there is, and with just the room that its listing takes
-        let just = |t: &[u8]| list(t, 20_480).4.elements()[0];
+        let just = |t: &[u8]| list(t, job::ROOM).4.elements()[0];
         let mut out: Vec<Job> = texts.into_iter().flat_map(|t| [Job(t.clone(), *room), Job(t.clone(), just(&t))]).collect();
         out.extend(below(*room as u64).into_iter().map(|r| Job(text.clone(), r as usize)));
         out
@@ -95,7 +95,7 @@ pub fn given(tables: &Tables) -> String {
     let mut numbers = [0; 11];
     for text in &texts {
         let length = job::list(tables, text, usize::MAX).2.len();
-        for room in [20_480, length, length + 1, length.saturating_sub(1), 0] {
+        for room in [job::ROOM, length, length + 1, length.saturating_sub(1), 0] {
             numbers[same(tables, &Job(text.clone(), room)).0 as usize] += 1;
         }
     }
@@ -113,7 +113,7 @@ pub fn jobs(tables: &Tables, random: &mut Random) -> String {
             1 => length.saturating_sub(1),
             2 => random.below(length + 50),
             3 => random.below(60),
-            _ => 20_480,
+            _ => job::ROOM,
         };
         numbers[same(tables, &Job(text, room)).0 as usize] += 1;
     }

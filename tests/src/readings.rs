@@ -29,5 +29,5 @@ pub fn check(tables: &Tables) {
     let mut record = [2, 8, 16, 2, 8, 16];
     assert_eq!([step(&mut record, A), step(&mut record, A)], [0x00202080, 0x02002C80]);
     assert_eq!(recurrence([2, 8, 16], 2), [0x00202080, 0x02002C80]);
-    assert_eq!(job::list(tables, JOB, 20480), (0, 0, LISTING.to_vec()));
+    assert_eq!(job::list(tables, JOB, job::ROOM), (0, 0, LISTING.to_vec()));
 }

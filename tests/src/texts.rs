@@ -1,5 +1,6 @@
 //! Jobs, whole and damaged.
 use crate::inputs::seeds;
+use crate::job::SHOTS;
 use crate::random::Random;
 
 fn name(random: &mut Random) -> String {
@@ -29,8 +30,8 @@ fn shot(random: &mut Random, loose: bool) -> String {
 fn lines(random: &mut Random) -> Vec<String> {
     let s = seeds(random);
     let shots = match random.below(60) {
-        0 => *random.of(&[499, 500, 501, 502]),
-        1..=4 => random.below(501),
+        0 => *random.of(&[SHOTS - 1, SHOTS, SHOTS + 1, SHOTS + 2]),
+        1..=4 => random.below(SHOTS + 1),
         _ => random.below(12),
     };
     let last = if random.one_in(50) { 4_294_967_296 } else { u64::from(s[5]) };
