@@ -27,7 +27,7 @@ unfolding blockOf blockHolds
 returns-2 c =
     let number-is = c .before .before .before .before .block-number .ensures in
     let accepted = c .before .before .before .if1 .left in
-    (rw (← number-is, accepted) (cc), rw (← number-is, accepted) (c .before .stretches .ensures .1))
+    (rw (c .before .stretches .ensures .0, ← number-is, accepted), rw (← number-is, accepted) (c .before .stretches .ensures .1))
 
 pub block-spec : {M : Type 1} → statement M
 block-spec =

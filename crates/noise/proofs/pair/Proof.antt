@@ -26,7 +26,7 @@ returns-2 c =
     let first = toZ-ofZ {w = w16} {z = c .before .sample .result .first} (record { sfits = told .1 .0 .1 }) in
     let second = toZ-ofZ {w = w16} {z = c .before .sample .result .second} (record { sfits = told .1 .1 .0 .1 }) in
     let drawn = c .before .before .before .before .before .uniforms .ensures in
-    rw (first, second, ← drawn, c .before .before .if1 .left) (cc)
+    rw (first, second, c .before .sample .ensures .0, ← drawn, c .before .before .if1 .left)
 
 pub pair-spec : {M : Type 1} → statement M
 pair-spec = tie.close (tie.spec uniforms-requires returns sample-requires returns-2)

@@ -15,7 +15,7 @@ returns : tie.Need-returns
 unfolding seedOf
 returns c =
     let number-is = rw (c .before .before .fresh-record .ensures) at (c .before .record-number .ensures) in
-    rw (← number-is, c .if1 .taken) (cc)
+    rw (c .before .before .fresh-record .ensures, ← number-is, c .if1 .taken)
 
 fresh-record-requires-2 : tie.Need-fresh-record-requires-2
 fresh-record-requires-2 c κs = search needs
@@ -24,7 +24,7 @@ returns-2 : tie.Need-returns-2
 unfolding seedOf
 returns-2 c =
     let number-is = rw (c .before .before .before .fresh-record .ensures) at (c .before .before .record-number .ensures) in
-    rw (← number-is, ne-eqb _ _ (c .before .if1 .left)) (cc)
+    rw (c .fresh-record2 .ensures, ← number-is, ne-eqb _ _ (c .before .if1 .left))
 
 pub seed-spec : {M : Type 1} → statement M
 seed-spec =

@@ -41,7 +41,16 @@ add-t12 c = search needs
 
 returns-2 : tie.Need-returns-2
 unfolding uniformsOf
-returns-2 c = rw (← c .before .before .before .before .before .before .record-number .ensures, c .before .before .before .before .before .if1 .left) (cc)
+returns-2 c =
+    rw (
+      c .word2 .ensures,
+      c .before .word .ensures,
+      c .before .before .with-streams .ensures,
+      c .before .before .before .advanced2 .ensures,
+      c .before .before .before .before .advanced .ensures,
+      ← c .before .before .before .before .before .before .record-number .ensures,
+      c .before .before .before .before .before .if1 .left,
+    )
 
 pub uniforms-spec : {M : Type 1} → statement M
 uniforms-spec =
