@@ -5,10 +5,11 @@ use mathlib.Core.Bool.{Bool, true, false, cond}
 use mathlib.Core.List.{List, [], _∷_}
 use Prim.Native.Nat.{ℕ, suc, _+_, _*_, _/_, _%_, _<_}
 use lib.Dec.{eqb}
+use Rattle.streams.specs.declared.Stream.{Stream}
 use Rattle.streams.specs.declared.Generator.{Generator}
-use Rattle.streams.specs.Streams.{drawA, drawB, uniformsOf}
-use Rattle.streams.specs.Recurrence.{top, combined, Sound, moved, drawAt, repeat}
-use Rattle.streams.proofs.Theorems.{sound-accepted, moved-sound, moved-add, draw-a-moves, draw-b-moves, numbers-moves}
+use Rattle.streams.specs.Streams.{fresh, seedOf, drawA, drawB, uniformsOf}
+use Rattle.streams.specs.Recurrence.{top, combined, InRange, Sound, moved, drawAt, repeat}
+use Rattle.streams.proofs.Theorems.{sound-accepted, seeded, moved-sound, moved-add, draw-a-moves, draw-b-moves, numbers-moves}
 use Rattle.streams.proofs.Theorems.{draw-a-is, draw-b-is, numbers-are, stream-history}
 use Rattle.noise.specs.Noise.{pairOf, after, lengthNumber, blockNumber, blockOf}
 use Rattle.noise.specs.Runs.{Call, numberOf, nextOf, run, sumOver, fromA, fromB, drawsA, drawsB, ownNumber}
@@ -53,6 +54,15 @@ run-sound (c ∷ l) g h = run-sound l (nextOf c g) (call-sound c g h)
 -- so no later call is refused for it: a block for its length alone, any other call never.
 pub never-refused : (l : List Call) (c : Call) (g : Generator) → Sound g → numberOf c (run l g) ≡ ownNumber c
 never-refused l c g h = accepted-number c (run l g) (run-sound l g h)
+
+-- From seeding on: once six numbers are accepted, every call of every run is refused for its own cause alone.
+pub from-seeding : (a b : Stream) → InRange a → InRange b
+    → seedOf (a .s0) (a .s1) (a .s2) (b .s0) (b .s1) (b .s2) .number ≡ 0
+    → (l : List Call) (c : Call)
+    → numberOf c (run l (seedOf (a .s0) (a .s1) (a .s2) (b .s0) (b .s1) (b .s2) .next)) ≡ ownNumber c
+from-seeding a b ra rb h l c =
+    let (is-fresh, is-sound) = seeded a b ra rb h in
+    rw is-fresh (never-refused l c (fresh a b) is-sound)
 
 -- ---- Demand 2, over the whole history
 

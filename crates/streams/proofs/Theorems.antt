@@ -14,7 +14,7 @@ use Rattle.streams.specs.declared.Stream.{Stream}
 use Rattle.streams.specs.declared.Generator.{Generator}
 use Rattle.streams.specs.declared.Drawn.{Drawn}
 use Rattle.streams.specs.declared.Uniforms.{Uniforms}
-use Rattle.streams.specs.Streams.{step, advance, output, fit, fresh, withStreams, recordNumber, drawA, drawB, uniformsOf}
+use Rattle.streams.specs.Streams.{step, advance, output, fit, fresh, withStreams, recordNumber, seedOf, drawA, drawB, uniformsOf}
 use Rattle.streams.specs.Recurrence.{top, sequence, combined, Params, repeat, drawAt, moved, InRange, Minima, Sound}
 use Rattle.streams.proofs.Register.{step-lt, history, minimum-kept, one-to-one-reached, top-xor, sequence-starts}
 use Rattle.streams.proofs.Register.{sequence-follows}
@@ -143,6 +143,12 @@ sound g ra rb h =
 
 pub sound-accepted : (g : Generator) → Sound g → recordNumber g ≡ 0
 sound-accepted g h = accepted-minima g .1 (h .minima-a, h .minima-b)
+
+-- A record that seeding accepts is the one of its six numbers, and is accepted by every call.
+pub seeded : (a b : Stream) → InRange a → InRange b → seedOf (a .s0) (a .s1) (a .s2) (b .s0) (b .s1) (b .s2) .number ≡ 0
+    → (seedOf (a .s0) (a .s1) (a .s2) (b .s0) (b .s1) (b .s2) .next ≡ fresh a b) × Sound (fresh a b)
+unfolding seedOf
+seeded a b ra rb h = (rw h, sound (fresh a b) ra rb h)
 
 -- however far the streams are moved
 repeat-kept : (P : Stream → Type 0) → ((u : Stream) → P u → P (advance u)) → (t : ℕ) (u : Stream) → P u → P (repeat advance t u)
