@@ -1,17 +1,23 @@
 -- From the listing in the local buffer to the call's answer and the buffer lent.
-use Prim.Native.Nat.{ℕ, _-_, _≤_, _<_}
+use Prim.Native.Nat.{ℕ, _+_, _-_, _≤_, _<_}
 use native.Mathlib.Omega.{arith}
-use native.Mathlib.Nat.{zero-add}
-use mathlib.Core.Path.{_≡_, refl, ap, _∙_}
+use native.Mathlib.Nat.{zero-add, pos-of-ne-zero}
+use mathlib.Core.Path.{_≡_, refl, sym, ap, _∙_}
 use mathlib.Core.Bool.{Bool, true, false, cond}
-use mathlib.Core.List.{List}
+use mathlib.Core.List.{List, [], _∷_}
 use lib.ListN.{length, take, drop}
-use lib.Dec.{leb}
-use borrow.Author.Tests.{lt-ltb, le-ltb, le-leb, lt-leb, leb-true}
-use Rattle.text.specs.Buffer.{written}
-use Rattle.text.proofs.Writing.{written-fits}
+use lib.Dec.{leb, ltb, eqb}
+use borrow.Author.Tests.{lt-ltb, le-ltb, le-leb, lt-leb, leb-true, eqb-false}
+use Rattle.text.specs.Buffer.{written, Puts}
+use Rattle.text.proofs.Writing.{place-fits, written-fits}
 use Rattle.job.specs.Limits.{mostBytes}
-use Rattle.job.specs.Job.{Outcome, refused, listed, listingOf, jobOf, answerOf, bufferAfter}
+use Rattle.job.specs.Job.{Outcome, refused, listed, onto, outcome, start, listingOf, jobOf, answerOf, bufferAfter, outputOf}
+use Rattle.job.specs.Job.{printed, settingAfter}
+use Rattle.forms.specs.Forms.{readLine}
+use Rattle.job.specs.Refusals.{refusal}
+use Rattle.rows.specs.Listing.{header, endRow, refusedRow}
+use Rattle.job.specs.declared.state.Setting.{Setting}
+use Rattle.text.specs.Scan.{lines}
 use Rattle.job.specs.Private.{Wrote}
 use Rattle.job.specs.declared.JobAnswer.{JobAnswer}
 
@@ -71,3 +77,69 @@ answer-fits (listed bytes) room = go (leb (length bytes) room) refl
 
 pub answer-within : (o : Outcome) (room : ℕ) (r : JobAnswer) → r ≡ answerOf o room → r .length ≤ room
 answer-within o room r e = omega (arith, ap size e, answer-fits o room)
+
+-- ---- What the listing program prints
+
+-- A refusal leaves the buffer and gives the one line of number and line;
+pub printed-refused : (o : Outcome) (out : List ℕ) → (answerOf o (length out) .number ≡ 0 → ⊥)
+    → (bufferAfter o out ≡ out) × (refusedRow (answerOf o (length out) .number) (answerOf o (length out) .line) ≡ outputOf o (length out))
+unfolding answerOf bufferAfter outputOf
+printed-refused (refused n k) out z = (refl, refl)
+printed-refused (listed bytes) out z = go (leb (length bytes) (length out)) refl
+  where
+    go : (b : Bool) → leb (length bytes) (length out) ≡ b
+        → (bufferAfter (listed bytes) out ≡ out)
+        × (refusedRow (answerOf (listed bytes) (length out) .number) (answerOf (listed bytes) (length out) .line)
+        ≡ outputOf (listed bytes) (length out))
+    go true e = absurd (z (rw (answerOf, e)))
+    go false e = rw (bufferAfter, answerOf, outputOf, e) (refl, refl)
+
+-- a refused job has a number
+abbrev pub Told : Outcome → Type 0
+Told (refused number line) = 0 < number
+Told (listed bytes) = Unit {0}
+
+onto-told : (bytes : List ℕ) (o : Outcome) → Told o → Told (onto bytes o)
+onto-told bytes (refused n k) h = h
+onto-told bytes (listed rest) h = tt
+
+outcome-told : (k : ℕ) (s : Setting) (ls : List (List ℕ)) → Told (outcome k s ls)
+unfolding outcome
+outcome-told k s [] = go (ltb k 3)
+  where
+    go : (b : Bool) → Told (cond b (refused 8 k) (listed (endRow (k - 3))))
+    go true = omega arith
+    go false = tt
+outcome-told k s (l ∷ ls) =
+    go (eqb (refusal k (readLine l)) 0) refl (outcome-told (k + 1) (settingAfter (readLine l) s) ls)
+  where
+    go : (b : Bool) → eqb (refusal k (readLine l)) 0 ≡ b → Told (outcome (k + 1) (settingAfter (readLine l) s) ls)
+        → Told
+        (cond b (onto (printed (readLine l) s) (outcome (k + 1) (settingAfter (readLine l) s) ls))
+        (refused (refusal k (readLine l)) k))
+    go true e told = onto-told (printed (readLine l) s) (outcome (k + 1) (settingAfter (readLine l) s) ls) told
+    go false e told = pos-of-ne-zero (eqb-false (refusal k (readLine l)) 0 e)
+
+pub job-told : (text : List ℕ) → Told (jobOf text)
+unfolding jobOf listingOf
+job-told text = go (ltb mostBytes (length text))
+  where
+    go : (b : Bool) → Told (cond b (refused 5 0) (onto header (outcome 1 start (lines text))))
+    go true = omega arith
+    go false = onto-told header (outcome 1 start (lines text)) (outcome-told 1 start (lines text))
+
+-- and an answer of 0 has the listing in the buffer.
+pub printed-listed : (o : Outcome) (out : List ℕ) → Told o → answerOf o (length out) .number ≡ 0
+    → Puts out 0 (outputOf o (length out)) (answerOf o (length out) .length) (bufferAfter o out)
+unfolding answerOf bufferAfter outputOf
+printed-listed (refused n k) out told z = absurd (omega (arith, told, z))
+printed-listed (listed bytes) out told z = go (leb (length bytes) (length out)) refl
+  where
+    go : (b : Bool) → leb (length bytes) (length out) ≡ b
+        → Puts out 0 (outputOf (listed bytes) (length out)) (answerOf (listed bytes) (length out) .length)
+        (bufferAfter (listed bytes) out)
+    go true e =
+        let room : 0 + length bytes ≤ length out = omega (arith, leb-true (length bytes) (length out) e) in
+        rw (bufferAfter, answerOf, outputOf, e)
+        (sym (place-fits out 0 bytes room ∙ zero-add (length bytes)), sym (written-fits out 0 bytes room ∙ rw (zero-add (length bytes))))
+    go false e = absurd (omega (arith, rw (answerOf, e) at z))

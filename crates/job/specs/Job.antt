@@ -9,7 +9,7 @@ use Rattle.noise.specs.Noise.{pairOf}
 use Rattle.text.specs.Scan.{lines}
 use Rattle.job.specs.Limits.{mostBytes}
 use Rattle.forms.specs.Forms.{Form, seeds, sigma, shot, noForm, readLine}
-use Rattle.rows.specs.Listing.{header, endRow, noisyRow}
+use Rattle.rows.specs.Listing.{header, endRow, refusedRow, noisyRow}
 use Rattle.job.specs.Refusals.{refusal}
 use Rattle.job.specs.declared.state.Setting.{Setting}
 use Rattle.job.specs.declared.JobAnswer.{JobAnswer}
@@ -72,3 +72,8 @@ answerOf (listed bytes) room =
 unfoldable pub bufferAfter : Outcome → List ℕ → List ℕ
 bufferAfter (refused number line) out = out
 bufferAfter (listed bytes) out = cond (leb (length bytes) (length out)) (bytes ++ drop (length bytes) out) out
+
+-- What the listing program prints by way of a buffer of a given length: the listing, or its one line where the job is refused
+unfoldable pub outputOf : Outcome → ℕ → List ℕ
+outputOf (refused number line) room = refusedRow number line
+outputOf (listed bytes) room = cond (leb (length bytes) room) bytes (refusedRow 10 0)

@@ -7,10 +7,13 @@ mod walk;
 use crate::limits::LISTING_ROOM;
 use crate::limits::MOST_BYTES;
 use crate::walk::write_listing;
+use rows::put_refused;
 use text::buffer::put;
+ghost use Prim.Native.Nat.{_≤_};
 ghost use mathlib.Core.Path.{_≡_};
 ghost use lib.ListN.{length};
-ghost use Rattle.job.specs.Job.{jobOf, answerOf, bufferAfter};
+ghost use Rattle.text.specs.Buffer.{Puts};
+ghost use Rattle.job.specs.Job.{jobOf, answerOf, bufferAfter, outputOf};
 
 // The number, 0 where the job is accepted; the line, 0 where no line is at fault; and the listing's length.
 pub struct JobAnswer {
@@ -24,6 +27,7 @@ pub struct JobAnswer {
 pub fn list(text: &[u8], out: &mut [u8]) -> JobAnswer
     ensures { λ r. ⌜ r ≡ answerOf (jobOf (now (text .entry))) (length (now (out .entry))) ⌝ }
     ensures { λ _. ⌜ now (out .exit) ≡ bufferAfter (jobOf (now (text .entry))) (now (out .entry)) ⌝ }
+    ensures { λ r. ⌜ r .length ≤ length (now (out .entry)) ⌝ }
 {
     if MOST_BYTES < text.len() {
         return JobAnswer {
@@ -47,4 +51,16 @@ pub fn list(text: &[u8], out: &mut [u8]) -> JobAnswer
     }
     put(out, 0, &listing[0..n]);
     answer
+}
+
+// Writes what the listing program prints, the listing or why the job is refused, and returns its length.
+pub fn print_job(text: &[u8], out: &mut [u8]) -> usize
+    ensures { λ r. ⌜ Puts (now (out .entry)) 0 (outputOf (jobOf (now (text .entry))) (length (now (out .entry)))) r (now (out .exit)) ⌝ }
+    ensures { λ r. ⌜ r ≤ length (now (out .exit)) ⌝ }
+{
+    let answer = list(text, out);
+    if answer.number == 0 {
+        return answer.length;
+    }
+    put_refused(out, answer.number, answer.line)
 }

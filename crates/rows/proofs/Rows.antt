@@ -7,7 +7,7 @@ use lib.ListN.{length, length-append}
 use Rattle.text.specs.Ascii.{ascii}
 use Rattle.text.specs.Fields.{decimal}
 use Rattle.text.specs.Forms.{printForm}
-use Rattle.rows.specs.Listing.{header, shotRow, endRow}
+use Rattle.rows.specs.Listing.{header, shotRow, endRow, refusedRow}
 
 pub header-length : length header ≡ 16
 unfolding header
@@ -21,6 +21,11 @@ row-parts f t m s = simp append-assoc
 pub end-parts : (n : ℕ) → (ascii "END" ++ (32 ∷ [])) ++ (decimal n ++ (10 ∷ [])) ≡ endRow n
 unfolding endRow printForm
 end-parts n = refl
+
+pub refused-parts : (number line : ℕ)
+    → (ascii "REFUSED" ++ (32 ∷ [])) ++ (decimal number ++ (32 ∷ [])) ++ (decimal line ++ (10 ∷ [])) ≡ refusedRow number line
+unfolding refusedRow printForm
+refused-parts number line = simp append-assoc
 
 pub row-length : (f t : List ℕ) (m s : ℕ) → length (shotRow f t m s) ≡ length f + length t + length (decimal m) + length
     (decimal s) + 4

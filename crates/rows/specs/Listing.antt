@@ -17,6 +17,10 @@ shotRow from to mm step = printForm (ascii "# # # #\n") (from ∷ to ∷ decimal
 unfoldable pub endRow : ℕ → List ℕ
 endRow count = printForm (ascii "END #\n") (decimal count ∷ [])
 
+-- "Refused, it prints only `REFUSED number line`."
+unfoldable pub refusedRow : ℕ → ℕ → List ℕ
+refusedRow number line = printForm (ascii "REFUSED # #\n") (decimal number ∷ decimal line ∷ [])
+
 -- "every line printed for a job is the shot with that noise": the row of a shot with the samples of one pair
 unfoldable pub noisyRow : ℕ → ℕ → List ℕ → List ℕ → ℕ → ℕ → ℤ → ℤ → List ℕ
 noisyRow sigmaMm sigmaStep from to mm step first second =

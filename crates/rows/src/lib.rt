@@ -8,7 +8,7 @@ ghost use Prim.Native.Nat.{_^_, _<_};
 ghost use lib.IntN.{natAbs};
 ghost use Rattle.text.specs.Buffer.{Puts};
 ghost use Rattle.rows.specs.Rounding.{noiseSize, noisyDistance, noisyBearing};
-ghost use Rattle.rows.specs.Listing.{header, shotRow, endRow};
+ghost use Rattle.rows.specs.Listing.{header, shotRow, endRow, refusedRow};
 
 // The steps of a turn.
 pub const TURN_STEPS: u64 = 65536;
@@ -67,4 +67,13 @@ pub fn put_end(out: &mut [u8], at: usize, count: u32) -> usize
 {
     let a = put_field(out, at, b"END", b' ');
     put_numeral(out, a, count as u64, b'\n')
+}
+
+// The one line of a refused job.
+pub fn put_refused(out: &mut [u8], number: u32, line: u32) -> usize
+    ensures { λ r. ⌜ Puts (now (out .entry)) 0 (refusedRow number line) r (now (out .exit)) ⌝ }
+{
+    let a = put_field(out, 0, b"REFUSED", b' ');
+    let b = put_numeral(out, a, number as u64, b' ');
+    put_numeral(out, b, line as u64, b'\n')
 }

@@ -97,6 +97,11 @@ pub then-puts : (d : List ℕ) (at : ℕ) (s t : List ℕ) {e f : List ℕ} {a b
 then-puts d at s t p q =
     (q .0 ∙ rw (p .0, p .1) (place-append d at s t), q .1 ∙ rw (p .0, p .1) (written-append d at s t))
 
+-- the place after what was put is within the buffer
+pub puts-within : (d : List ℕ) (at : ℕ) (s : List ℕ) {next : ℕ} {e : List ℕ} → at ≤ length d → Puts d at s next e → next ≤ length e
+unfolding placeAfter
+puts-within d at s h p = rw (p .0, p .1, written-length d at s) (omega arith)
+
 -- the loop of `put`: one byte more, and the end
 module _ (d : List ℕ) (at : ℕ) (s : List ℕ) where
   pub put-start : d ≡ written d at (take 0 s)

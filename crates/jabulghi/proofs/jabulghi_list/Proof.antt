@@ -13,7 +13,7 @@ same-length c = search needs
 returns : tie.Need-returns
 returns c =
     let list = c .before .before .list in
-    rw (← (list .ensures .0)) (refl, (refl, (refl, list .ensures .1)))
+    rw (← (list .ensures .0)) (refl, (refl, (refl, list .ensures .1 .0)))
 
 pub jabulghi-list-spec : {M : Type 1} → statement M
 jabulghi-list-spec = tie.close (tie.spec list-requires same-length returns)

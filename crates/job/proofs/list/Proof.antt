@@ -4,13 +4,13 @@ use mathlib.Core.Path.{refl}
 use mathlib.Core.List.{[]}
 use borrow.Author.Needs.{needs}
 use Rattle.job.specs.Job.{listingOf, answerOf, bufferAfter}
-use Rattle.job.proofs.Answered.{job-long, job-short, wrote-size, answered-refused, answered-long, answered-listed}
+use Rattle.job.proofs.Answered.{job-long, job-short, answer-within, wrote-size, answered-refused, answered-long, answered-listed}
 use Rattle.job.proofs.list.Statement.{statement}
 use Rattle.job.proofs.list.Tie as tie
 
 returns : tie.Need-returns
 unfolding answerOf bufferAfter
-returns c = rw (job-long (c .before .before .before .args .text .now) (c .if1 .taken)) (refl, refl)
+returns c = rw (job-long (c .before .before .before .args .text .now) (c .if1 .taken)) (refl, (refl, omega arith))
 
 slice-aggregate-write-listing : tie.Need-slice-aggregate-write-listing
 slice-aggregate-write-listing c = search needs
@@ -24,7 +24,7 @@ returns-2 c =
     let a = answered-refused (w .result) _
     (c .before .before .before .before .before .before .before .before .args .out .now) _ (w .ensures) (c .if2 .taken) in
     rw (job-short (c .before .before .before .before .before .before .before .before .args .text .now)
-    (c .before .before .before .before .before .if1 .left)) (a .0, a .1)
+    (c .before .before .before .before .before .if1 .left)) (a .0, (a .1, answer-within _ _ _ (a .0)))
 
 returns-3 : tie.Need-returns-3
 returns-3 c =
@@ -33,7 +33,7 @@ returns-3 c =
     (c .before .before .before .before .before .before .before .before .before .args .out .now) _ (w .ensures)
     (c .before .if2 .left) (c .if3 .taken) in
     rw (job-short (c .before .before .before .before .before .before .before .before .before .args .text .now)
-    (c .before .before .before .before .before .before .if1 .left)) (a .0, a .1)
+    (c .before .before .before .before .before .before .if1 .left)) (a .0, (a .1, answer-within _ _ _ (a .0)))
 
 sub-put : tie.Need-sub-put
 sub-put c = search needs
@@ -67,7 +67,7 @@ returns-4 c =
     rw (job-short (c .before .before .before .before .before .before .before .before .before .before .before .before .before
     .before .before .args .text .now)
     (c .before .before .before .before .before .before .before .before .before .before .before .before .if1 .left))
-    (a .0, a .1)
+    (a .0, (a .1, answer-within _ _ _ (a .0)))
 
 pub list-spec : {M : Type 1} → statement M
 list-spec =
