@@ -13,3 +13,4 @@ pub mod RotationLimit
 pub mod RotationLength
 pub mod MemberLaws
 pub mod PairLaws
+pub mod DistanceLaws

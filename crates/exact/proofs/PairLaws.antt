@@ -92,16 +92,25 @@ narrow-product g e ε X pos narrow most small p =
     (<ᶠ-weaken (e .high) (e .low +ᶠ share ε X) small) (p .most) most (share-small ε X))
     (two-fourths ε (g .low *ᶠ e .low) pos)
 
--- For every first number, every v and every fraction above 0 there is an enclosure of the exact pair of which both products are narrower.
-pub pair-narrow : (b m v : ℕ) (ε : Fraction) → m ≤ 2 ^ b → zero < ε .top → (g : RadiusEnclosure b m) × (n : ℕ)
-    × (firstProduct g n v .high <ᶠ firstProduct g n v .low +ᶠ ε) × (secondProduct g n v .high <ᶠ secondProduct g n v .low +ᶠ ε)
+-- For every first number and every fraction above 0 there are a start and a width such that for every n from the start on, every v and
+-- every enclosure of the radius narrower than the width, of which there is one, both products are narrower than the fraction.
+pub pair-narrow : (b m : ℕ) (ε : Fraction) → m ≤ 2 ^ b → zero < ε .top →
+    (start : ℕ) × (width : Fraction) × ((g : RadiusEnclosure b m) × (g .high <ᶠ g .low +ᶠ width))
+    × ((g : RadiusEnclosure b m) → g .high <ᶠ g .low +ᶠ width → (n v : ℕ) → start ≤ n →
+    (firstProduct g n v .high <ᶠ firstProduct g n v .low +ᶠ ε) × (secondProduct g n v .high <ᶠ secondProduct g n v .low +ᶠ ε))
 unfolding fourthOf share
-pair-narrow b m v ε le pos =
+pair-narrow b m ε le pos =
     let (some, _) = radius-narrow b m (whole 1) le (omega arith) in
     let X = some .high in
-    let (g, narrow) = radius-narrow b m (fourthOf ε) le pos in
-    let (n, small) = members-narrow (share ε X) (omega (arith, mul-pos pos (X .positive))) in
-    let (sine, cosine) = small n v (omega arith) in
-    let (proper, proper') = members-proper n v in
-    let most = radius-enclosures-overlap g some .0 in
-    (g, n, narrow-product g (members n v .0) ε X pos narrow most sine proper, narrow-product g (members n v .1) ε X pos narrow most cosine proper')
+    let (start, small) = members-narrow (share ε X) (omega (arith, mul-pos pos (X .positive))) in (
+      start,
+      fourthOf ε,
+      radius-narrow b m (fourthOf ε) le pos,
+      λ g narrow n v big.
+          let (sine, cosine) = small n v big in
+          let (proper, proper') = members-proper n v in
+          let most = radius-enclosures-overlap g some .0 in (
+            narrow-product g (members n v .0) ε X pos narrow most sine proper,
+            narrow-product g (members n v .1) ε X pos narrow most cosine proper',
+          ),
+    )
