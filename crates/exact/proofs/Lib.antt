@@ -11,6 +11,7 @@ pub mod RotationBits
 pub mod Limit
 pub mod RotationLimit
 pub mod RotationLength
+pub mod RotationOrder
 pub mod MemberLaws
 pub mod PairLaws
 pub mod DistanceLaws

@@ -20,7 +20,7 @@ use Rattle.exact.proofs.RotationLimit.{half-cos-half, half-long, double
 use Rattle.exact.proofs.RotationLimit.{compose-cos-least, compose-cos-most, compose-sin-most}
 
 -- products multiplied out and sorted
-ruleset expand = (add-mul, mul-add, mul-assoc, mul-comm, mul-left-comm)
+pub ruleset expand = (add-mul, mul-add, mul-assoc, mul-comm, mul-left-comm)
 
 -- the cosine of p and f, and that of p, f and r, are at least 0 in the limit
 record Fits (p f r : Family) : Type 0 where
@@ -97,10 +97,10 @@ module _ (p f r : Family) (u : Sound p) (v : Sound f) (w : Sound r) (h : Sound (
 abbrev noTurn : Family
 noTurn n = none n
 
-abbrev halved : ℕ → Family
+abbrev pub halved : ℕ → Family
 halved k n = halving n k
 
-abbrev bits : ℕ → ℕ → ℕ → Family
+abbrev pub bits : ℕ → ℕ → ℕ → Family
 bits j count x n = bitsRotation n j count x
 
 sound : {r : ℕ → ℕ → Rotation} (x : ℕ) → ((n : ℕ) → Good n (r n x)) → Narrowing r → Sound (λ n. r n x)
@@ -113,10 +113,10 @@ sound x good w = record {
 sound-none : Sound noTurn
 sound-none = sound 0 good-none narrowing-none
 
-sound-halving : (k : ℕ) → Sound (halved k)
+pub sound-halving : (k : ℕ) → Sound (halved k)
 sound-halving k = sound 0 (λ n. good-halving n k) (narrowing-halving k)
 
-sound-bits : (j count x : ℕ) → Sound (bits j count x)
+pub sound-bits : (j count x : ℕ) → Sound (bits j count x)
 sound-bits j count x = sound x (λ n. good-bits n j count x) (narrowing-bits j count)
 
 halving-long : (k : ℕ) → Long (halved k)
@@ -164,18 +164,18 @@ bits-fit p j u a (suc count) x =
 bits-acute : (j count x : ℕ) → Fits noTurn (bits j count x) (halved (j + count))
 bits-acute j count x = bits-fit noTurn j sound-none (below-exact (λ n. omega arith)) count x .0
 
-bits-next : (j count x : ℕ) → Acute (bits j count x) (halved (j + suc count))
+pub bits-next : (j count x : ℕ) → Acute (bits j count x) (halved (j + suc count))
 bits-next j count x =
     subst (λ m. Acute (bits j count x) (halved m)) (sym (add-suc j count))
     (fits-none (fits-next noTurn (bits j count x) (j + count) sound-none (sound-bits j count x) (bits-acute j count x)))
 
 -- the coarse and the fine rotation sum to at most a quarter turn
-coarse-fine : (a b : ℕ) → Acute (bits 0 7 a) (bits 7 7 b)
+pub coarse-fine : (a b : ℕ) → Acute (bits 0 7 a) (bits 7 7 b)
 coarse-fine a b = bits-fit (bits 0 7 a) 7 (sound-bits 0 7 a) (fits-none (bits-acute 0 7 a)) 7 b .1 .two
 
 -- lengths
 
-Nested : Family → Type 0
+unfoldable pub Nested : Family → Type 0
 Nested g = (n d : ℕ) → Inside d (g n) (g (n + d))
 
 -- a length of at least 1 up to 1 / (2 N²), at D times finer units
@@ -250,7 +250,7 @@ long-compose f t v w i j long long' a = long-of-limit (composeOf f t) (λ n d. i
       omega (arith, length-of-cut (2 ^ e) (2 ^ n) _ _ _ _ _ _ (pow-pos e) (pow-pos n) (long n) (long' n) acute least up);
 }
 
-nested-bits : (j count x : ℕ) → Nested (bits j count x)
+pub nested-bits : (j count x : ℕ) → Nested (bits j count x)
 unfolding Nested
 nested-bits j count x n d = inside-bits n d j count x
 

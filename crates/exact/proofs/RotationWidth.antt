@@ -8,7 +8,7 @@ use native.Mathlib.Omega.{arith}
 use lib.Pow.{pow-pos, pow-mono, pow-add}
 use Rattle.exact.specs.Fraction.{Fraction, whole, dyadic, _+ᶠ_, _<ᶠ_}
 use Rattle.exact.specs.Rotation.{Rotation, rootDown, rootUp, quotientUp, none, half, compose}
-use Rattle.exact.specs.Rotation.{halving, bitRotation, bitsRotation, rotation}
+use Rattle.exact.specs.Rotation.{halving, bitRotation, bitsRotation, bitByBit, rotation}
 use Rattle.exact.proofs.RootLaws.{lt-of-square-lt, root-down-at-most, root-down-next, root-up-previous}
 use Rattle.exact.proofs.RotationLaws.{Good, good-bit, good-bits}
 
@@ -191,14 +191,22 @@ narrower ε above n low high h =
     narrower-than (2 ^ n) (2 ^ q) (ε .top) q low high (pow-pos n) (omega (arith, above)) (omega (arith, lt-two-pow q))
     (rw (pow-succ' 2 q) at h)
 
--- for every fraction above 0 there is an n from which on the enclosures of every w are narrower
-pub rotation-narrow : (ε : Fraction) → whole 0 <ᶠ ε → (start : ℕ) × ((n w : ℕ) → start ≤ n → NarrowerThan ε n (rotation n w))
-rotation-narrow ε above = (
-  narrowing-rotation .start (suc (ε .bottom)),
+-- for every fraction above 0 there is an n from which on all are narrower
+narrower-from : {r : ℕ → ℕ → Rotation} → Narrowing r → (ε : Fraction) → whole 0 <ᶠ ε →
+    (start : ℕ) × ((n w : ℕ) → start ≤ n → NarrowerThan ε n (r n w))
+narrower-from {r} narrowing ε above = (
+  narrowing .start (suc (ε .bottom)),
   λ n w big.
-      let narrow = narrowing-rotation .narrow (suc (ε .bottom)) n w big in
+      let narrow = narrowing .narrow (suc (ε .bottom)) n w big in
       record {
-        cosine = narrower ε above n (rotation n w .cosLow) (rotation n w .cosHigh) (narrow .cosine);
-        sine = narrower ε above n (rotation n w .sinLow) (rotation n w .sinHigh) (narrow .sine);
+        cosine = narrower ε above n (r n w .cosLow) (r n w .cosHigh) (narrow .cosine);
+        sine = narrower ε above n (r n w .sinLow) (r n w .sinHigh) (narrow .sine);
       },
 )
+
+-- the enclosures of every w, composed either way
+pub rotation-narrow : (ε : Fraction) → whole 0 <ᶠ ε → (start : ℕ) × ((n w : ℕ) → start ≤ n → NarrowerThan ε n (rotation n w))
+rotation-narrow = narrower-from narrowing-rotation
+
+pub bit-by-bit-narrow : (ε : Fraction) → whole 0 <ᶠ ε → (start : ℕ) × ((n w : ℕ) → start ≤ n → NarrowerThan ε n (bitByBit n w))
+bit-by-bit-narrow = narrower-from (narrowing-bits 0 14)

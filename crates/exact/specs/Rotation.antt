@@ -76,6 +76,10 @@ unfoldable pub bitsRotation : ℕ → ℕ → ℕ → ℕ → Rotation
 bitsRotation n j zero x = none n
 bitsRotation n j (suc count) x = compose n (bitsRotation n j count (x / 2)) (bitRotation n (j + suc count) (x % 2))
 
+-- "The exact rotation for w composes the half-angle rotations of its 14 bits by the addition formulas", one bit after another
+abbrev pub bitByBit : ℕ → ℕ → Rotation
+bitByBit n w = bitsRotation n 0 14 w
+
 -- "a = floor(w / 128), b = w mod 128": a turns by a/512, b by b/65536 of a turn
 abbrev pub coarse : ℕ → ℕ → Rotation
 coarse n a = bitsRotation n 0 7 a
@@ -83,6 +87,6 @@ coarse n a = bitsRotation n 0 7 a
 abbrev pub fine : ℕ → ℕ → Rotation
 fine n b = bitsRotation n 7 7 b
 
--- "The exact rotation for w composes the half-angle rotations of its 14 bits by the addition formulas"
+-- the exact rotation for w, composed of the rotations of a and b: it has the cosine and the sine of `bitByBit` (`order-overlaps`)
 unfoldable pub rotation : ℕ → ℕ → Rotation
 rotation n w = compose n (coarse n (w / 128)) (fine n (w % 128))
