@@ -2,7 +2,8 @@
 -- same cosine and sine.
 use mathlib.Core.Path.{_≡_, sym, subst, fun-ext}
 use Prim.Native.Nat.{ℕ, zero, suc, _+_, _*_, _/_, _%_, _^_, _≤_, _<_}
-use native.Mathlib.Nat.{add-zero, zero-add, add-suc, div-add-mod', mod-lt, mul-pos, mul-le-mul-left, le-of-mul-le-mul-left, pow-succ'}
+use native.Mathlib.Nat.{le-refl, add-zero, zero-add, add-suc, div-add-mod', mod-lt, mul-pos, mul-le-mul-left, pow-succ'}
+use native.Mathlib.Nat.{le-of-mul-le-mul-left}
 use native.Mathlib.Omega.{arith}
 use lib.Pow.{pow-pos, pow-add}
 use lib.Bits.{block-half, block-odd}
@@ -13,7 +14,8 @@ use Rattle.exact.proofs.RotationBits.{compose-none-right}
 use Rattle.exact.proofs.Limit.{Below, below-sum, below-by, below-exact, below-slack, below-times, below-cancel}
 use Rattle.exact.proofs.RotationLimit.{Family, cos, sin, composeOf, Sound, Acute, times-one, times-cos, times-sin}
 use Rattle.exact.proofs.RotationLimit.{compose-cos-least, compose-cos-most, compose-sin-most}
-use Rattle.exact.proofs.RotationLength.{expand, halved, bits, sound-halving, sound-bits, bits-next, coarse-fine, Nested, nested-bits}
+use Rattle.exact.proofs.RotationLength.{expand, halved, bits, sound-halving, sound-bits, bits-next, coarse-fine}
+use Rattle.exact.proofs.RotationLength.{Nested, nested-bits}
 
 -- f and g are equal in the limit, as products of d numbers
 record Equal (d : ℕ) (f g : ℕ → ℕ) : Type 0 where
@@ -168,15 +170,22 @@ ends-overlap {f} {g} h n m low high lower upper =
     crossed (2 ^ n) (2 ^ m) (2 ^ d) low high (f k) (g k) (pow-pos n) (pow-pos m) (pow-pos d) (rw (pow-add 2 m d) at (lower (m + d)))
     (rw (same, pow-add 2 n d) at (upper (n + d))) (omega (arith, close))
 
-overlap-of-limit : (f g : Family) → Nested f → Nested g → ((n : ℕ) → Good n (f n)) → Below 1 (cos f) (cos g) → Below 1 (sin f) (sin g) →
-    (n m : ℕ) → Overlap n m (f n) (g m)
+overlap-of-limit : (f g : Family) → Nested f → Nested g → ((n : ℕ) → Good n (f n)) → Below 1 (cos f) (cos g) →
+    Below 1 (sin f) (sin g) → (n m : ℕ) → Overlap n m (f n) (g m)
 unfolding Nested
 overlap-of-limit f g i j good c s n m = record {
   cosine = ends-overlap c n m _ _ (λ d. omega (arith, i n d .cosLow, good (n + d) .cosine)) (λ d. j m d .cosHigh);
   sine = ends-overlap s n m _ _ (λ d. omega (arith, i n d .sinLow, good (n + d) .sine)) (λ d. j m d .sinHigh);
 }
 
--- the enclosures of the rotation by the 14 bits of w one after another overlap those of the rotation by the coarse and the fine
+-- any two enclosures of the rotation by the 14 bits of w one after another overlap
+pub bit-by-bit-overlaps : (n m w : ℕ) → Overlap n m (bitByBit n w) (bitByBit m w)
+bit-by-bit-overlaps n m w =
+    let nested = nested-bits 0 14 w in
+    overlap-of-limit (bits 0 14 w) (bits 0 14 w) nested nested (λ k. good-bits k 0 14 w) (below-exact (λ k. le-refl _))
+    (below-exact (λ k. le-refl _)) n m
+
+-- and they overlap those of the rotation by the coarse and the fine
 pub order-overlaps : (n m w : ℕ) → Overlap n m (bitByBit n w) (rotation m w) × Overlap m n (rotation m w) (bitByBit n w)
 unfolding rotation Nested
 order-overlaps n m w =
