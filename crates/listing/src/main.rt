@@ -1,6 +1,8 @@
 // Lists the job on standard input: its listing, or why it is refused and in which line.
 ghost use Prim.Native.Nat.{_≤_};
 ghost use lib.ListN.{length};
+use job::limits::LISTING_ROOM;
+use job::limits::MOST_BYTES;
 use libc::STDIN_FILENO;
 use libc::STDOUT_FILENO;
 
@@ -42,19 +44,18 @@ fn read_all(fd: i32, buf: &mut [u8]) -> Input
     }
 }
 
-// A text of more than 60,000 bytes is refused whatever follows, so one byte more than that is read.
+// A text that is too long is refused whatever follows, so one byte more than the longest job is read.
 fn main() {
-    let mut text = [0u8; 60001];
+    let mut text = [0u8; MOST_BYTES + 1];
     let input = read_all(STDIN_FILENO, &mut text);
     if input.failed {
         os::fail(b"listing: reading standard input");
         return;
     }
     let n = input.length;
-    let mut listing = [0u8; 20480];
-    let answer = job::list(&text[0..n], &mut listing);
-    let length = answer.length;
-    if !io::write_all(STDOUT_FILENO, &listing[0..length]) {
+    let mut out = [0u8; LISTING_ROOM];
+    let length = job::print_job(&text[0..n], &mut out);
+    if !io::write_all(STDOUT_FILENO, &out[0..length]) {
         os::fail(b"listing: writing standard output");
     }
 }
