@@ -1,5 +1,5 @@
 -- What an accepted line keeps within bounds: the lines, the sigmas and the listing's length.
-use Prim.Native.Nat.{ℕ, _+_, _≤_}
+use Prim.Native.Nat.{ℕ, _+_, _≤_, _<_}
 use native.Mathlib.Omega.{arith}
 use native.Mathlib.Nat.{mul-le-mul}
 use mathlib.Core.Path.{_≡_, refl}
@@ -80,6 +80,7 @@ pub record Steps (k : ℕ) (x : Form) (s : Setting) : Type 0 where
   pub line : k ≤ lastLine
   pub steady : Steady (settingAfter x s .distance) (settingAfter x s .bearing)
   pub row : length (printed x s) ≤ rowLength
+  pub early : k < 3 → length (printed x s) ≡ 0
 
 pub steps : (k : ℕ) (l : List ℕ) (s : Setting) → Steady (s .distance) (s .bearing) → refusal k (readLine l) ≡ 0 → Steps
     k (readLine l) s
@@ -89,15 +90,15 @@ steps k l s steady h = go (readLine l) refl (accepted-line k (readLine l) h)
     go : (x : Form) → readLine l ≡ x → Accepted k x → Steps k x s
     go (seeds a0 a1 a2 b0 b1 b2) e a =
         let one = eqb-true k 1 (not-false (eqb k 1) (a .placed)) in
-        record { line = omega (arith, one); steady = steady; row = omega arith }
+        record { line = omega (arith, one); steady = steady; row = omega arith; early = λ h. refl }
     go (sigma d b) e a =
         let two = eqb-true k 2 (not-false (eqb k 2) (a .placed)) in
         let r = or-false (ltb mostSigma d) (ltb mostSigma b) (a .ranged) in
         record {
           line = omega (arith, two);
           steady = record { sigma-distance = ltb-false mostSigma d (r .0); sigma-bearing = ltb-false mostSigma b (r .1) };
-          row =
-              omega arith;
+          row = omega arith;
+          early = λ h. refl;
         }
     go (shot from to d b) e a =
         let r = or-false (ltb mostDistance d) (ltb mostBearing b) (a .ranged) in
@@ -110,5 +111,6 @@ steps k l s steady h = go (readLine l) refl (accepted-line k (readLine l) h)
               row-bound from to _ _ (n .0) (n .1)
               (distance-bound (s .distance) d (pairOf (s .generator) .first) (steady .sigma-distance) (ltb-false mostDistance d (r .0)) (p .0))
               (bearing-bound (s .bearing) b (pairOf (s .generator) .second));
+          early = λ h. absurd (omega (arith, h, ltb-false k 3 (a .placed)));
         }
     go noForm e a = absurd (true≢false (a .formed))

@@ -1,5 +1,5 @@
 -- The limits of a job (document 01, "A job and its listing"); src/limits.rt has the same.
-use Prim.Native.Nat.{ℕ, _+_, _-_}
+use Prim.Native.Nat.{ℕ, _+_, _-_, _*_}
 use Rattle.rows.specs.Rounding.{turnSteps}
 
 -- "A job is text of at most" so many bytes
@@ -13,6 +13,10 @@ mostShots = 500
 -- the line of the last shot, after the seeds and the sigmas
 abbrev pub lastLine : ℕ
 lastLine = mostShots + 2
+
+-- the most bytes of a listing: the header, a row of 40 for each shot, and the last row
+abbrev pub longestListing : ℕ
+longestListing = 16 + 40 * mostShots + 8
 
 -- the bytes of the listing program's buffer
 abbrev pub listingRoom : ℕ

@@ -1,11 +1,11 @@
 -- What the definitions of a job say, as theorems: the record below has a proof in proofs/Theorems.antt.
-use Prim.Native.Nat.{ℕ, _+_, _-_, _≤_, _<_}
+use Prim.Native.Nat.{ℕ, _+_, _≤_, _<_}
 use mathlib.Core.Path.{_≡_}
 use mathlib.Core.List.{List, [], _∷_, _++_, map}
 use lib.ListN.{length}
 use Rattle.text.specs.Scan.{lines}
-use Rattle.job.specs.Limits.{mostBytes, listingRoom}
-use Rattle.forms.specs.Forms.{Form, readLine, printLine, Printable}
+use Rattle.job.specs.Limits.{mostBytes, listingRoom, longestListing}
+use Rattle.forms.specs.Forms.{Form, seeds, sigma, shot, noForm, readLine, printLine, Printable}
 use Rattle.rows.specs.Listing.{header, endRow}
 use Rattle.job.specs.Refusals.{refusal}
 use Rattle.job.specs.Job.{refused, listed, start, jobOf, answerOf, printed, settingAfter}
@@ -21,6 +21,17 @@ unfoldable pub rows : Setting → List Form → List ℕ
 rows s [] = []
 rows s (x ∷ xs) = printed x s ++ rows (settingAfter x s) xs
 
+-- the shots among these lines
+unfoldable pub isShot : Form → ℕ
+isShot (seeds a0 a1 a2 b0 b1 b2) = 0
+isShot (sigma d b) = 0
+isShot (shot from to d b) = 1
+isShot noForm = 0
+
+unfoldable pub shots : List Form → ℕ
+shots [] = 0
+shots (x ∷ xs) = isShot x + shots xs
+
 -- every line is one that can be printed and is accepted in its place, from line k on
 unfoldable pub Accepts : ℕ → List Form → Type 0
 Accepts k [] = Unit {0}
@@ -28,18 +39,20 @@ Accepts k (x ∷ xs) = Printable x × (refusal k x ≡ 0) × Accepts (k + 1) xs
 
 pub record Theorems : Type 0 where
   -- a job is listed just where its text says accepted lines, two at least, in few enough bytes: the header, the rows of its
-  -- shots in the job's order, and the count of the lines after the first two
+  -- shots in the job's order, and the count of shots
   pub listed-job : (xs : List Form) → Accepts 1 xs → 2 ≤ length xs → length (textOf xs) ≤ mostBytes
-      → jobOf (textOf xs) ≡ listed (header ++ (rows start xs ++ endRow (length xs - 2)))
+      → jobOf (textOf xs) ≡ listed (header ++ (rows start xs ++ endRow (shots xs)))
   pub job-listed : (text bytes : List ℕ) → jobOf text ≡ listed bytes
       → (xs : List Form) × Accepts 1 xs × (2 ≤ length xs) × (textOf xs ≡ text) ×
-      (bytes ≡ header ++ (rows start xs ++ endRow (length xs - 2)))
+      (bytes ≡ header ++ (rows start xs ++ endRow (shots xs)))
   -- the first line that is not accepted gives number and line; a text of accepted lines that ends before line 2 lacks the next
   pub first-bad : (text l : List ℕ) (xs : List Form) (ls : List (List ℕ)) → length text ≤ mostBytes → Accepts 1 xs
       → lines text ≡ map printLine xs ++ (l ∷ ls) → (refusal (1 + length xs) (readLine l) ≡ 0 → ⊥)
       → jobOf text ≡ refused (refusal (1 + length xs) (readLine l)) (1 + length xs)
   pub missing-line : (text : List ℕ) (xs : List Form) → length text ≤ mostBytes → Accepts 1 xs → lines text ≡ map printLine xs
       → length xs < 2 → jobOf text ≡ refused 8 (1 + length xs)
+  -- a listing has at most so many bytes
+  pub longest : (text bytes : List ℕ) → jobOf text ≡ listed bytes → length bytes ≤ longestListing
   -- a listing fits the listing program's buffer, so that it never prints 10
   pub fits : (text bytes : List ℕ) → jobOf text ≡ listed bytes → length bytes ≤ listingRoom
   pub never-too-long : (text : List ℕ) → answerOf (jobOf text) listingRoom .number ≡ 10 → ⊥
