@@ -1,4 +1,4 @@
-//! Runs the static library beside another implementation of document 01, written from the document alone.
+//! Runs the static library and the listing program beside another implementation of document 01, written from the document alone.
 //! JABULGHI_SEED gives the generated inputs another seed. With the words `checks FOLDER` it writes what the program crates/checks reads and
 //! has to print.
 mod cases;
@@ -10,6 +10,7 @@ mod inputs;
 mod job;
 mod library;
 mod listings;
+mod program;
 mod random;
 mod readings;
 mod sample;
@@ -37,7 +38,7 @@ fn main() {
     for group in edges {
         println!("{}, all equal", group(&tables));
     }
-    let groups: [Group; 6] = [draws, histories, samples, pairs, blocks, listings::jobs];
+    let groups: [Group; 7] = [draws, histories, samples, pairs, blocks, listings::jobs, program::program];
     for (j, group) in groups.into_iter().enumerate() {
         let start = Instant::now();
         let said = group(&tables, &mut Random(seed ^ (j as u64) << 56));

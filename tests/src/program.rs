@@ -1,5 +1,6 @@
 //! The listing program as it is built, fed through pipes, beside the other implementation.
-use crate::job;
+use crate::given;
+use crate::job::{self, ROOM, SHOTS};
 use crate::random::Random;
 use crate::sample::Tables;
 use crate::texts;
@@ -22,7 +23,7 @@ const F_SETFL: i32 = 4;
 const O_NONBLOCK: i32 = 0x800;
 
 fn expected(tables: &Tables, text: &[u8]) -> Vec<u8> {
-    match job::list(tables, text, 20_480) {
+    match job::list(tables, text, ROOM) {
         (0, _, listing) => listing,
         (number, line, _) => format!("REFUSED {number} {line}\n").into_bytes(),
     }
@@ -71,7 +72,7 @@ fn rows() -> Vec<(String, &'static str)> {
         (format!("{SEEDS}(sigma 4 1001)\n"), "REFUSED 7 2\n"),
         (format!("{SEEDS}{SHOT}"), "REFUSED 8 2\n"),
         (String::new(), "REFUSED 8 1\n"),
-        (format!("{head}{}", SHOT.repeat(501)), "REFUSED 9 503\n"),
+        (format!("{head}{}", SHOT.repeat(SHOTS + 1)), "REFUSED 9 503\n"),
     ]
 }
 
@@ -115,16 +116,16 @@ pub fn program(tables: &Tables, random: &mut Random) -> String {
         writes(&at_once(text.as_bytes()), printed.as_bytes(), "", "a row of README's table");
         assert_eq!(expected(tables, text.as_bytes()), printed.as_bytes());
     }
-    let count = 400;
-    for _ in 0..count {
-        let text = texts::text(random);
-        writes(&at_once(&text), &expected(tables, &text), "", &format!("\"{}\"", text.escape_ascii()));
+    let mut texts = given::texts();
+    texts.extend((0..400).map(|_| texts::text(random)));
+    for text in &texts {
+        writes(&at_once(text), &expected(tables, text), "", &format!("\"{}\"", text.escape_ascii()));
     }
     // the longest job that is read whole, and slow pipes of a few bytes at a time
-    let longest = format!("{SEEDS}{SIGMA}{}", "(shot ABCDEFGHIJKL MNOPQRSTUVWX 1000000 65535)\n".repeat(500));
+    let longest = format!("{SEEDS}{SIGMA}{}", "(shot ABCDEFGHIJKL MNOPQRSTUVWX 1000000 65535)\n".repeat(SHOTS));
     for (text, piece, pause) in [(longest.as_str(), 4096, 1), (rows[0].0.as_str(), 1, 1), (rows[0].0.as_str(), 40, 50)] {
         let said = run(text.as_bytes(), piece, Duration::from_millis(pause));
         writes(&said, &expected(tables, text.as_bytes()), "", "a slow pipe");
     }
-    format!("the listing program on {} texts and {} failed reads and writes", rows.len() + count + 3, failures())
+    format!("the listing program on {} texts and {} failed reads and writes", rows.len() + texts.len() + 3, failures())
 }
