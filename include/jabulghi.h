@@ -12,11 +12,10 @@
 extern "C" {
 #endif
 
-/* Every call returns one of these numbers. Order: 2 before 3; 1 before 4; for a job 5, then the first bad line, within it 6, 8, 9, 7, 1;
+/* Every call returns one of these numbers. Order: 2 before 3; 11 before 12, both before 4; for a job 5, then the first bad line, within it 6, 8, 9, 7, 11, 12;
  * last 10. */
 enum {
     JABULGHI_OK = 0,
-    JABULGHI_UNFIT_RECORD = 1,      /* a register below its minimum in either stream */
     JABULGHI_K_TOO_LARGE = 2,       /* k of 2^48 or more */
     JABULGHI_V_TOO_LARGE = 3,       /* v above 65535 */
     JABULGHI_ODD_LENGTH = 4,        /* block of odd length */
@@ -25,7 +24,9 @@ enum {
     JABULGHI_NUMBER_TOO_LARGE = 7,  /* number beyond its range */
     JABULGHI_WRONG_PLACE = 8,       /* form in the wrong place, or text ends before line 2 */
     JABULGHI_TOO_MANY_SHOTS = 9,    /* 501st shot */
-    JABULGHI_LISTING_TOO_LONG = 10  /* listing longer than the buffer lent */
+    JABULGHI_LISTING_TOO_LONG = 10, /* listing longer than the buffer lent */
+    JABULGHI_UNFIT_STREAM_A = 11,   /* a register of stream a below its minimum */
+    JABULGHI_UNFIT_STREAM_B = 12    /* a register of stream b below its minimum, stream a being fit */
 };
 
 /* Every listing fits this many bytes. */
@@ -35,10 +36,10 @@ enum {
  * s1 at least 8 and s2 at least 16 in both. A record that was accepted is never refused later. */
 typedef struct { uint32_t a[3], b[3]; } jabulghi_record;
 
-/* Seeds a record. Refused (1), the record becomes six zeros. */
+/* Seeds a record. Refused (11, 12), the record becomes six zeros. */
 uint32_t jabulghi_seed(uint32_t a0, uint32_t a1, uint32_t a2, uint32_t b0, uint32_t b1, uint32_t b2, jabulghi_record *record);
 
-/* One draw from stream a, or from stream b: moves its own stream alone. Refused (1), the draw is 0 and the record stays. */
+/* One draw from stream a, or from stream b: moves its own stream alone. Refused (11, 12), the draw is 0 and the record stays. */
 uint32_t jabulghi_draw_a(jabulghi_record *record, uint32_t *draw);
 uint32_t jabulghi_draw_b(jabulghi_record *record, uint32_t *draw);
 
@@ -46,16 +47,16 @@ uint32_t jabulghi_draw_b(jabulghi_record *record, uint32_t *draw);
  * sixteenths of a unit from its member of the exact Box-Muller pair. Refused (2, 3), the samples are 0 0. samples: 2 elements. */
 uint32_t jabulghi_sample(uint64_t k, uint32_t v, int16_t *samples);
 
-/* One pair from a record: a draw from a, then one from b, and their two samples. Refused (1), the samples are 0 0 and the record
+/* One pair from a record: a draw from a, then one from b, and their two samples. Refused (11, 12), the samples are 0 0 and the record
  * stays. samples: 2 elements. */
 uint32_t jabulghi_pair(jabulghi_record *record, int16_t *samples);
 
-/* A block of length elements: the samples of length / 2 pairs, first and second alternating. Refused (1, 4), block and record stay.
+/* A block of length elements: the samples of length / 2 pairs, first and second alternating. Refused (11, 12, 4), block and record stay.
  * Length 0 succeeds and moves nothing. */
 uint32_t jabulghi_block(jabulghi_record *record, int16_t *block, size_t length);
 
 /* The listing of a job's text, its line and its length. Accepted, line is 0 and the first length bytes of listing are the listing;
- * the bytes beyond it keep their contents. Refused (1, 5 to 10), length is 0, line is the bad line, or 0 for 5 and 10, and listing
+ * the bytes beyond it keep their contents. Refused (5 to 12), length is 0, line is the bad line, or 0 for 5 and 10, and listing
  * stays. A listing has at most 20,024 bytes. */
 uint32_t jabulghi_list(const uint8_t *text, size_t text_length, uint8_t *listing, size_t listing_length, uint32_t *line, size_t *length);
 

@@ -1,6 +1,6 @@
 //! Document 01, "A job and its listing".
 use crate::sample::Tables;
-use crate::stream::{accepted, pair, Record};
+use crate::stream::{pair, refusal, Record};
 
 /// The most shots of a job, and the room that its listing never exceeds.
 pub const SHOTS: usize = 500;
@@ -81,8 +81,9 @@ pub fn list(tables: &Tables, text: &[u8], room: usize) -> (u32, u32, Vec<u8>) {
         match line {
             1 => {
                 record = Record::try_from(numbers.iter().map(|&n| n as u32).collect::<Vec<_>>()).unwrap();
-                if !accepted(&record) {
-                    return refused(1, 1);
+                let number = refusal(&record);
+                if number != 0 {
+                    return refused(number, 1);
                 }
             }
             2 => sigma = (numbers[0] as i64, numbers[1] as i64),

@@ -62,8 +62,9 @@ fn rows() -> Vec<(String, &'static str)> {
     vec![
         (format!("{head}{SHOT}(shot A2 A3 9000 65530)\n"), "FROM TO MM STEP\nA1 A2 12356 4527\nA2 A3 9011 8\nEND 2\n"),
         (head.clone(), "FROM TO MM STEP\nEND 0\n"),
-        (head.replacen("a 2", "a 1", 1), "REFUSED 1 1\n"),
-        (head.replacen("b 2", "b 1", 1), "REFUSED 1 1\n"),
+        (head.replacen("a 2", "a 1", 1), "REFUSED 11 1\n"),
+        (head.replacen("b 2", "b 1", 1), "REFUSED 12 1\n"),
+        (head.replace(" 16)", " 15)"), "REFUSED 11 1\n"),
         (format!("{head}{}", "\n".repeat(60_001 - head.len())), "REFUSED 5 0\n"),
         (format!("{head}{}", "\n".repeat(60_000 - head.len())), "REFUSED 6 3\n"),
         (format!("{head}(shot A1  A2 1 2)\n"), "REFUSED 6 3\n"),

@@ -10,15 +10,20 @@ pub type Record = [u32; 6];
 pub const A: usize = 0;
 pub const B: usize = 3;
 
+/// 11 where stream a has a register below its minimum, else 12 where stream b has, else 0 (document 02, Job 1).
+pub fn refusal(record: &Record) -> u32 {
+    let unfit = |stream: usize| (0..3).any(|j| record[stream + j] < MINIMA[j]);
+    [(A, 11), (B, 12)].into_iter().find(|&(stream, _)| unfit(stream)).map_or(0, |(_, number)| number)
+}
+
 pub fn accepted(record: &Record) -> bool {
-    (0..6).all(|j| record[j] >= MINIMA[j % 3])
+    refusal(record) == 0
 }
 
 pub fn seed(seeds: &Record) -> (u32, Record) {
-    if accepted(seeds) {
-        (0, *seeds)
-    } else {
-        (1, [0; 6])
+    match refusal(seeds) {
+        0 => (0, *seeds),
+        number => (number, [0; 6]),
     }
 }
 
@@ -37,7 +42,7 @@ pub fn step(record: &mut Record, stream: usize) -> u32 {
 pub fn draw(record: &Record, stream: usize) -> (u32, u32, Record) {
     let mut next = *record;
     if !accepted(record) {
-        return (1, 0, next);
+        return (refusal(record), 0, next);
     }
     let number = step(&mut next, stream);
     (0, number, next)
@@ -55,7 +60,7 @@ fn step_pair(tables: &Tables, record: &mut Record) -> (i16, i16) {
 pub fn pair(tables: &Tables, record: &Record) -> (u32, i16, i16, Record) {
     let mut next = *record;
     if !accepted(record) {
-        return (1, 0, 0, next);
+        return (refusal(record), 0, 0, next);
     }
     let (first, second) = step_pair(tables, &mut next);
     (0, first, second, next)
@@ -64,7 +69,7 @@ pub fn pair(tables: &Tables, record: &Record) -> (u32, i16, i16, Record) {
 pub fn block(tables: &Tables, record: &Record, out: &mut [i16]) -> (u32, Record) {
     let mut next = *record;
     if !accepted(record) {
-        return (1, next);
+        return (refusal(record), next);
     }
     if out.len() % 2 == 1 {
         return (4, next);

@@ -98,7 +98,7 @@ module _ (k d b : ℕ) where
 pub seed-not-10 : (x : Form) → seedNumber x ≡ 10 → ⊥
 unfolding seedNumber seedOf
 seed-not-10 (seeds a0 a1 a2 b0 b1 b2) e =
-    record-cases (λ (n : ℕ). n ≡ 10 → ⊥) _ (λ e. omega (arith, e)) (λ e. omega (arith, e)) e
+    record-cases (λ (n : ℕ). n ≡ 10 → ⊥) _ (λ e. omega (arith, e)) (λ e. omega (arith, e)) (λ e. omega (arith, e)) e
 seed-not-10 (sigma d b) e = omega (arith, e)
 seed-not-10 (shot from to d b) e = omega (arith, e)
 seed-not-10 noForm e = omega (arith, e)

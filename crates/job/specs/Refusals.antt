@@ -1,5 +1,5 @@
 -- Why a line is refused (document 01, the table of causes, and "for a job 5, then the first bad line, within it 6, 8, 9, 7, 1;
--- last 10").
+-- last 10"; document 02, Job 1, puts 11 and 12 where 1 stood).
 use Prim.Native.Nat.{ℕ}
 use mathlib.Core.Bool.{Bool, true, false, cond, not, _||_}
 use lib.Dec.{ltb, eqb}

@@ -39,7 +39,7 @@ samples (suc n) g = pairOf g .first ∷ pairOf g .second ∷ samples n (pairOf g
 unfoldable pub lengthNumber : ℕ → ℕ
 lengthNumber n = cond (eqb (n % 2) 0) 0 4
 
--- The number of a block of n elements: "1 before 4".
+-- The number of a block of n elements: the record's, and then 4.
 unfoldable pub blockNumber : Generator → ℕ → ℕ
 blockNumber g n = firstCause (recordNumber g ∷ lengthNumber n ∷ [])
 

@@ -1,8 +1,8 @@
 -- What is proved of the streams and of the calls on a record. The register laws behind it are in `Register`, once over (k, q, s).
 -- Runs of calls are in `noise`, which has all of them.
-use mathlib.Core.Path.{_≡_, refl, ap, _∙_}
-use mathlib.Core.Bool.{Bool, true, false, cond, _&&_}
-use mathlib.Core.Logic.{_↔_}
+use mathlib.Core.Path.{_≡_, refl, sym, ap, _∙_}
+use mathlib.Core.Bool.{Bool, true, false, cond, _&&_, true≢false}
+use mathlib.Core.Logic.{_↔_, _⊎_, inl, inr}
 use Prim.Native.Nat.{ℕ, zero, suc, _+_, _*_, _/_, _%_, _^_, _<_}
 use native.Mathlib.Nat.{zero-add, suc-add}
 use native.Mathlib.Numerals.{add-one}
@@ -79,42 +79,77 @@ fit-minima u = (
   λ m. rw (le-leb 2 (u .s0) (m .s0-least), le-leb 8 (u .s1) (m .s1-least), le-leb 16 (u .s2) (m .s2-least)),
 )
 
-cond-zero : (t : Bool) → _≡_ {A = ℕ} (cond t 0 1) 0 → t ≡ true
-cond-zero true e = refl
-cond-zero false e = absurd (omega (arith, e))
+-- The number of any record is one of these, by which of its streams are fit.
+abbrev numberBy : Bool → Bool → ℕ
+numberBy a b = cond a (cond b 0 12) 11
+
+both-fit : (a b : Bool) → numberBy a b ≡ 0 → (a ≡ true) × (b ≡ true)
+both-fit true true e = (refl, refl)
+both-fit true false e = absurd (omega (arith, e))
+both-fit false b e = absurd (omega (arith, e))
 
 -- A record is accepted where both of its streams are fit.
 pub accepted-minima : (g : Generator) → (recordNumber g ≡ 0) ↔ (Minima (g .a) × Minima (g .b))
 unfolding recordNumber
 accepted-minima g = (
   λ h.
-      let (p, q) = and-true (fit (g .a)) (fit (g .b)) (cond-zero (fit (g .a) && fit (g .b)) h) in
+      let (p, q) = both-fit (fit (g .a)) (fit (g .b)) h in
       (fit-minima (g .a) .0 p, fit-minima (g .b) .0 q),
   λ m. rw (fit-minima (g .a) .1 (m .0), fit-minima (g .b) .1 (m .1)),
 )
 
--- The number of any record is one of these.
-pub record-cases : (P : ℕ → Type 0) (g : Generator) → P 0 → P 1 → P (recordNumber g)
+pub record-cases : (P : ℕ → Type 0) (g : Generator) → P 0 → P 11 → P 12 → P (recordNumber g)
 unfolding recordNumber
-record-cases P g accepted refused = by-test (fit (g .a) && fit (g .b))
+record-cases P g accepted unfit-a unfit-b = by-tests (fit (g .a)) (fit (g .b))
   where
-    by-test : (t : Bool) → P (cond t 0 1)
-    by-test true = accepted
-    by-test false = refused
+    by-tests : (a b : Bool) → P (numberBy a b)
+    by-tests true true = accepted
+    by-tests true false = unfit-b
+    by-tests false b = unfit-a
 
--- 2, 8 and 16 are accepted, and one below in any of the six registers is not.
+fit-or-not : (u : Stream) → ((fit u ≡ true) × Minima u) ⊎ ((fit u ≡ false) × (Minima u → ⊥))
+fit-or-not u = by-test (fit u) refl
+  where
+    by-test : (t : Bool) → fit u ≡ t → ((fit u ≡ true) × Minima u) ⊎ ((fit u ≡ false) × (Minima u → ⊥))
+    by-test true e = inl (e, fit-minima u .0 e)
+    by-test false e = inr (e, λ m. true≢false (sym (fit-minima u .1 m) ∙ e))
+
+-- 11 just where a register of a is below its minimum; 12 just where a is fit and a register of b is below.
+pub number-a : (g : Generator) → (recordNumber g ≡ 11) ↔ (Minima (g .a) → ⊥)
+unfolding recordNumber
+number-a g = by-fit (fit-or-not (g .a)) (fit (g .b)) refl
+  where
+    by-fit : ((fit (g .a) ≡ true) × Minima (g .a)) ⊎ ((fit (g .a) ≡ false) × (Minima (g .a) → ⊥)) → (b : Bool) → fit (g .b) ≡ b
+        → (recordNumber g ≡ 11) ↔ (Minima (g .a) → ⊥)
+    by-fit (inl (e, m)) true f = (λ h. absurd (omega (arith, rw (recordNumber, e, f) at h)), λ n. absurd (n m))
+    by-fit (inl (e, m)) false f = (λ h. absurd (omega (arith, rw (recordNumber, e, f) at h)), λ n. absurd (n m))
+    by-fit (inr (e, n)) b f = (λ h. n, λ h. rw (recordNumber, e))
+
+pub number-b : (g : Generator) → (recordNumber g ≡ 12) ↔ (Minima (g .a) × (Minima (g .b) → ⊥))
+unfolding recordNumber
+number-b g = by-fit (fit-or-not (g .a)) (fit-or-not (g .b))
+  where
+    by-fit : ((fit (g .a) ≡ true) × Minima (g .a)) ⊎ ((fit (g .a) ≡ false) × (Minima (g .a) → ⊥))
+        → ((fit (g .b) ≡ true) × Minima (g .b)) ⊎ ((fit (g .b) ≡ false) × (Minima (g .b) → ⊥))
+        → (recordNumber g ≡ 12) ↔ (Minima (g .a) × (Minima (g .b) → ⊥))
+    by-fit (inl (e, m)) (inl (f, p)) = (λ h. absurd (omega (arith, rw (recordNumber, e, f) at h)), λ n. absurd (n .1 p))
+    by-fit (inl (e, m)) (inr (f, p)) = (λ h. (m, p), λ h. rw (recordNumber, e, f))
+    by-fit (inr (e, n)) y = (λ h. absurd (omega (arith, rw (recordNumber, e) at h)), λ h. absurd (n (h .0)))
+
+-- 2, 8 and 16 are accepted, and one below in any of the six registers is not; where both streams are unfit, a is named.
 abbrev registers : ℕ → ℕ → ℕ → ℕ → ℕ → ℕ → Generator
 registers a0 a1 a2 b0 b1 b2 = fresh (record { s0 = a0; s1 = a1; s2 = a2 }) (record { s0 = b0; s1 = b1; s2 = b2 })
 
 pub edges : (recordNumber (registers 2 8 16 2 8 16) ≡ 0)
-    × (recordNumber (registers 1 8 16 2 8 16) ≡ 1)
-    × (recordNumber (registers 2 7 16 2 8 16) ≡ 1)
-    × (recordNumber (registers 2 8 15 2 8 16) ≡ 1)
-    × (recordNumber (registers 2 8 16 1 8 16) ≡ 1)
-    × (recordNumber (registers 2 8 16 2 7 16) ≡ 1)
-    × (recordNumber (registers 2 8 16 2 8 15) ≡ 1)
+    × (recordNumber (registers 1 8 16 2 8 16) ≡ 11)
+    × (recordNumber (registers 2 7 16 2 8 16) ≡ 11)
+    × (recordNumber (registers 2 8 15 2 8 16) ≡ 11)
+    × (recordNumber (registers 2 8 16 1 8 16) ≡ 12)
+    × (recordNumber (registers 2 8 16 2 7 16) ≡ 12)
+    × (recordNumber (registers 2 8 16 2 8 15) ≡ 12)
+    × (recordNumber (registers 1 8 16 1 8 16) ≡ 11)
 unfolding recordNumber fit
-edges = (refl, refl, refl, refl, refl, refl, refl)
+edges = (refl, refl, refl, refl, refl, refl, refl, refl)
 
 -- ---- Accepted stays accepted
 

@@ -39,9 +39,10 @@ withStreams g a b = record { a = a; b = b }
 unfoldable pub fit : Stream → Bool
 fit u = leb 2 (u .s0) && (leb 8 (u .s1) && leb 16 (u .s2))
 
--- A record's number: 0, or why every call on it is refused ("a register below its minimum in either stream").
+-- A record's number: 0, or why every call on it is refused: "Number 11 for stream a and 12 for stream b", "11 first" (document 02,
+-- Job 1).
 unfoldable pub recordNumber : Generator → ℕ
-recordNumber g = cond (fit (g .a) && fit (g .b)) 0 1
+recordNumber g = cond (fit (g .a)) (cond (fit (g .b)) 0 12) 11
 
 -- ---- The calls, refusals included
 

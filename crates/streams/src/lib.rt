@@ -107,10 +107,10 @@ impl Generator {
         let a = self.a;
         let b = self.b;
         if !a.is_fit() {
-            return 1;
+            return 11;
         }
         if !b.is_fit() {
-            return 1;
+            return 12;
         }
         0
     }
