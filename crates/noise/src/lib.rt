@@ -109,9 +109,9 @@ fn stretches(g: Generator, out: &mut [i16]) -> Generator
 fn block_number(g: Generator, n: usize) -> u32
     ensures { λ r. ⌜ r ≡ blockNumber g n ⌝ }
 {
-    let number = g.record_number();
-    if number != 0 {
-        return number;
+    let unfit = g.record_number();
+    if unfit != 0 {
+        return unfit;
     }
     if n % 2 != 0 {
         return 4;
