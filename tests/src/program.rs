@@ -57,9 +57,9 @@ fn writes(output: &Output, stdout: &[u8], stderr: &str, what: &str) {
 }
 
 /// The example and every row of README's table, as they are printed there.
-fn rows() -> Vec<(String, &'static str)> {
+fn rows() -> Vec<(String, String)> {
     let head = format!("{SEEDS}{SIGMA}");
-    vec![
+    let rows = [
         (format!("{head}{SHOT}(shot A2 A3 9000 65530)\n"), "FROM TO MM STEP\nA1 A2 12356 4527\nA2 A3 9011 8\nEND 2\n"),
         (head.clone(), "FROM TO MM STEP\nEND 0\n"),
         (head.replacen("a 2", "a 1", 1), "REFUSED 11 1\n"),
@@ -73,8 +73,10 @@ fn rows() -> Vec<(String, &'static str)> {
         (format!("{SEEDS}(sigma 4 1001)\n"), "REFUSED 7 2\n"),
         (format!("{SEEDS}{SHOT}"), "REFUSED 8 2\n"),
         (String::new(), "REFUSED 8 1\n"),
-        (format!("{head}{}", SHOT.repeat(SHOTS + 1)), "REFUSED 9 503\n"),
-    ]
+    ];
+    let mut rows: Vec<_> = rows.into_iter().map(|(text, printed)| (text, printed.to_string())).collect();
+    rows.push((format!("{head}{}", SHOT.repeat(SHOTS + 1)), format!("REFUSED 9 {}\n", SHOTS + 3)));
+    rows
 }
 
 /// Reads and writes that fail: nothing on standard output but what is right, and one line on standard error.
