@@ -109,8 +109,8 @@ steps k l s steady h = go (readLine l) refl (accepted-line k (readLine l) h)
           steady = steady;
           row =
               row-bound from to _ _ (n .0) (n .1)
-              (distance-bound (s .distance) d (pairOf (s .generator) .first) (steady .sigma-distance) (ltb-false mostDistance d (r .0)) (p .0))
-              (bearing-bound (s .bearing) b (pairOf (s .generator) .second));
+              (distance-bound (s .distance) d _ (steady .sigma-distance) (ltb-false mostDistance d (r .0)) (p .0))
+              (bearing-bound (s .bearing) b _);
           early = λ h. absurd (omega (arith, h, ltb-false k 3 (a .placed)));
         }
     go noForm e a = absurd (true≢false (a .formed))
