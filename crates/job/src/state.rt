@@ -12,7 +12,7 @@ use forms::Shot;
 use forms::Sigma;
 use forms::read_line;
 use streams::Generator;
-use streams::Seeded;
+use streams::RecordAnswer;
 ghost use Prim.Native.Nat.{_≤_};
 ghost use mathlib.Core.Path.{_≡_};
 ghost use mathlib.Core.Bool.{false, _||_};
@@ -68,7 +68,7 @@ fn seeds_beyond(x: Seeds) -> bool
 }
 
 // Seeding with seeds within their range.
-fn seeded(x: Seeds) -> Seeded
+fn seeded(x: Seeds) -> RecordAnswer
     requires { ⌜ beyond (seedsIn x) ≡ false ⌝ }
     ensures { λ r. ⌜ r ≡ seedOf (x .a0) (x .a1) (x .a2) (x .b0) (x .b1) (x .b2) ⌝ }
 {

@@ -1,4 +1,4 @@
--- Laws of "n pairs on": the record and the samples.
+-- Laws of pairs and of the samples of n pairs.
 use mathlib.Core.Path.{_≡_, refl, sym, ap, _∙_}
 use mathlib.Core.Bool.{Bool, true, false}
 use mathlib.Core.List.{List, [], _∷_, _++_}
@@ -11,12 +11,12 @@ use lib.IntN.{ℤ}
 use lib.ListN.{length}
 use Rattle.streams.specs.declared.Generator.{Generator}
 use Rattle.streams.specs.declared.Uniforms.{Uniforms}
-use Rattle.streams.specs.Streams.{recordNumber, firstCause, uniformsOf}
-use Rattle.streams.specs.Recurrence.{Sound, moved, repeat}
-use Rattle.streams.proofs.Theorems.{uniforms-accepted, numbers-moves, moved-sound, moved-add, numbers-bounded}
+use Rattle.streams.specs.Streams.{recordNumber, firstCause, uniformsOf, after}
+use Rattle.streams.specs.Recurrence.{Sound}
+use Rattle.streams.proofs.Theorems.{uniforms-accepted, next-sound, numbers-bounded}
 use Rattle.sample.specs.Sample.{samplesOf, firstOf, secondOf}
 use Rattle.sample.specs.Sample.{samplesAt}
-use Rattle.noise.specs.Noise.{pairOf, after, samples, lengthNumber, blockNumber}
+use Rattle.noise.specs.Noise.{pairOf, samples, lengthNumber, blockNumber}
 use Rattle.noise.specs.Private.{numbers}
 
 -- ---- Causes
@@ -49,18 +49,10 @@ pub pair-next : (g : Generator) → pairOf g .next ≡ uniformsOf g .next
 unfolding pairOf
 pair-next g = refl
 
-pub next-sound : (g : Generator) → Sound g → Sound (pairOf g .next)
-next-sound g h = rw (pair-next g, numbers-moves g h) (moved-sound 1 1 g h)
-
--- ---- n pairs on
-
-pub after-add : (m n : ℕ) (g : Generator) → after (m + n) g ≡ after n (after m g)
-unfolding after
-after-add zero n g = rw (zero-add n)
-after-add (suc m) n g = rw (suc-add m n) (after-add m n (pairOf g .next))
+-- ---- The samples of n pairs
 
 pub samples-add : (m n : ℕ) (g : Generator) → samples (m + n) g ≡ samples m g ++ samples n (after m g)
-unfolding after samples
+unfolding after samples pairOf
 samples-add zero n g = rw (zero-add n)
 samples-add (suc m) n g = rw (suc-add m n, samples-add m n (pairOf g .next))
 
@@ -69,26 +61,12 @@ unfolding samples
 length-samples zero g = refl
 length-samples (suc n) g = let ih = length-samples n (pairOf g .next) in omega arith
 
-pub after-sound : (n : ℕ) (g : Generator) → Sound g → Sound (after n g)
-unfolding after
-after-sound zero g h = h
-after-sound (suc n) g h = after-sound n (pairOf g .next) (next-sound g h)
-
--- Each stream is then n draws on.
-pub after-moved : (n : ℕ) (g : Generator) → Sound g → after n g ≡ moved n n g
-unfolding after repeat
-after-moved zero g h = refl
-after-moved (suc n) g h =
-    let one-more : 1 + n ≡ suc n = omega arith in
-    after-moved n (pairOf g .next) (next-sound g h)
-    ∙ rw (pair-next g, numbers-moves g h) (rw one-more at (moved-add 1 1 n n g))
-
 -- ---- The numbers behind the samples
 
 pub numbers-add : (m n : ℕ) (g : Generator) → numbers (m + n) g ≡ numbers m g ++ numbers n (after m g)
 unfolding after numbers
 numbers-add zero n g = rw (zero-add n)
-numbers-add (suc m) n g = rw (suc-add m n, numbers-add m n (uniformsOf g .next), pair-next g)
+numbers-add (suc m) n g = rw (suc-add m n, numbers-add m n (uniformsOf g .next))
 
 pub length-numbers : (n : ℕ) (g : Generator) → length (numbers n g) ≡ n
 unfolding numbers
@@ -123,4 +101,4 @@ samples-numbers (suc n) g h =
     let low : (uniformsOf g .k * 65536 + uniformsOf g .v) % 65536 ≡ uniformsOf g .v = omega (arith, hv) in
     rw (pair-is g h, high, low)
     (ap (λ (l : List ℤ). firstOf (uniformsOf g .k) (uniformsOf g .v) ∷ secondOf (uniformsOf g .k) (uniformsOf g .v) ∷ l)
-    (samples-numbers n (uniformsOf g .next) (rw (pair-next g) at (next-sound g h))))
+    (samples-numbers n (uniformsOf g .next) (next-sound g h)))

@@ -7,14 +7,14 @@ use Prim.Native.Nat.{ℕ, suc, _+_, _*_, _/_, _%_, _<_}
 use lib.Dec.{eqb}
 use Rattle.streams.specs.declared.Stream.{Stream}
 use Rattle.streams.specs.declared.Generator.{Generator}
-use Rattle.streams.specs.Streams.{fresh, seedOf, drawA, drawB, uniformsOf}
+use Rattle.streams.specs.Streams.{fresh, seedOf, drawA, drawB, uniformsOf, after}
 use Rattle.streams.specs.Recurrence.{top, combined, InRange, Sound, moved, drawAt, repeat}
 use Rattle.streams.proofs.Theorems.{sound-accepted, seeded, moved-sound, moved-add, draw-a-moves, draw-b-moves, numbers-moves}
-use Rattle.streams.proofs.Theorems.{draw-a-is, draw-b-is, numbers-are, stream-history}
-use Rattle.noise.specs.Noise.{pairOf, after, lengthNumber, blockNumber, blockOf}
+use Rattle.streams.proofs.Theorems.{draw-a-is, draw-b-is, numbers-are, stream-history, after-moved}
+use Rattle.noise.specs.Noise.{pairOf, lengthNumber, blockNumber, blockOf}
 use Rattle.noise.specs.Runs.{Call, numberOf, nextOf, run, sumOver, fromA, fromB, drawsA, drawsB, ownNumber}
 use Rattle.noise.specs.Runs.Call.{draw-a, draw-b, numbers, a-pair, a-block}
-use Rattle.noise.proofs.Laws.{lone-cause, pair-next, after-moved}
+use Rattle.noise.proofs.Laws.{lone-cause, pair-next}
 
 -- ---- Accepted stays accepted
 

@@ -10,9 +10,9 @@ use lib.ListN.{length, getD, drop, length-append}
 use borrow.Author.Tests.{eq-eqb}
 use Rattle.exact.specs.Pair.{Close}
 use Rattle.streams.specs.declared.Generator.{Generator}
-use Rattle.streams.specs.Streams.{recordNumber, uniformsOf}
+use Rattle.streams.specs.Streams.{recordNumber, uniformsOf, after}
 use Rattle.streams.specs.Recurrence.{Sound}
-use Rattle.streams.proofs.Theorems.{sound-accepted, numbers-bounded}
+use Rattle.streams.proofs.Theorems.{sound-accepted, after-add, after-sound, numbers-bounded}
 use Rattle.streams.proofs.Theorems.{readings as draw-readings}
 use Rattle.radius.specs.Steps.{width}
 use Rattle.sample.specs.Steps.{fractionBits}
@@ -21,9 +21,9 @@ use Rattle.sample.specs.Readings.{Reading, readings, readings-hold}
 use Rattle.sample.specs.declared.Samples.{Samples}
 use Rattle.sample.proofs.Closeness.{samples-close}
 use Rattle.sample.proofs.Theorems.{theorems}
-use Rattle.noise.specs.Noise.{pairOf, after, samples, lengthNumber, blockNumber, blockOf, blockHolds}
+use Rattle.noise.specs.Noise.{pairOf, samples, lengthNumber, blockNumber, blockOf, blockHolds}
 use Rattle.noise.specs.Readings.{Check, of-samples, of-draw, AllHold, twelve}
-use Rattle.noise.proofs.Laws.{pair-is, after-add, after-sound, samples-add}
+use Rattle.noise.proofs.Laws.{pair-is, samples-add}
 
 -- ---- Blocks
 
@@ -86,7 +86,7 @@ pair-sizes g = by-test (eqb (uniformsOf g .number) 0)
 
 -- Elements 2 i and 2 i + 1 are the samples of pair i.
 pub samples-first : (n i : ℕ) (g : Generator) (d : ℤ) → i < n → getD (samples n g) (2 * i) d ≡ pairOf (after i g) .first
-unfolding samples after
+unfolding samples after pairOf
 samples-first zero i g d h = absurd (omega arith)
 samples-first (suc n) zero g d h = refl
 samples-first (suc n) (suc i) g d h =
@@ -94,7 +94,7 @@ samples-first (suc n) (suc i) g d h =
     rw e (samples-first n i (pairOf g .next) d (omega arith))
 
 pub samples-second : (n i : ℕ) (g : Generator) (d : ℤ) → i < n → getD (samples n g) (2 * i + 1) d ≡ pairOf (after i g) .second
-unfolding samples after
+unfolding samples after pairOf
 samples-second zero i g d h = absurd (omega arith)
 samples-second (suc n) zero g d h = refl
 samples-second (suc n) (suc i) g d h =

@@ -7,11 +7,11 @@ use lib.IntN.{ℤ, pos}
 use lib.ListN.{length}
 use Rattle.streams.specs.declared.Generator.{Generator}
 use Rattle.streams.specs.declared.Uniforms.{Uniforms}
-use Rattle.streams.specs.Streams.{recordNumber, firstCause, ifAccepted, uniformsOf}
+use Rattle.streams.specs.declared.RecordAnswer.{RecordAnswer}
+use Rattle.streams.specs.Streams.{recordNumber, firstCause, ifAccepted, uniformsOf, after}
 use Rattle.sample.specs.declared.Samples.{Samples}
 use Rattle.sample.specs.Sample.{samplesOf}
 use Rattle.noise.specs.declared.PairAnswer.{PairAnswer}
-use Rattle.noise.specs.declared.BlockAnswer.{BlockAnswer}
 
 -- A pair: the samples of the call from k and v on the two numbers drawn, and the next record; refused, 0 0 and the record passed
 -- in.
@@ -26,11 +26,7 @@ pairOf g =
       next = drawn .next;
     }
 
--- n pairs on: the record, and the samples, first and second of each pair alternating.
-unfoldable pub after : ℕ → Generator → Generator
-after zero g = g
-after (suc n) g = after n (pairOf g .next)
-
+-- The samples of n pairs, first and second of each alternating.
 unfoldable pub samples : ℕ → Generator → List ℤ
 samples zero g = []
 samples (suc n) g = pairOf g .first ∷ pairOf g .second ∷ samples n (pairOf g .next)
@@ -44,7 +40,7 @@ unfoldable pub blockNumber : Generator → ℕ → ℕ
 blockNumber g n = firstCause (recordNumber g ∷ lengthNumber n ∷ [])
 
 -- A block of n elements: the record n / 2 pairs on; refused, the record passed in.
-unfoldable pub blockOf : Generator → ℕ → BlockAnswer
+unfoldable pub blockOf : Generator → ℕ → RecordAnswer
 blockOf g n = record { number = blockNumber g n; next = ifAccepted (blockNumber g n) (after (n / 2) g) g }
 
 -- What the lent block then holds: the samples of those pairs; refused, what it held.

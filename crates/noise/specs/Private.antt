@@ -4,8 +4,8 @@ use mathlib.Core.Path.{_≡_}
 use Prim.Native.Nat.{ℕ, zero, suc, _+_, _*_}
 use lib.IntN.{ℤ}
 use Rattle.streams.specs.declared.Generator.{Generator}
-use Rattle.streams.specs.Streams.{uniformsOf}
-use Rattle.noise.specs.Noise.{after, samples}
+use Rattle.streams.specs.Streams.{uniformsOf, after}
+use Rattle.noise.specs.Noise.{samples}
 
 -- The most samples in a stretch.
 abbrev pub stretchLength : ℕ

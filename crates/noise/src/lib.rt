@@ -2,20 +2,16 @@
 ghost use mathlib.Core.Path.{_≡_};
 ghost use Prim.Native.Nat.{_+_, _*_, _/_, _%_, _≤_, min};
 ghost use lib.ListN.{length};
-ghost use Rattle.streams.specs.Streams.{recordNumber};
-ghost use Rattle.noise.specs.Noise.{pairOf, after, blockNumber, blockOf, blockHolds};
+ghost use Rattle.streams.specs.Streams.{recordNumber, after};
+ghost use Rattle.noise.specs.Noise.{pairOf, blockNumber, blockOf, blockHolds};
 ghost use Rattle.noise.specs.Private.{stretchLength, numbers, PairsDrawn};
 use streams::Generator;
+use streams::RecordAnswer;
 
 pub struct PairAnswer {
     pub number: u32,
     pub first: i16,
     pub second: i16,
-    pub next: Generator,
-}
-
-pub struct BlockAnswer {
-    pub number: u32,
     pub next: Generator,
 }
 
@@ -120,14 +116,14 @@ fn block_number(g: Generator, n: usize) -> u32
 }
 
 // A block of samples, first and second of each pair alternating.
-pub fn block(g: Generator, out: &mut [i16]) -> BlockAnswer
+pub fn block(g: Generator, out: &mut [i16]) -> RecordAnswer
     ensures { λ r. ⌜ r ≡ blockOf g (length (now (out .entry))) ⌝ }
     ensures { λ r. ⌜ now (out .exit) ≡ blockHolds g (now (out .entry)) ⌝ }
 {
     let number = block_number(g, out.len());
     if number != 0 {
-        return BlockAnswer { number, next: g };
+        return RecordAnswer { number, next: g };
     }
     let next = stretches(g, out);
-    BlockAnswer { number, next }
+    RecordAnswer { number, next }
 }

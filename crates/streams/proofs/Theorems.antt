@@ -14,7 +14,7 @@ use Rattle.streams.specs.declared.Stream.{Stream}
 use Rattle.streams.specs.declared.Generator.{Generator}
 use Rattle.streams.specs.declared.Drawn.{Drawn}
 use Rattle.streams.specs.declared.Uniforms.{Uniforms}
-use Rattle.streams.specs.Streams.{step, advance, output, fit, fresh, withStreams, recordNumber, seedOf, drawA, drawB, uniformsOf}
+use Rattle.streams.specs.Streams.{step, advance, output, fit, fresh, withStreams, recordNumber, seedOf, drawA, drawB, uniformsOf, after}
 use Rattle.streams.specs.Recurrence.{top, sequence, combined, Params, repeat, drawAt, moved, InRange, Minima, Sound}
 use Rattle.streams.proofs.Register.{step-lt, history, minimum-kept, one-to-one-reached, top-xor, sequence-starts}
 use Rattle.streams.proofs.Register.{sequence-follows}
@@ -224,6 +224,29 @@ repeat-add f (suc m) n x = repeat-add f m n (f x) ∙ rw (suc-add m n)
 -- and of both streams of a record.
 pub moved-add : (m n m′ n′ : ℕ) (g : Generator) → moved m′ n′ (moved m n g) ≡ moved (m + m′) (n + n′) g
 moved-add m n m′ n′ g = λ i. withStreams g (repeat-add advance m m′ (g .a) i) (repeat-add advance n n′ (g .b) i)
+
+-- ---- n pairs on
+
+pub next-sound : (g : Generator) → Sound g → Sound (uniformsOf g .next)
+next-sound g h = rw (numbers-moves g h) (moved-sound 1 1 g h)
+
+pub after-add : (m n : ℕ) (g : Generator) → after (m + n) g ≡ after n (after m g)
+unfolding after
+after-add zero n g = rw (zero-add n)
+after-add (suc m) n g = rw (suc-add m n) (after-add m n (uniformsOf g .next))
+
+pub after-sound : (n : ℕ) (g : Generator) → Sound g → Sound (after n g)
+unfolding after
+after-sound zero g h = h
+after-sound (suc n) g h = after-sound n (uniformsOf g .next) (next-sound g h)
+
+-- Each stream is then n draws on.
+pub after-moved : (n : ℕ) (g : Generator) → Sound g → after n g ≡ moved n n g
+unfolding after repeat
+after-moved zero g h = refl
+after-moved (suc n) g h =
+    let one-more : 1 + n ≡ suc n = omega arith in
+    after-moved n (uniformsOf g .next) (next-sound g h) ∙ rw (numbers-moves g h) (rw one-more at (moved-add 1 1 n n g))
 
 -- ---- Demand 2, of the calls
 

@@ -1,13 +1,13 @@
 -- The two streams: registers, records, calls and refusals (document 01, "The two streams", "A job and its listing").
 -- A register is a number below 2 ^ 32.
-use Prim.Native.Nat.{ℕ, _+_, _-_, _*_, _/_, _%_, _^_}
+use Prim.Native.Nat.{ℕ, zero, suc, _+_, _-_, _*_, _/_, _%_, _^_}
 use mathlib.Core.Bool.{Bool, cond, _&&_}
 use mathlib.Core.List.{List, [], _∷_}
 use lib.Bits.{bitAnd, bitXor}
 use lib.Dec.{leb, eqb}
 use Rattle.streams.specs.declared.Stream.{Stream}
 use Rattle.streams.specs.declared.Generator.{Generator}
-use Rattle.streams.specs.declared.Seeded.{Seeded}
+use Rattle.streams.specs.declared.RecordAnswer.{RecordAnswer}
 use Rattle.streams.specs.declared.Drawn.{Drawn}
 use Rattle.streams.specs.declared.Uniforms.{Uniforms}
 
@@ -56,7 +56,7 @@ abbrev pub ifAccepted : {A : Type 0} → ℕ → A → A → A
 ifAccepted number yes-value no-value = cond (eqb number 0) yes-value no-value
 
 -- Seeding from six numbers: the record, or six zeros.
-unfoldable pub seedOf : ℕ → ℕ → ℕ → ℕ → ℕ → ℕ → Seeded
+unfoldable pub seedOf : ℕ → ℕ → ℕ → ℕ → ℕ → ℕ → RecordAnswer
 seedOf a0 a1 a2 b0 b1 b2 =
     let g : Generator = fresh (record { s0 = a0; s1 = a1; s2 = a2 }) (record { s0 = b0; s1 = b1; s2 = b2 }) in
     let none : Stream = record { s0 = 0; s1 = 0; s2 = 0 } in
@@ -92,3 +92,8 @@ uniformsOf g =
       v = ifAccepted (recordNumber g) (output b′ % 65536) 0;
       next = ifAccepted (recordNumber g) (withStreams g a′ b′) g;
     }
+
+-- The record n pairs on.
+unfoldable pub after : ℕ → Generator → Generator
+after zero g = g
+after (suc n) g = after n (uniformsOf g .next)

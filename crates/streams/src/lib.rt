@@ -25,7 +25,8 @@ pub struct Generator {
     pub b: Stream,
 }
 
-pub struct Seeded {
+// A number and the record that a call leaves.
+pub struct RecordAnswer {
     pub number: u32,
     pub next: Generator,
 }
@@ -116,7 +117,7 @@ impl Generator {
     }
 
     // A record from six numbers.
-    pub fn seed(a0: u32, a1: u32, a2: u32, b0: u32, b1: u32, b2: u32) -> Seeded
+    pub fn seed(a0: u32, a1: u32, a2: u32, b0: u32, b1: u32, b2: u32) -> RecordAnswer
         ensures { λ r. ⌜ r ≡ seedOf a0 a1 a2 b0 b1 b2 ⌝ }
     {
         let a = Stream {
@@ -132,7 +133,7 @@ impl Generator {
         let g = Generator::fresh_record(a, b);
         let number = g.record_number();
         if number == 0 {
-            return Seeded { number, next: g };
+            return RecordAnswer { number, next: g };
         }
         let none = Stream {
             s0: 0,
@@ -140,7 +141,7 @@ impl Generator {
             s2: 0,
         };
         let zeros = Generator::fresh_record(none, none);
-        Seeded {
+        RecordAnswer {
             number,
             next: zeros,
         }

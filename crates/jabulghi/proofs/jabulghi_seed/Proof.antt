@@ -1,7 +1,7 @@
 -- `jabulghi::jabulghi_seed` meets its contract: number and registers are those of the call below it.
 use mathlib.Core.Path.{ap}
 use borrow.Author.Needs.{needs}
-use Rattle.streams.specs.declared.Seeded.{Seeded}
+use Rattle.streams.specs.declared.RecordAnswer.{RecordAnswer}
 use Rattle.jabulghi.proofs.jabulghi_seed.Statement.{statement}
 use Rattle.jabulghi.proofs.jabulghi_seed.Tie as tie
 
@@ -14,7 +14,7 @@ packed-requires c κs = search needs
 returns : tie.Need-returns
 returns c =
     let seeded = c .before .before .seed .ensures in
-    (ap (λ (s : Seeded). s .number) seeded, rw seeded at (c .packed .ensures))
+    (ap (λ (s : RecordAnswer). s .number) seeded, rw seeded at (c .packed .ensures))
 
 pub jabulghi-seed-spec : {M : Type 1} → statement M
 jabulghi-seed-spec = tie.close (tie.spec seed-requires packed-requires returns)

@@ -7,14 +7,13 @@ use native.Mathlib.Omega.{arith}
 use lib.ListN.{length, take, set, length-set}
 use lib.Seq.{take-suc-set, take-all}
 use borrow.Author.Needs.{needs}
-use Rattle.noise.specs.Noise.{after}
 use Rattle.noise.specs.Private.{numbers}
 use Rattle.streams.specs.declared.Uniforms.{Uniforms}
-use Rattle.streams.specs.Streams.{uniformsOf}
-use Rattle.noise.proofs.Laws.{pair-next, after-add, after-sound, numbers-add}
+use Rattle.streams.specs.Streams.{uniformsOf, after}
+use Rattle.noise.proofs.Laws.{numbers-add}
 use Rattle.streams.specs.declared.Generator.{Generator}
 use Rattle.streams.specs.Recurrence.{Sound}
-use Rattle.streams.proofs.Theorems.{sound, numbers-bounded}
+use Rattle.streams.proofs.Theorems.{sound, after-add, after-sound, numbers-bounded}
 use Rattle.noise.proofs.draw_numbers.Statement.{statement}
 use Rattle.noise.proofs.draw_numbers.Tie as tie
 
@@ -51,7 +50,7 @@ again {z₀} {z} {g} {state} {i} {d} r e h =
     record {
       within = simp length-set (omega arith);
       kept = simp length-set (r .kept);
-      at = rw (e, r .at, after-add i 1 g) (sym (pair-next (after i g)));
+      at = rw (e, r .at, after-add i 1 g);
       done =
           rw (numbers-add i 1 g, add-one i, take-suc-set z i (d .k * 65536 + d .v) h, r .done, e, r .at);
     }

@@ -5,7 +5,8 @@ use Prim.Native.Nat.{ℕ, _-_, _/_, _≤_}
 use native.Mathlib.Omega.{arith}
 use lib.ListN.{length, take, length-take}
 use borrow.Author.Needs.{needs}
-use Rattle.noise.specs.Noise.{after, samples}
+use Rattle.streams.specs.Streams.{after}
+use Rattle.noise.specs.Noise.{samples}
 use Rattle.noise.proofs.stretch.Statement.{statement}
 use Rattle.noise.proofs.stretch.Tie as tie
 

@@ -7,11 +7,12 @@ use lib.IntN.{ℤ}
 use lib.ListN.{length, take, drop, length-take, length-drop}
 use lib.Seq.{take-append-add, take-at, take-all}
 use borrow.Rule.Slice.PartMut.{putMid, postOf, same-len-mid}
-use Rattle.noise.specs.Noise.{after, samples}
+use Rattle.noise.specs.Noise.{samples}
 use Rattle.streams.specs.declared.Generator.{Generator}
+use Rattle.streams.specs.Streams.{after}
 use Rattle.streams.specs.Recurrence.{Sound}
-use Rattle.streams.proofs.Theorems.{sound, sound-accepted}
-use Rattle.noise.proofs.Laws.{after-add, samples-add, length-samples, after-sound}
+use Rattle.streams.proofs.Theorems.{sound, sound-accepted, after-add, after-sound}
+use Rattle.noise.proofs.Laws.{samples-add, length-samples}
 use Rattle.noise.proofs.stretches.Statement.{statement}
 use Rattle.noise.proofs.stretches.Tie as tie
 

@@ -1,7 +1,7 @@
 -- `job::state::on_seeds` meets its contract.
 use mathlib.Core.Path.{sym, ap, _∙_}
 use borrow.Author.Tests.{ne-eqb}
-use Rattle.streams.specs.declared.Seeded.{Seeded}
+use Rattle.streams.specs.declared.RecordAnswer.{RecordAnswer}
 use Rattle.job.specs.Private.{taken}
 use Rattle.job.specs.Job.{settingAfter}
 use Rattle.job.proofs.Refused.{seeds-8, seeds-7, seeds-number}
@@ -30,7 +30,7 @@ unfolding taken
 returns-3 c =
     let at = c .before .before .before .before .before .before in
     let b = sym (c .before .before .before .seeds-beyond .ensures) ∙ c .before .before .if2 .left in
-    let n = ap (λ (q : Seeded). q .number) (c .before .seeded .ensures) in
+    let n = ap (λ (q : RecordAnswer). q .number) (c .before .seeded .ensures) in
     rw (seeds-number _ _ _ _ _ _ (at .args .s .line) (c .before .before .before .before .if1 .left) b, ← n, ne-eqb _ 0 (c .if3 .taken))
 
 returns-4 : tie.Need-returns-4
