@@ -55,6 +55,10 @@ uint32_t jabulghi_pair(jabulghi_record *record, int16_t *samples);
  * Length 0 succeeds and moves nothing. */
 uint32_t jabulghi_block(jabulghi_record *record, int16_t *block, size_t length);
 
+/* The record that n pairs would leave, for any n at once: rigs that share one long stream start each at its own stretch. Skips add up, in any
+ * order. Refused (11, 12), the record stays. At most some 40 microseconds. */
+uint32_t jabulghi_skip(jabulghi_record *record, uint64_t n);
+
 /* The listing of a job's text, its line and its length. Accepted, line is 0 and the first length bytes of listing are the listing;
  * the bytes beyond it keep their contents. Refused (5 to 12), length is 0, line is the bad line, or 0 for 5 and 10, and listing
  * stays. A listing has at most 20,024 bytes. */

@@ -4,7 +4,7 @@ ghost use mathlib.Core.Path.{_≡_};
 ghost use Prim.Native.Nat.{_<_, _^_};
 ghost use mathlib.Core.List.{[], _∷_};
 ghost use lib.ListN.{length};
-ghost use Rattle.streams.specs.Streams.{seedOf, drawA, drawB};
+ghost use Rattle.streams.specs.Streams.{seedOf, drawA, drawB, skipOf};
 ghost use Rattle.sample.specs.Sample.{samplesOf, nineSixteenths};
 ghost use Rattle.exact.specs.Pair.{Close};
 ghost use Rattle.noise.specs.Noise.{pairOf, blockOf, blockHolds};
@@ -126,6 +126,19 @@ pub extern "C" fn jabulghi_block(registers: &mut [u32; 6], block: &mut [i16]) ->
     let after_block = filled.next;
     *registers = packed(after_block);
     filled.number
+}
+
+// A record n pairs on.
+#[no_mangle]
+pub extern "C" fn jabulghi_skip(registers: &mut [u32; 6], n: u64) -> u32
+    ensures { λ r. ⌜ r ≡ skipOf (generatorOf (now (registers .entry))) n .number ⌝ }
+    ensures { λ _. ⌜ now (registers .exit) ≡ registersOf (skipOf (generatorOf (now (registers .entry))) n .next) ⌝ }
+{
+    let g = unpacked(*registers);
+    let skipped = g.skip(n);
+    let after_skip = skipped.next;
+    *registers = packed(after_skip);
+    skipped.number
 }
 
 // The listing of a job, and the line and the listing's length besides.

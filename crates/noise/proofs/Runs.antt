@@ -5,27 +5,29 @@ use mathlib.Core.Bool.{Bool, true, false, cond}
 use mathlib.Core.List.{List, [], _∷_}
 use Prim.Native.Nat.{ℕ, suc, _+_, _*_, _/_, _%_, _<_}
 use lib.Dec.{eqb}
+use Rattle.squares.specs.Squares.{repeat}
 use Rattle.streams.specs.declared.Stream.{Stream}
 use Rattle.streams.specs.declared.Generator.{Generator}
-use Rattle.streams.specs.Streams.{fresh, seedOf, drawA, drawB, uniformsOf, after}
-use Rattle.streams.specs.Recurrence.{top, combined, InRange, Sound, moved, drawAt, repeat}
+use Rattle.streams.specs.Streams.{fresh, recordNumber, seedOf, drawA, drawB, uniformsOf, after, skipOf}
+use Rattle.streams.specs.Recurrence.{top, combined, InRange, Sound, moved, drawAt}
 use Rattle.streams.proofs.Theorems.{sound-accepted, seeded, moved-sound, moved-add, draw-a-moves, draw-b-moves, numbers-moves}
 use Rattle.streams.proofs.Theorems.{draw-a-is, draw-b-is, numbers-are, stream-history, after-moved}
 use Rattle.noise.specs.Noise.{pairOf, lengthNumber, blockNumber, blockOf}
 use Rattle.noise.specs.Runs.{Call, numberOf, nextOf, run, sumOver, fromA, fromB, drawsA, drawsB, ownNumber}
-use Rattle.noise.specs.Runs.Call.{draw-a, draw-b, numbers, a-pair, a-block}
+use Rattle.noise.specs.Runs.Call.{draw-a, draw-b, numbers, a-pair, a-block, a-skip}
 use Rattle.noise.proofs.Laws.{lone-cause, pair-next}
 
 -- ---- Accepted stays accepted
 
 -- A call on an accepted record is refused for its own cause, and for nothing else.
 pub accepted-number : (c : Call) (g : Generator) → Sound g → numberOf c g ≡ ownNumber c
-unfolding numberOf drawA drawB uniformsOf pairOf blockOf blockNumber ownNumber
+unfolding numberOf drawA drawB uniformsOf pairOf blockOf blockNumber skipOf ownNumber
 accepted-number draw-a g h = sound-accepted g h
 accepted-number draw-b g h = sound-accepted g h
 accepted-number numbers g h = sound-accepted g h
 accepted-number a-pair g h = sound-accepted g h
 accepted-number (a-block n) g h = rw (sound-accepted g h) (lone-cause (lengthNumber n))
+accepted-number (a-skip n) g h = sound-accepted g h
 
 -- m pairs on, or not.
 pairs-moved : (t : Bool) (m : ℕ) (g : Generator) → Sound g → cond t (after m g) g ≡ moved (cond t m 0) (cond t m 0) g
@@ -33,7 +35,7 @@ unfolding repeat
 pairs-moved true m g h = after-moved m g h
 pairs-moved false m g h = refl
 
--- A call on an accepted record moves each stream as often as it draws from it.
+-- A call on an accepted record moves each stream as far as it says.
 pub call-moves : (c : Call) (g : Generator) → Sound g → nextOf c g ≡ moved (drawsA c g) (drawsB c g) g
 unfolding nextOf drawsA drawsB fromA fromB ownNumber
 call-moves draw-a g h = rw (accepted-number draw-a g h) (draw-a-moves g h)
@@ -41,6 +43,7 @@ call-moves draw-b g h = rw (accepted-number draw-b g h) (draw-b-moves g h)
 call-moves numbers g h = rw (accepted-number numbers g h) (numbers-moves g h)
 call-moves a-pair g h = rw (accepted-number a-pair g h, pair-next g) (numbers-moves g h)
 call-moves (a-block n) g h = unfold blockOf numberOf in pairs-moved (eqb (blockNumber g n) 0) (n / 2) g h
+call-moves (a-skip n) g h = unfold skipOf numberOf in pairs-moved (eqb (recordNumber g) 0) n g h
 
 pub call-sound : (c : Call) (g : Generator) → Sound g → Sound (nextOf c g)
 call-sound c g h = rw (call-moves c g h) (moved-sound (drawsA c g) (drawsB c g) g h)
@@ -66,7 +69,7 @@ from-seeding a b ra rb h l c =
 
 -- ---- Demand 2, over the whole history
 
--- After any run each stream has moved as often as the run has drawn from it, whatever was drawn from the other.
+-- After any run each stream has moved as far as the calls of the run have moved it, whatever was done with the other.
 pub run-moved : (l : List Call) (g : Generator) → Sound g → run l g ≡ moved (sumOver drawsA l g) (sumOver drawsB l g) g
 unfolding run sumOver repeat
 run-moved [] g h = refl

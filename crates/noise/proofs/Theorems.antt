@@ -7,10 +7,11 @@ use native.Mathlib.Omega.{arith}
 use lib.IntN.{ℤ, pos, natAbs}
 use lib.Dec.{eqb}
 use lib.ListN.{length, getD, drop, length-append}
+use lib.Seq.{drop-at}
 use borrow.Author.Tests.{eq-eqb}
 use Rattle.exact.specs.Pair.{Close}
 use Rattle.streams.specs.declared.Generator.{Generator}
-use Rattle.streams.specs.Streams.{recordNumber, uniformsOf, after}
+use Rattle.streams.specs.Streams.{recordNumber, uniformsOf, after, skipOf}
 use Rattle.streams.specs.Recurrence.{Sound}
 use Rattle.streams.proofs.Theorems.{sound-accepted, after-add, after-sound, numbers-bounded}
 use Rattle.streams.proofs.Theorems.{readings as draw-readings}
@@ -23,7 +24,7 @@ use Rattle.sample.proofs.Closeness.{samples-close}
 use Rattle.sample.proofs.Theorems.{theorems}
 use Rattle.noise.specs.Noise.{pairOf, samples, lengthNumber, blockNumber, blockOf, blockHolds}
 use Rattle.noise.specs.Readings.{Check, of-samples, of-draw, AllHold, twelve}
-use Rattle.noise.proofs.Laws.{pair-is, samples-add}
+use Rattle.noise.proofs.Laws.{pair-is, samples-add, length-samples}
 
 -- ---- Blocks
 
@@ -66,6 +67,24 @@ blocks-next g n m h en em =
       block-next (after (n / 2) g) m (sound-accepted _ (after-sound (n / 2) g h)) em,
       half,
       after-add (n / 2) (m / 2) g,
+    )
+
+-- A block of 2 n samples after a skip of m pairs is the last 2 n of a block of 2 (m + n).
+pub skip-block : (m n : ℕ) (g : Generator) (long short : List ℤ) → Sound g → length long ≡ 2 * (m + n) → length short ≡ 2 * n
+    → blockHolds (skipOf g m .next) short ≡ drop (2 * m) (blockHolds g long)
+unfolding skipOf
+skip-block m n g long short h el es =
+    let whole : length long / 2 ≡ m + n = omega arith in
+    let part : length short / 2 ≡ n = omega arith in
+    rw (
+      skipOf,
+      sound-accepted g h,
+      block-holds (after m g) short (sound-accepted _ (after-sound m g h)) (omega arith),
+      block-holds g long (sound-accepted g h) (omega arith),
+      whole,
+      part,
+      samples-add m n g,
+      drop-at (samples m g) (samples n (after m g)) (2 * m) (length-samples m g),
     )
 
 -- ---- Every sample is that of its pair, of bounded size, and close

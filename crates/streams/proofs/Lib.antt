@@ -1,3 +1,4 @@
 mod Bits
 pub mod Register
 pub mod Theorems
+pub mod Skip

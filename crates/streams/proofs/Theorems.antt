@@ -10,12 +10,14 @@ use native.Mathlib.Omega.{arith}
 use lib.Bits.{bitXor, xor-lt}
 use lib.Dec.{leb, eqb}
 use borrow.Author.Tests.{leb-true, le-leb, eqb-true}
+use Rattle.squares.specs.Squares.{repeat}
+use Rattle.squares.proofs.Theorems.{repeat-add}
 use Rattle.streams.specs.declared.Stream.{Stream}
 use Rattle.streams.specs.declared.Generator.{Generator}
 use Rattle.streams.specs.declared.Drawn.{Drawn}
 use Rattle.streams.specs.declared.Uniforms.{Uniforms}
 use Rattle.streams.specs.Streams.{step, advance, output, fit, fresh, withStreams, recordNumber, seedOf, drawA, drawB, uniformsOf, after}
-use Rattle.streams.specs.Recurrence.{top, sequence, combined, Params, repeat, drawAt, moved, InRange, Minima, Sound}
+use Rattle.streams.specs.Recurrence.{top, sequence, combined, Params, drawAt, moved, InRange, Minima, Sound}
 use Rattle.streams.proofs.Register.{step-lt, history, minimum-kept, one-to-one-reached, top-xor, sequence-starts}
 use Rattle.streams.proofs.Register.{sequence-follows}
 
@@ -33,7 +35,7 @@ params2 = omega arith
 -- ---- Demand 2: every draw is L'Ecuyer's
 
 -- a register alone, over a run of draws
-alone : {A : Type 0} (f : A → A) (g : ℕ → ℕ) (p : A → ℕ) → ((x : A) → p (f x) ≡ g (p x)) → (t : ℕ) (x : A)
+pub alone : {A : Type 0} (f : A → A) (g : ℕ → ℕ) (p : A → ℕ) → ((x : A) → p (f x) ≡ g (p x)) → (t : ℕ) (x : A)
     → p (repeat f t x) ≡ repeat g t (p x)
 unfolding repeat
 alone f g p h zero x = refl
@@ -215,13 +217,7 @@ pub numbers-moves : (g : Generator) → Sound g → uniformsOf g .next ≡ moved
 unfolding uniformsOf repeat
 numbers-moves g h = rw (sound-accepted g h)
 
--- n draws after m are m + n draws: of a stream,
-pub repeat-add : {A : Type 0} (f : A → A) (m n : ℕ) (x : A) → repeat f n (repeat f m x) ≡ repeat f (m + n) x
-unfolding repeat
-repeat-add f zero n x = rw (zero-add n)
-repeat-add f (suc m) n x = repeat-add f m n (f x) ∙ rw (suc-add m n)
-
--- and of both streams of a record.
+-- n draws after m are m + n draws, of both streams.
 pub moved-add : (m n m′ n′ : ℕ) (g : Generator) → moved m′ n′ (moved m n g) ≡ moved (m + m′) (n + n′) g
 moved-add m n m′ n′ g = λ i. withStreams g (repeat-add advance m m′ (g .a) i) (repeat-add advance n n′ (g .b) i)
 

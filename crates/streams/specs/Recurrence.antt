@@ -7,6 +7,7 @@ use mathlib.Core.Path.{_≡_}
 use mathlib.Core.Bool.{cond}
 use Prim.Native.Nat.{ℕ, zero, suc, _+_, _-_, _*_, _/_, _%_, _^_, _≤_, _<_}
 use lib.Dec.{ltb}
+use Rattle.squares.specs.Squares.{repeat}
 use Rattle.streams.specs.declared.Stream.{Stream}
 use Rattle.streams.specs.declared.Generator.{Generator}
 use Rattle.streams.specs.Streams.{advance, output, withStreams}
@@ -48,11 +49,6 @@ pub record Params (k q s : ℕ) : Type 0 where
   pub cleared : 32 + q + s ≤ k + k
 
 -- ---- Runs of draws
-
--- f, n times.
-unfoldable pub repeat : {A : Type 0} → (A → A) → ℕ → A → A
-repeat f zero x = x
-repeat f (suc n) x = repeat f n (f x)
 
 -- The t-th draw of a stream, the first being draw 1.
 unfoldable pub drawAt : Stream → ℕ → ℕ

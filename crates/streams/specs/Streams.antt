@@ -97,3 +97,7 @@ uniformsOf g =
 unfoldable pub after : ℕ → Generator → Generator
 after zero g = g
 after (suc n) g = after n (uniformsOf g .next)
+
+-- "The record that n pair draws would leave"; refused, the record passed in.
+unfoldable pub skipOf : Generator → ℕ → RecordAnswer
+skipOf g n = record { number = recordNumber g; next = ifAccepted (recordNumber g) (after n g) g }

@@ -1,7 +1,9 @@
-// The two Tausworthe streams of L'Ecuyer (1996): seeding, single draws, and the two numbers of a pair.
+// The two Tausworthe streams of L'Ecuyer (1996): seeding, single draws, the two numbers of a pair, and a skip of many pairs.
 // A generator record goes in by value and comes back as it then is, beside the call's number, 0 where it is accepted.
 ghost use mathlib.Core.Path.{_≡_};
+ghost use Rattle.squares.specs.Squares.{squareOf};
 ghost use Rattle.streams.specs.Streams.{
+  step,
   advance,
   output,
   fit,
@@ -12,7 +14,9 @@ ghost use Rattle.streams.specs.Streams.{
   drawA,
   drawB,
   uniformsOf,
+  skipOf,
 };
+ghost use Rattle.streams.specs.Recurrence.{moved};
 
 pub struct Stream {
     pub s0: u32,
@@ -42,6 +46,13 @@ pub struct Uniforms {
     pub k: u64,
     pub v: u32,
     pub next: Generator,
+}
+
+// The squares of the three registers' steps, 32 columns each.
+pub struct StepSquares {
+    pub s0: [u32; 32],
+    pub s1: [u32; 32],
+    pub s2: [u32; 32],
 }
 
 impl Stream {
@@ -81,6 +92,29 @@ impl Stream {
         }
         16 <= s2
     }
+}
+
+// The columns of each square are the unit words, one step on.
+fn step_squares() -> StepSquares
+    ensures { λ r. ⌜ r ≡ record { s0 = squareOf (step 31 13 12); s1 = squareOf (step 29 2 4); s2 = squareOf (step 28 3 17) } ⌝ }
+{
+    let mut s0 = squares::unit_words();
+    let mut s1 = s0;
+    let mut s2 = s0;
+    let mut j: usize = 0;
+    while j < 32 {
+        let unit = Stream {
+            s0: s0[j],
+            s1: s1[j],
+            s2: s2[j],
+        };
+        let column = unit.advanced();
+        s0[j] = column.s0;
+        s1[j] = column.s1;
+        s2[j] = column.s2;
+        j += 1;
+    }
+    StepSquares { s0, s1, s2 }
 }
 
 impl Generator {
@@ -215,5 +249,43 @@ impl Generator {
             v: low % 65536,
             next,
         }
+    }
+
+    // Both streams n draws on: each square serves its register of a and of b.
+    fn ahead(self, n: u64) -> Generator
+        ensures { λ r. ⌜ r ≡ moved n n self ⌝ }
+    {
+        let square = step_squares();
+        let a = self.a;
+        let b = self.b;
+        let square0 = square.s0;
+        let square1 = square.s1;
+        let square2 = square.s2;
+        let first = squares::powers(square0, n, a.s0, b.s0);
+        let second = squares::powers(square1, n, a.s1, b.s1);
+        let third = squares::powers(square2, n, a.s2, b.s2);
+        let moved_a = Stream {
+            s0: first.x,
+            s1: second.x,
+            s2: third.x,
+        };
+        let moved_b = Stream {
+            s0: first.y,
+            s1: second.y,
+            s2: third.y,
+        };
+        self.with_streams(moved_a, moved_b)
+    }
+
+    // The record that n pairs would leave.
+    pub fn skip(self, n: u64) -> RecordAnswer
+        ensures { λ r. ⌜ r ≡ skipOf self n ⌝ }
+    {
+        let number = self.record_number();
+        if number != 0 {
+            return RecordAnswer { number, next: self };
+        }
+        let next = self.ahead(n);
+        RecordAnswer { number, next }
     }
 }

@@ -1,0 +1,3 @@
+pub mod Additive
+pub mod Theorems
+pub mod Loops

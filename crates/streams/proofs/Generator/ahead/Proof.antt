@@ -1,0 +1,49 @@
+-- `Generator::ahead`: the three squares give n draws of each stream.
+use native.Mathlib.Omega.{arith}
+use borrow.Author.Needs.{needs}
+use Rattle.streams.specs.Streams.{withStreams}
+use Rattle.streams.proofs.Skip.{stream-ahead}
+use Rattle.streams.proofs.Generator.ahead.Statement.{statement}
+use Rattle.streams.proofs.Generator.ahead.Tie as tie
+
+step-squares-requires : tie.Need-step-squares-requires
+step-squares-requires c κs = search needs
+
+powers-requires : tie.Need-powers-requires
+powers-requires c κs = search needs
+
+powers-requires-2 : tie.Need-powers-requires-2
+powers-requires-2 c κs = search needs
+
+powers-requires-3 : tie.Need-powers-requires-3
+powers-requires-3 c κs = search needs
+
+with-streams-requires : tie.Need-with-streams-requires
+with-streams-requires c κs = search needs
+
+returns : tie.Need-returns
+returns c =
+    let start = c .before .before .before .before .before .before .before .before .before .before in
+    let g = start .args .self in
+    let n = start .args .n in
+    let a-ahead = stream-ahead n (g .a) (omega (arith, start .good)) in
+    let b-ahead = stream-ahead n (g .b) (omega (arith, start .good)) in
+    rw (
+      c .with-streams .ensures,
+      c .before .powers3 .ensures,
+      c .before .before .powers2 .ensures,
+      c .before .before .before .powers .ensures,
+      c .before .before .before .before .before .before .before .before .before .step-squares .ensures,
+    )
+    (λ i. withStreams g (a-ahead i) (b-ahead i))
+
+pub ahead-spec : {M : Type 1} → statement M
+ahead-spec =
+    tie.close
+    (tie.spec
+    step-squares-requires
+    powers-requires
+    powers-requires-2
+    powers-requires-3
+    with-streams-requires
+    returns)

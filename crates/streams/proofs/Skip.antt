@@ -1,0 +1,75 @@
+-- Request 2: each register's step is additive, so its square gives n steps at once; a stream is its three registers; skips add up.
+use mathlib.Core.Path.{_≡_, refl, sym, ap, _∙_}
+use mathlib.Core.Bool.{Bool, true, false}
+use Prim.Native.Nat.{ℕ, _+_, _-_, _*_, _/_, _%_, _^_, _<_}
+use native.Mathlib.Nat.{add-comm}
+use lib.Bits.{bitAnd, bitXor}
+use lib.Dec.{eqb}
+use borrow.Author.Tests.{eqb-true}
+use Rattle.squares.specs.Squares.{repeat, Additive, applied, squareOf}
+use Rattle.squares.proofs.Additive.{same-additive, shl-additive, shr-additive, mod-additive, and-additive, then-additive, xor-additive}
+use Rattle.squares.proofs.Theorems.{square-repeat}
+use Rattle.streams.specs.declared.Stream.{Stream}
+use Rattle.streams.specs.declared.Generator.{Generator}
+use Rattle.streams.specs.Streams.{step, advance, recordNumber, after, skipOf}
+use Rattle.streams.specs.Recurrence.{InRange, Sound}
+use Rattle.streams.proofs.Register.{step-lt}
+use Rattle.streams.proofs.Theorems.{alone, sound, sound-accepted, after-add, after-sound}
+
+-- ---- The register (k, q, s)
+
+-- The step of any register keeps exclusive-or.
+pub step-additive : (k q s : ℕ) → Additive (step k q s)
+unfolding step
+step-additive k q s =
+    let mask = 2 ^ 32 - 2 ^ (32 - k) in
+    let cleared : Additive (λ x. bitAnd x mask * 2 ^ s) = then-additive (λ x. bitAnd x mask) (λ x. x * 2 ^ s) (and-additive mask) (shl-additive s) in
+    let left : Additive (λ x. x * 2 ^ q % 2 ^ 32) = then-additive (λ x. x * 2 ^ q) (λ x. x % 2 ^ 32) (shl-additive q) (mod-additive 32) in
+    let both : Additive (λ x. bitXor (x * 2 ^ q % 2 ^ 32) x) = xor-additive (λ x. x * 2 ^ q % 2 ^ 32) (λ x. x) left same-additive in
+    xor-additive (λ x. bitAnd x mask * 2 ^ s % 2 ^ 32) (λ x. bitXor (x * 2 ^ q % 2 ^ 32) x / 2 ^ (k - s))
+    (then-additive (λ x. bitAnd x mask * 2 ^ s) (λ x. x % 2 ^ 32) cleared (mod-additive 32))
+    (then-additive (λ x. bitXor (x * 2 ^ q % 2 ^ 32) x) (λ x. x / 2 ^ (k - s)) both (shr-additive (k - s)))
+
+-- Its square, n times, is n steps.
+pub register-ahead : (k q s n x : ℕ) → x < 2 ^ 32 → repeat (applied (squareOf (step k q s))) n x ≡ repeat (step k q s) n x
+register-ahead k q s n x h = square-repeat (step k q s) (step-additive k q s) (step-lt k q s) n x h
+
+-- ---- A stream
+
+-- Three squares, each n times, are n draws.
+pub stream-ahead : (n : ℕ) (u : Stream) → InRange u
+    → record {
+      s0 = repeat (applied (squareOf (step 31 13 12))) n (u .s0);
+      s1 = repeat (applied (squareOf (step 29 2 4))) n (u .s1);
+      s2 = repeat (applied (squareOf (step 28 3 17))) n (u .s2);
+    }
+    ≡ repeat advance n u
+stream-ahead n u h =
+    let s0-is = alone advance (step 31 13 12) (λ w. w .s0) (λ w. unfold advance in refl) n u in
+    let s1-is = alone advance (step 29 2 4) (λ w. w .s1) (λ w. unfold advance in refl) n u in
+    let s2-is = alone advance (step 28 3 17) (λ w. w .s2) (λ w. unfold advance in refl) n u in
+    λ i.
+    record {
+      s0 = (register-ahead 31 13 12 n (u .s0) (h .s0-range) ∙ sym s0-is) i;
+      s1 = (register-ahead 29 2 4 n (u .s1) (h .s1-range) ∙ sym s1-is) i;
+      s2 = (register-ahead 28 3 17 n (u .s2) (h .s2-range) ∙ sym s2-is) i;
+    }
+
+-- ---- Skips of a record
+
+-- Skipping m and then n is skipping m + n, on any record, refused or not,
+pub skips-add : (m n : ℕ) (g : Generator) → InRange (g .a) → InRange (g .b) → skipOf (skipOf g m .next) n ≡ skipOf g (m + n)
+unfolding skipOf
+skips-add m n g ra rb = by-test (eqb (recordNumber g) 0) refl
+  where
+    by-test : (t : Bool) → eqb (recordNumber g) 0 ≡ t → skipOf (skipOf g m .next) n ≡ skipOf g (m + n)
+    by-test true e =
+        let z : recordNumber g ≡ 0 = eqb-true _ _ e in
+        let reached : recordNumber (after m g) ≡ 0 = sound-accepted _ (after-sound m g (sound g ra rb z)) in
+        rw (skipOf, z, skipOf, reached, after-add m n g)
+    by-test false e = rw (skipOf, e, skipOf, e)
+
+-- so it is skipping n and then m.
+pub skips-swap : (m n : ℕ) (g : Generator) → InRange (g .a) → InRange (g .b)
+    → skipOf (skipOf g m .next) n ≡ skipOf (skipOf g n .next) m
+skips-swap m n g ra rb = skips-add m n g ra rb ∙ rw (add-comm m n) (sym (skips-add n m g ra rb))
