@@ -1,6 +1,6 @@
 -- Exclusive-or by halves, and the maps that are additive over it.
 use mathlib.Core.Path.{_≡_, refl, sym, ap, ap₂, _∙_}
-use Prim.Native.Nat.{ℕ, zero, suc, min, _+_, _*_, _/_, _%_, _^_, _<_}
+use Prim.Native.Nat.{ℕ, min, _+_, _*_, _/_, _%_, _^_}
 use native.Mathlib.Nat.{add-zero}
 use native.Mathlib.Omega.{arith}
 use lib.Arith.{bin-ind}
@@ -79,3 +79,7 @@ then-additive f g p q x y = ap g (p x y) ∙ q (f x) (f y)
 
 pub xor-additive : (f g : ℕ → ℕ) → Additive f → Additive g → Additive (λ x. bitXor (f x) (g x))
 xor-additive f g p q x y = ap₂ (λ (u v : ℕ). bitXor u v) (p x y) (q x y) ∙ xor-swap (f x) (f y) (g x) (g y)
+
+-- a shift to the left in a word of w digits
+pub word-shl-additive : (w n : ℕ) → Additive (λ x. x * 2 ^ n % 2 ^ w)
+word-shl-additive w n = then-additive (λ x. x * 2 ^ n) (λ x. x % 2 ^ w) (shl-additive n) (mod-additive w)

@@ -1,22 +1,19 @@
 -- One turn of each loop, and its end.
-use mathlib.Core.Path.{_≡_, refl, sym, ap, _∙_}
+use mathlib.Core.Path.{_≡_, refl, ap, _∙_}
 use mathlib.Core.List.{List, [], _∷_, _++_, map, map-append, append-nil}
 use Prim.Native.Nat.{ℕ, zero, suc, _+_, _*_, _/_, _%_, _^_, _≤_, _<_}
-use native.Mathlib.Nat.{mul-le-mul, not-suc-le-zero, le-of-suc-le-suc, one-mul, pow-suc, mod-eq-of-lt}
+use native.Mathlib.Nat.{mul-le-mul, not-suc-le-zero, one-mul, pow-suc, mod-eq-of-lt}
 use native.Mathlib.Numerals.{add-one}
 use native.Mathlib.Omega.{arith}
-use lib.ListN.{length, take, drop, getD, set}
-use lib.Seq.{drop-cons, drop-nil, take-all, take-suc-set, drop-set-lt, append-snoc}
+use lib.ListN.{length, take, drop, getD, set, drop-of-length-le}
+use lib.Seq.{drop-cons, take-all, take-suc-set, drop-set-lt, append-snoc}
 use lib.Pow.{pow-lt}
+use mir.Val.{Fits}
+use mir.Syntax.{w32}
 use lib.Bits.{bitXor, xor-zero-r}
 use Rattle.squares.specs.Squares.{repeat, applied, units}
 use Rattle.squares.proofs.Additive.{xor-assoc}
 use Rattle.squares.proofs.Theorems.{repeat-add, squared-repeat}
-
-drop-all : (n : ℕ) (l : List ℕ) → length l ≤ n → drop n l ≡ []
-drop-all n [] h = drop-nil n
-drop-all zero (x ∷ l) h = absurd (not-suc-le-zero h)
-drop-all (suc n) (x ∷ l) h = drop-all n l (le-of-suc-le-suc h)
 
 -- ---- A list mapped in place: the elements before j are done
 
@@ -27,7 +24,7 @@ map-turn f l j v h e =
     (append-snoc (take j l) (f (getD l j 0)) (map f (drop (suc j) l)))
 
 pub map-end : (f : ℕ → ℕ) (l : List ℕ) (j : ℕ) → length l ≤ j → take j l ++ map f (drop j l) ≡ l
-map-end f l j h = rw (drop-all j l h, take-all j l h) (append-nil l)
+map-end f l j h = rw (drop-of-length-le l h, take-all j l h) (append-nil l)
 
 -- ---- `unit_words`: the words before j are unit words
 
@@ -46,8 +43,9 @@ units-turn l j h lt e =
 
 -- ---- `apply`: the sum so far, and the columns left at the digits left
 
-pub digit-le : (c x : ℕ) → c * (x % 2) ≤ c
-digit-le c x = omega (arith, mul-le-mul {n₁ = c} {m₁ = x % 2} {n₂ = c} {m₂ = 1} (omega arith) (omega arith))
+-- a column at a digit is no more than the column
+pub digit-fits : (c x : ℕ) → Fits w32 c → Fits w32 (c * (x % 2))
+digit-fits c x h = omega (arith, mul-le-mul {n₁ = c} {m₁ = x % 2} {n₂ = c} {m₂ = 1} (omega arith) (omega arith))
 
 pub apply-turn : (columns : List ℕ) (j sum rest : ℕ) → j < length columns
     → bitXor (bitXor sum (getD columns j 0 * (rest % 2))) (applied (drop (j + 1) columns) (rest / 2))
@@ -59,7 +57,7 @@ apply-turn columns j sum rest h =
 
 pub apply-end : (columns : List ℕ) (j sum rest : ℕ) → length columns ≤ j → bitXor sum (applied (drop j columns) rest) ≡ sum
 unfolding applied
-apply-end columns j sum rest h = rw (drop-all j columns h) (xor-zero-r sum)
+apply-end columns j sum rest h = rw (drop-of-length-le columns h) (xor-zero-r sum)
 
 -- ---- `powers`: the applications left
 

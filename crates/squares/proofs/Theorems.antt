@@ -2,8 +2,8 @@
 -- by squaring.
 use mathlib.Core.Path.{_≡_, refl, sym, ap, ap₂, _∙_}
 use mathlib.Core.List.{List, [], _∷_, map}
-use Prim.Native.Nat.{ℕ, zero, suc, _+_, _*_, _/_, _%_, _^_, _≤_, _<_}
-use native.Mathlib.Nat.{mul-zero, mul-one, one-mul, pow-suc, div-add-mod', zero-add, suc-add, not-suc-le-zero}
+use Prim.Native.Nat.{ℕ, zero, suc, _+_, _*_, _/_, _%_, _^_, _<_}
+use native.Mathlib.Nat.{mul-zero, mul-one, one-mul, pow-suc, div-add-mod', zero-add, suc-add}
 use native.Mathlib.Omega.{arith}
 use lib.Bits.{bitXor, xor-shifted, xor-zero-r, xor-comm, xor-self}
 use Rattle.squares.specs.Squares.{repeat, Additive, applied, units, squareOf}

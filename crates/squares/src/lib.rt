@@ -14,10 +14,10 @@ pub fn unit_words() -> [u32; 32]
     ensures { λ r. ⌜ r ≡ units 32 ⌝ }
 {
     let mut words: [u32; 32] = [0; 32];
-    let mut j: u32 = 0;
-    while j < 32 {
-        words[j as usize] = 1 << j;
-        j += 1;
+    let mut digit: u32 = 0;
+    while digit < 32 {
+        words[digit as usize] = 1 << digit;
+        digit += 1;
     }
     words
 }

@@ -4,7 +4,8 @@ use Prim.Native.Nat.{ℕ, zero, suc, _+_, _-_, _*_, _/_, _%_, _^_, _≤_, _<_}
 use native.Mathlib.Nat.{le-dest, mul-mod-left, div-eq-of-lt, pow-suc, lt-of-lt-of-le, div-one}
 use native.Mathlib.Omega.{arith}
 use lib.Pow.{pow-mono, pow-add, field, mod-mod-pow, shr-shr, shl-shr}
-use lib.Bits.{bitAnd, bitXor, differ, xor-shr, xor-step, and-high}
+use lib.Bits.{bitAnd, bitXor, xor-shr, and-high}
+use Rattle.squares.proofs.Additive.{xor-low}
 
 unfoldable pub bit : ℕ → ℕ → ℕ
 bit x j = x / 2 ^ j % 2
@@ -49,18 +50,9 @@ bit-mod x w j h =
     rw f at (mod-digit x d j)
 
 -- exclusive-or
-xor-digit : (a b : ℕ) → a < 2 → b < 2 → differ a b ≡ (a + b) % 2
-xor-digit zero b ha hb = omega arith
-xor-digit (suc zero) zero ha hb = refl
-xor-digit (suc zero) (suc b) ha hb = omega arith
-xor-digit (suc (suc a)) b ha hb = omega arith
-
 pub bit-xor : (x y j : ℕ) → bit (bitXor x y) j ≡ (bit x j + bit y j) % 2
 unfolding bit
-bit-xor x y j =
-    let a : ℕ = x / 2 ^ j in
-    let b : ℕ = y / 2 ^ j in
-    rw (xor-shr x y j) (omega (arith, xor-step a b, xor-digit (a % 2) (b % 2) (omega arith) (omega arith)))
+bit-xor x y j = rw (xor-shr x y j) (xor-low (x / 2 ^ j) (y / 2 ^ j))
 
 -- a mask that clears the c low digits of n + c
 pub bit-high : (x n c j : ℕ) → j < n → bit (bitAnd x (2 ^ (n + c) - 2 ^ c)) (c + j) ≡ bit x (c + j)

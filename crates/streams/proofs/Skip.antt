@@ -7,7 +7,7 @@ use lib.Bits.{bitAnd, bitXor}
 use lib.Dec.{eqb}
 use borrow.Author.Tests.{eqb-true}
 use Rattle.squares.specs.Squares.{repeat, Additive, applied, squareOf}
-use Rattle.squares.proofs.Additive.{same-additive, shl-additive, shr-additive, mod-additive, and-additive, then-additive, xor-additive}
+use Rattle.squares.proofs.Additive.{same-additive, word-shl-additive, shr-additive, and-additive, then-additive, xor-additive}
 use Rattle.squares.proofs.Theorems.{square-repeat}
 use Rattle.streams.specs.declared.Stream.{Stream}
 use Rattle.streams.specs.declared.Generator.{Generator}
@@ -22,13 +22,13 @@ use Rattle.streams.proofs.Theorems.{alone, sound, sound-accepted, after
 pub step-additive : (k q s : ℕ) → Additive (step k q s)
 unfolding step
 step-additive k q s =
-    let mask = 2 ^ 32 - 2 ^ (32 - k) in
-    let cleared : Additive (λ x. bitAnd x mask * 2 ^ s) = then-additive (λ x. bitAnd x mask) (λ x. x * 2 ^ s) (and-additive mask) (shl-additive s) in
-    let left : Additive (λ x. x * 2 ^ q % 2 ^ 32) = then-additive (λ x. x * 2 ^ q) (λ x. x % 2 ^ 32) (shl-additive q) (mod-additive 32) in
-    let both : Additive (λ x. bitXor (x * 2 ^ q % 2 ^ 32) x) = xor-additive (λ x. x * 2 ^ q % 2 ^ 32) (λ x. x) left same-additive in
-    xor-additive (λ x. bitAnd x mask * 2 ^ s % 2 ^ 32) (λ x. bitXor (x * 2 ^ q % 2 ^ 32) x / 2 ^ (k - s))
-    (then-additive (λ x. bitAnd x mask * 2 ^ s) (λ x. x % 2 ^ 32) cleared (mod-additive 32))
-    (then-additive (λ x. bitXor (x * 2 ^ q % 2 ^ 32) x) (λ x. x / 2 ^ (k - s)) both (shr-additive (k - s)))
+    let clear : ℕ → ℕ = λ x. bitAnd x (2 ^ 32 - 2 ^ (32 - k)) in
+    let left : ℕ → ℕ → ℕ = λ n x. x * 2 ^ n % 2 ^ 32 in
+    let fold : ℕ → ℕ = λ x. bitXor (left q x) x in
+    let right : ℕ → ℕ = λ x. x / 2 ^ (k - s) in
+    xor-additive (λ x. left s (clear x)) (λ x. right (fold x))
+    (then-additive clear (left s) (and-additive (2 ^ 32 - 2 ^ (32 - k))) (word-shl-additive 32 s))
+    (then-additive fold right (xor-additive (left q) (λ x. x) (word-shl-additive 32 q) same-additive) (shr-additive (k - s)))
 
 -- Its square, n times, is n steps.
 pub register-ahead : (k q s n x : ℕ) → x < 2 ^ 32 → repeat (applied (squareOf (step k q s))) n x ≡ repeat (step k q s) n x

@@ -2,11 +2,11 @@
 use mathlib.Core.Path.{_≡_, refl, sym, _∙_}
 use Prim.Native.Nat.{_≤_, _-_}
 use native.Mathlib.Omega.{arith}
-use lib.ListN.{length, drop, getD}
+use lib.ListN.{length, drop}
 use lib.Bits.{bitXor}
 use borrow.Author.Needs.{needs}
 use Rattle.squares.specs.Squares.{applied}
-use Rattle.squares.proofs.Loops.{digit-le, apply-turn, apply-end}
+use Rattle.squares.proofs.Loops.{digit-fits, apply-turn, apply-end}
 use Rattle.squares.proofs.apply.Statement.{statement}
 use Rattle.squares.proofs.apply.Tie as tie
 
@@ -26,9 +26,7 @@ shared-slice-read-sum : tie.Need-shared-slice-read-sum Inv-loop μ-loop
 shared-slice-read-sum c = omega arith
 
 mul-sum-2 : tie.Need-mul-sum-2 Inv-loop μ-loop
-mul-sum-2 c =
-    let l = c .before .before .loop in
-    omega (arith, c .shared-slice-known .given (l .j), digit-le (getD (c .before .before .before .args .columns .now) (l .j) 0) (l .rest))
+mul-sum-2 c = digit-fits _ _ (c .shared-slice-known .given _)
 
 add-j : tie.Need-add-j Inv-loop μ-loop
 add-j c = omega arith

@@ -1,7 +1,6 @@
 -- `powers`: for both words, the applications left, of the square as it then is, are all of them.
 use mathlib.Core.Path.{_≡_, refl, sym, _∙_}
 use native.Mathlib.Omega.{arith}
-use borrow.Author.Needs.{needs}
 use Rattle.squares.specs.Squares.{repeat, applied}
 use Rattle.squares.proofs.Loops.{power-turn, power-end}
 use Rattle.squares.proofs.powers.Statement.{statement}

@@ -1,4 +1,4 @@
--- `unit_words`: the words before j are the first j unit words.
+-- `unit_words`: the words before `digit` are unit words.
 use mathlib.Core.Path.{_≡_, refl, sym, _∙_}
 use Prim.Native.Nat.{_≤_, _-_}
 use native.Mathlib.Omega.{arith}
@@ -11,10 +11,10 @@ use Rattle.squares.proofs.unit_words.Statement.{statement}
 use Rattle.squares.proofs.unit_words.Tie as tie
 
 abbrev Inv-loop : tie.InvT-loop
-Inv-loop words₀ j₀ words j = (length words ≡ 32) × ((j ≤ 32) × (take j words ≡ units j))
+Inv-loop words₀ digit₀ words digit = (length words ≡ 32) × ((digit ≤ 32) × (take digit words ≡ units digit))
 
 abbrev μ-loop : tie.MeasureT-loop
-μ-loop words₀ j₀ words j = 32 - j
+μ-loop words₀ digit₀ words digit = 32 - digit
 
 loop-holds : tie.Need-loop-holds Inv-loop μ-loop
 unfolding units
@@ -32,8 +32,8 @@ mul-words c = omega arith
 array-write-words : tie.Need-array-write-words Inv-loop μ-loop
 array-write-words c = omega arith
 
-add-j : tie.Need-add-j Inv-loop μ-loop
-add-j c = omega arith
+add-digit : tie.Need-add-digit Inv-loop μ-loop
+add-digit c = omega arith
 
 loop-less : tie.Need-loop-less Inv-loop μ-loop
 loop-less c = omega arith
@@ -41,12 +41,12 @@ loop-less c = omega arith
 loop-again : tie.Need-loop-again Inv-loop μ-loop
 loop-again c =
     let l = c .before .loop in
-    (simp length-set (l .inv .0), (omega arith, units-turn (l .words) (l .j) (omega arith) (omega arith) (l .inv .1 .1)))
+    (simp length-set (l .inv .0), (omega arith, units-turn (l .words) (l .digit) (omega arith) (omega arith) (l .inv .1 .1)))
 
 returns : tie.Need-returns Inv-loop μ-loop
 returns c =
     let l = c .before .loop in
-    let end : l .j ≡ 32 = omega arith in
+    let end : l .digit ≡ 32 = omega arith in
     sym (take-all 32 (l .words) (omega arith)) ∙ rw end at (l .inv .1 .1)
 
 pub unit-words-spec : {M : Type 1} → statement M
@@ -60,7 +60,7 @@ unit-words-spec =
     cast-words
     mul-words
     array-write-words
-    add-j
+    add-digit
     loop-less
     loop-again
     returns)
