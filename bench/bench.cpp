@@ -1,4 +1,4 @@
-// Samples and draws per second of the static library beside plain C, GSL, Boost and the C++ library.
+// Samples and draws per second of the static library beside plain C, GSL, Boost and the C++ library; skips beside drawing.
 #include "jabulghi.h"
 #include "plain.h"
 #include <algorithm>
@@ -22,6 +22,7 @@
 static const size_t LENGTH = 4096;   // elements of a buffer
 static const int BUFFERS = 256;      // times that a run fills it
 static const int RUNS = 11;
+static const int SHORT_RUNS = 1001, SHORT_CALLS = 20;
 
 struct Row {
     std::string name;
@@ -146,10 +147,73 @@ static void draws() {
     table("draws", rows);
 }
 
+// n pairs drawn one by one.
+static void draw_pairs(jabulghi_record &record, uint64_t n) {
+    uint32_t word;
+    for (uint64_t j = 0; j < n; j++) {
+        jabulghi_draw_a(&record, &word);
+        jabulghi_draw_b(&record, &word);
+    }
+}
+
+static void check_skips() {
+    jabulghi_record drawn = seeded(), skipped = drawn, twice = drawn;
+    draw_pairs(drawn, 1000);
+    jabulghi_skip(&skipped, 1000);
+    if (memcmp(&drawn, &skipped, sizeof drawn) != 0) fail("the record after a skip and after drawing");
+    skipped = twice;
+    jabulghi_skip(&skipped, UINT64_MAX);
+    jabulghi_skip(&twice, UINT64_MAX / 2);
+    jabulghi_skip(&twice, UINT64_MAX / 2 + 1);
+    if (memcmp(&twice, &skipped, sizeof twice) != 0) fail("the record after one skip and after two");
+}
+
+// The seconds of a call in each of many short runs of so many calls, least first.
+static std::vector<double> short_runs(int calls, const std::function<void()> &call) {
+    std::vector<double> seconds;
+    for (int run = 0; run < SHORT_RUNS; run++) {
+        double start = processor_seconds();
+        for (int j = 0; j < calls; j++) {
+            call();
+        }
+        seconds.push_back((processor_seconds() - start) / calls);
+    }
+    std::sort(seconds.begin(), seconds.end());
+    return seconds;
+}
+
+static void print_time(double seconds) {
+    const double year = 365.25 * 86400;
+    if (seconds >= year) {
+        printf("  %8.0f years", seconds / year);
+    } else {
+        printf("  %8.2f µs   ", seconds * 1e6);
+    }
+}
+
+// Each skip beside the time that drawing as many pairs would take.
+static void skips() {
+    check_skips();
+    static jabulghi_record ours = seeded();
+    double pair = short_runs(1, [] { draw_pairs(ours, 10000); })[0] / 10000;
+    printf("\n%16s%16s%16s   skips\n", "least", "median", "by drawing");
+    for (uint64_t n : {UINT64_MAX, (uint64_t)1000}) {
+        std::vector<double> seconds = short_runs(SHORT_CALLS, [n] { jabulghi_skip(&ours, n); });
+        print_time(seconds[0]);
+        print_time(seconds[SHORT_RUNS / 2]);
+        print_time((double)n * pair);
+        printf("   jabulghi_skip of %llu pairs\n", (unsigned long long)n);
+    }
+    printf("\nleast and median: of %d runs of %d skips, in processor time. By drawing: a draw from each stream for every pair and no samples,\n",
+           SHORT_RUNS, SHORT_CALLS);
+    printf("%.1f ns a pair, the least of as many runs.\n", pair * 1e9);
+}
+
 int main() {
     plain_tables();
     draws();
     samples();
     printf("\nratio: speed over the library's. Each run fills %d times a buffer of %zu elements, which is not cleared before;\n", BUFFERS, LENGTH);
     printf("the rows take turns, and each figure is the median of %d runs, in processor time, after one that is not counted.\n", RUNS);
+    skips();
 }

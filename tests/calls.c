@@ -46,6 +46,12 @@ static void block(jabulghi_record *r, size_t length) {
     show_record(r);
 }
 
+static void skip(jabulghi_record *r, uint64_t n) {
+    uint32_t number = jabulghi_skip(r, n);
+    printf("skip %" PRIu64 " %" PRIu32 ": record", n, number);
+    show_record(r);
+}
+
 static char text[60002];
 
 static void list(size_t length, size_t room) {
@@ -77,7 +83,7 @@ static void list_shots(int shots) {
 #define EXAMPLE SEEDS "(sigma 4 10)\n(shot A1 A2 12345 4500)\n(shot A2 A3 9000 65530)\n"
 
 int main(void) {
-    jabulghi_record r = {{7, 7, 7}, {7, 7, 7}}, unfit = {{2, 8, 16}, {2, 8, 15}};
+    jabulghi_record r = {{7, 7, 7}, {7, 7, 7}}, unfit = {{2, 8, 16}, {2, 8, 15}}, both_unfit = {{2, 7, 16}, {2, 8, 15}};
     seed(&r, 1);
     seed(&r, 2);
     draw("a", jabulghi_draw_a, &r);
@@ -95,6 +101,13 @@ int main(void) {
     block(&r, 4);
     block(&r, 5);
     block(&unfit, 5);
+    skip(&r, 0);
+    skip(&r, 1);
+    skip(&r, UINT64_MAX);
+    skip(&r, 1000);
+    skip(&unfit, 0);
+    skip(&unfit, UINT64_MAX);
+    skip(&both_unfit, 1);
     list_text(EXAMPLE, JABULGHI_LISTING_ROOM);
     list_text(EXAMPLE, 51);
     list_text(SEEDS "(sigma 4 10)\n", 24);

@@ -51,7 +51,7 @@ pub fn below(n: u64) -> Vec<u64> {
 }
 
 /// Records with one register smaller, an accepted one's own minimum first.
-fn records(record: &Record) -> Vec<Record> {
+pub fn records(record: &Record) -> Vec<Record> {
     let mut out = Vec::new();
     for (j, least) in [2, 8, 16, 2, 8, 16].into_iter().enumerate() {
         let lower = [least].into_iter().filter(|&n| n < record[j]);

@@ -16,8 +16,8 @@ fn calls(tables: &Tables, record: Record) {
     }
 }
 
-/// Registers at their minima, each one below in turn, all zero, all at one extreme; then long runs of one record.
-pub fn records(tables: &Tables) -> String {
+/// Registers at their minima, each one below in turn, all zero, all at one extreme.
+pub fn extremes() -> Vec<Record> {
     let mut records = vec![LEAST, [0; 6], [2097281, 2097280, 2105344, 2, 8, 16]];
     for j in 0..6 {
         for lower in [0, LEAST[j] - 1] {
@@ -29,6 +29,12 @@ pub fn records(tables: &Tables) -> String {
     let extremes = [u32::MAX, 1 << 31, (1 << 31) - 1, 0x5555_5555, 0xAAAA_AAAA, 1 << 16];
     records.extend(extremes.map(|register| [register; 6]));
     records.extend([LEAST.map(|least| 2 * least), LEAST.map(|least| least.wrapping_neg()), LEAST.map(|least| 2 * least - 1)]);
+    records
+}
+
+/// Every call on the extreme records; then long runs of one record.
+pub fn records(tables: &Tables) -> String {
+    let records = extremes();
     for &record in &records {
         calls(tables, record);
     }

@@ -45,3 +45,13 @@ pub fn v(random: &mut Random) -> u32 {
         _ => random.below(65536) as u32,
     }
 }
+
+/// How many pairs to skip: of every size, with the fewest and the most among them.
+pub fn n(random: &mut Random) -> u64 {
+    match random.below(40) {
+        0..=2 => random.below(4) as u64,
+        3 => u64::MAX - random.below(2) as u64,
+        4..=19 => random.next() >> random.below(64),
+        _ => random.number(64),
+    }
+}

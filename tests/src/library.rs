@@ -9,6 +9,7 @@ extern "C" {
     fn jabulghi_sample(k: u64, v: u32, samples: *mut i16) -> u32;
     fn jabulghi_pair(record: *mut u32, samples: *mut i16) -> u32;
     fn jabulghi_block(record: *mut u32, block: *mut i16, length: usize) -> u32;
+    fn jabulghi_skip(record: *mut u32, n: u64) -> u32;
 }
 
 /// Elements on either side of lent memory that a call must leave alone.
@@ -72,11 +73,12 @@ impl<T: Mark> fmt::Debug for Lent<T> {
     }
 }
 
-fn record_of(registers: &Lent<u32>) -> Record {
+pub fn record_of(registers: &Lent<u32>) -> Record {
     registers.elements().try_into().unwrap()
 }
 
 pub type Seeded = (u32, Lent<u32>);
+pub type Skipped = (u32, Lent<u32>);
 pub type Drawn = (u32, Lent<u32>, Lent<u32>);
 pub type Sampled = (u32, Lent<i16>);
 pub type Paired = (u32, Lent<u32>, Lent<i16>);
@@ -110,6 +112,12 @@ pub fn block(record: &Record, length: usize) -> Paired {
     let (mut registers, mut block) = (Lent::holding(record), Lent::marked(length));
     let number = unsafe { jabulghi_block(registers.pointer(), block.pointer(), length) };
     (number, registers, block)
+}
+
+pub fn skip(record: &Record, n: u64) -> Skipped {
+    let mut registers = Lent::holding(record);
+    let number = unsafe { jabulghi_skip(registers.pointer(), n) };
+    (number, registers)
 }
 
 /// `count` draws in turn from a and b, from seeding on.

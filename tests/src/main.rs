@@ -8,12 +8,14 @@ mod fixed;
 mod given;
 mod inputs;
 mod job;
+mod jump;
 mod library;
 mod listings;
 mod program;
 mod random;
 mod readings;
 mod sample;
+mod skips;
 mod stream;
 mod texts;
 
@@ -34,12 +36,14 @@ fn main() {
     }
     println!("the other implementation gives document 01's readings and example; inputs from seed {seed}");
     type Group = fn(&Tables, &mut Random) -> String;
-    let edges: [fn(&Tables) -> String; 4] = [edges::records, edges::cells, edges::lengths, listings::given];
+    let edges: [fn(&Tables) -> String; 5] = [edges::records, edges::cells, edges::lengths, skips::given, listings::given];
     for group in edges {
         println!("{}, all equal", group(&tables));
     }
-    let groups: [Group; 7] = [draws, histories, samples, pairs, blocks, listings::jobs, program::program];
-    for (j, group) in groups.into_iter().enumerate() {
+    let plain: [Group; 5] = [draws, histories, samples, pairs, blocks];
+    let skips: [Group; 4] = [skips::skips, skips::drawn, skips::two, skips::blocks];
+    let groups = plain.into_iter().chain(skips).chain([listings::jobs as Group, program::program]);
+    for (j, group) in groups.enumerate() {
         let start = Instant::now();
         let said = group(&tables, &mut Random(seed ^ (j as u64) << 56));
         println!("{said}, all equal ({:.1} s)", start.elapsed().as_secs_f64());

@@ -1,7 +1,9 @@
-//! Document 01, "Twelve readings to check" and the example job: the other implementation is held to them first.
+//! Document 01, "Twelve readings to check" and the example job: the other implementation is held to them first. The power of x is held
+//! to stepping.
 use crate::job;
+use crate::jump::register_after;
 use crate::sample::Tables;
-use crate::stream::{recurrence, step, A};
+use crate::stream::{drawn_on, recurrence, step, A, SHIFTS};
 
 const READINGS: [(u64, u32, i16, i16); 10] = [
     (1, 0, 0, 16706),
@@ -30,4 +32,19 @@ pub fn check(tables: &Tables) {
     assert_eq!([step(&mut record, A), step(&mut record, A)], [0x00202080, 0x02002C80]);
     assert_eq!(recurrence([2, 8, 16], 2), [0x00202080, 0x02002C80]);
     assert_eq!(job::list(tables, JOB, job::ROOM), (0, 0, LISTING.to_vec()));
+    jumps();
+}
+
+/// Few steps; and where there is one, as many whole periods of 2^k - 1 steps more as fit 64 bits.
+fn jumps() {
+    for record in [[2, 8, 16, 3, 15, 31], [u32::MAX; 6], [123456789, 987654321, 192837465, 1 << 31, 1 << 29, 1 << 28]] {
+        for (n, j) in (0..64).flat_map(|n| (0..6).map(move |j| (n, j))) {
+            let shifts = SHIFTS[j % 3];
+            let (period, after) = ((1 << shifts.0) - 1, drawn_on(&record, n)[j]);
+            let rounds = if n == 0 { 0 } else { (u64::MAX - n) / period };
+            for n in [n, n + rounds * period] {
+                assert_eq!(register_after(record[j], n.into(), shifts), after, "register {} after {n} steps", record[j]);
+            }
+        }
+    }
 }

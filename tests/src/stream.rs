@@ -5,6 +5,10 @@ use crate::sample::Tables;
 const STEPS: [(u32, u32, u32, u32); 3] = [(1, 12, 13, 19), (3, 4, 2, 25), (4, 17, 3, 11)];
 const MINIMA: [u32; 3] = [2, 8, 16];
 
+/// k, q and s of L'Ecuyer's recurrence on bits, x(m+k) = x(m+q) xor x(m): a register has its top k bits, and a draw moves it by s.
+pub type Shifts = (usize, usize, usize);
+pub const SHIFTS: [Shifts; 3] = [(31, 13, 12), (29, 2, 4), (28, 3, 17)];
+
 /// Streams a and b, registers s0, s1, s2 each.
 pub type Record = [u32; 6];
 pub const A: usize = 0;
@@ -80,16 +84,32 @@ pub fn block(tables: &Tables, record: &Record, out: &mut [i16]) -> (u32, Record)
     (0, next)
 }
 
-/// The first `count` draws of a stream by L'Ecuyer's recurrence on bits, x(m+k) = x(m+q) xor x(m):
-/// register j starts with its top k bits, and draw t takes 32 bits from s t on.
+/// The record after n pairs, drawn one by one.
+pub fn drawn_on(record: &Record, n: u64) -> Record {
+    let mut next = *record;
+    for _ in 0..n {
+        step(&mut next, A);
+        step(&mut next, B);
+    }
+    next
+}
+
+/// The first `length` bits of the recurrence that starts with a register's top k bits.
+pub fn bits(register: u32, (k, q, _): Shifts, length: usize) -> Vec<u32> {
+    let mut x: Vec<u32> = (0..k).map(|m| register >> (31 - m) & 1).collect();
+    for m in 0..length - k {
+        let bit = x[m + q] ^ x[m];
+        x.push(bit);
+    }
+    x
+}
+
+/// The first `count` draws of a stream by the recurrence: draw t takes 32 bits of each register's from s t on.
 pub fn recurrence(registers: [u32; 3], count: usize) -> Vec<u32> {
     let mut draws = vec![0; count];
-    for (register, (k, q, s)) in registers.into_iter().zip([(31, 13, 12), (29, 2, 4), (28, 3, 17)]) {
-        let mut x: Vec<u32> = (0..k).map(|m| register >> (31 - m) & 1).collect();
-        for m in 0..s * count + 32 {
-            let bit = x[m + q] ^ x[m];
-            x.push(bit);
-        }
+    for (register, shifts) in registers.into_iter().zip(SHIFTS) {
+        let s = shifts.2;
+        let x = bits(register, shifts, s * count + 32);
         for (t, draw) in draws.iter_mut().enumerate() {
             *draw ^= x[s * (t + 1)..][..32].iter().fold(0, |word, bit| word << 1 | bit);
         }
