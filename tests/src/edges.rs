@@ -5,7 +5,7 @@ use crate::stream::{Record, A, B};
 
 const LEAST: Record = [2, 8, 16, 2, 8, 16];
 
-/// Every call on one record: each draw, a pair, and blocks of even and odd length and of none.
+/// Every call but a skip (skips.rs) on one record: each draw, a pair, and blocks of even and odd length and of none.
 fn calls(tables: &Tables, record: Record) {
     same(tables, &Seed(record));
     same(tables, &Draw(record, A));
@@ -46,7 +46,7 @@ pub fn records(tables: &Tables) -> String {
     }
     let (_, next, _) = same(tables, &Block(LEAST, 2 * pairs));
     assert_eq!(next.elements(), record, "the record after {pairs} pairs and after their block");
-    format!("every call on {} records at the edges, {length} draws and {pairs} pairs of one", records.len())
+    format!("every call but a skip on {} records at the edges, {length} draws and {pairs} pairs of one", records.len())
 }
 
 /// Lengths around the stretches that a block may be drawn in.
