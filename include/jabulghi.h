@@ -55,8 +55,8 @@ uint32_t jabulghi_pair(jabulghi_record *record, int16_t *samples);
  * Length 0 succeeds and moves nothing. */
 uint32_t jabulghi_block(jabulghi_record *record, int16_t *block, size_t length);
 
-/* The record that n pairs would leave, for any n at once: rigs that share one long stream start each at its own stretch. Skips add up, in any
- * order. Refused (11, 12), the record stays. At most some 40 microseconds. */
+/* Moves a record by n pairs, for any n at once: rigs that share one long stream each start at a stretch of their own. Skips add up, in any
+ * order; n = 0 leaves the record as it is. Refused (11, 12), the record stays. */
 uint32_t jabulghi_skip(jabulghi_record *record, uint64_t n);
 
 /* The listing of a job's text, its line and its length. Accepted, line is 0 and the first length bytes of listing are the listing;
