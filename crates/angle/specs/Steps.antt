@@ -44,6 +44,10 @@ cosineAt w = cosine (entryOf cosCoarse 0) (entryOf sinCoarse 0) (entryOf cosFine
 unfoldable pub signedOf : ℕ → ℤ × ℤ
 signedOf v = turn negℤ (quarter v) (pos (sineAt (inQuarter v)), pos (cosineAt (inQuarter v)))
 
+-- v a quarter turn on, mod 65536
+abbrev pub quarterOn : ℕ → ℕ
+quarterOn v = (v + 16384) % 65536
+
 -- A lent table is read mod a power of 2. The tables' entries are at most 2^30.
 unfoldable pub read : ℕ → List ℕ → ℕ → ℕ
 read bits table i = entryOf table 0 i % 2 ^ bits

@@ -1,10 +1,11 @@
 // The sine and the cosine of v at 2^30 (document 01, 'Angle and sample').
 ghost use mathlib.Core.Path.{_≡_};
 ghost use mathlib.Core.Bool.{cond};
-ghost use Prim.Native.Nat.{_+_, _-_, _*_, _/_, _%_, _^_, _<_, min};
+ghost use Prim.Native.Nat.{_+_, _-_, _*_, _/_, _%_, _^_, _<_};
 ghost use lib.IntN.{pos};
 ghost use Rattle.exact.specs.Pair.{turn, along};
 ghost use Rattle.angle.specs.Steps.{sine, cosine, read, plain, flipped, signedOf};
+ghost use Rattle.angle.specs.Private.{valueAt, Turns};
 
 // The numbers of a quarter, the scale of sines and cosines, and what an entry of a coarse and of a fine table is read below.
 const QUARTER: u32 = 16384;
@@ -64,28 +65,56 @@ fn chosen(test: bool, a: u64, b: u64) -> u64
     if test { a } else { b }
 }
 
-fn at_most_three(q: u64) -> u64
-    ensures { λ r. ⌜ r ≡ min q 3 ⌝ }
+// Places in the list of the four values, sin, cos, -sin, -cos.
+const SIN: u8 = 0;
+
+const COS: u8 = 1;
+
+const MINUS_SIN: u8 = 2;
+
+const MINUS_COS: u8 = 3;
+
+// The value at a place of that list.
+fn value(place: u8, sin: u64, cos: u64) -> Signed
+    requires { ⌜ place < 4 ⌝ }
+    ensures { λ r. ⌜ r ≡ valueAt place sin cos ⌝ }
 {
-    if q < 3 { q } else { 3 }
+    Signed {
+        size: chosen(place % 2 == 1, cos, sin),
+        negative: place / 2 == 1,
+    }
 }
 
-// The quarters of document 01, of any two sizes: they change places in the odd ones, the first is negative in 2 and 3, the second
-// in 1 and 2; a q above 3 counts as 3. There is no jump here, since no processor can foresee q.
+// The lines of document 01's list of quarters, each the places of its first and of its second value as one number.
+const SIN_COS: u8 = 4 * SIN + COS;
+
+const COS_MINUS_SIN: u8 = 4 * COS + MINUS_SIN;
+
+const MINUS_SIN_MINUS_COS: u8 = 4 * MINUS_SIN + MINUS_COS;
+
+const MINUS_COS_SIN: u8 = 4 * MINUS_COS + SIN;
+
+// The quarters of document 01 in its order; a q above 3 counts as 3. Four numbers of 8 bits are one word to the compiler, and taking
+// one of them is no jump: no processor can foresee q.
+fn places(q: u64) -> u8
+    ensures { λ r. ⌜ (r < 16) × Turns q r ⌝ }
+{
+    match q {
+        0 => SIN_COS,
+        1 => COS_MINUS_SIN,
+        2 => MINUS_SIN_MINUS_COS,
+        _ => MINUS_COS_SIN,
+    }
+}
+
+// The two values of a quarter, of any two sizes.
 pub fn turn(q: u64, first: u64, second: u64) -> Turned
     ensures { λ r. ⌜ (r .first, r .second) ≡ turn flipped q (plain first, plain second) ⌝ }
 {
-    let quarter = at_most_three(q);
-    let odd = quarter % 2 == 1;
+    let both = places(q);
     Turned {
-        first: Signed {
-            size: chosen(odd, second, first),
-            negative: quarter / 2 == 1,
-        },
-        second: Signed {
-            size: chosen(odd, first, second),
-            negative: (quarter + 1) / 2 == 1,
-        },
+        first: value(both / 4, first, second),
+        second: value(both % 4, first, second),
     }
 }
 

@@ -12,25 +12,18 @@ use Rattle.exact.proofs.RotationBits.{floor-exact, ceiling-exact}
 use Rattle.exact.proofs.RotationWidth.{rotation-narrow}
 use Rattle.exact.specs.Pair.{Enclosure, turn, negate, sineOf, cosineOf, members}
 
--- Quarter turns follow each other: q + 1 of them are one more after q, and a fourth one gives back the pair.
-pub turn-next : {A : Type 0} (neg : A → A) → ((x : A) → neg (neg x) ≡ x) → (q : ℕ) → q < 3 → (p : A × A) →
-    turn neg (suc q) p ≡ turn neg 1 (turn neg q p)
-turn-next neg i zero l p = refl
-turn-next neg i (suc zero) l p = refl
-turn-next neg i (suc (suc zero)) l p = ap (λ x. (neg (p .1), x)) (sym (i (p .0)))
-turn-next neg i (suc (suc (suc q))) l p = absurd (let f : ⊥ = omega arith in f)
+-- Quarter turns follow each other: one more of them, mod 4, is one after q.
+pub turn-next : {A : Type 0} (neg : A → A) → ((x : A) → neg (neg x) ≡ x) → (q : ℕ) (p : A × A) → q < 4 →
+    turn neg ((q + 1) % 4) p ≡ turn neg 1 (turn neg q p)
+turn-next neg i zero p l = refl
+turn-next neg i (suc zero) p l = refl
+turn-next neg i (suc (suc zero)) p l = ap (λ x. (neg (p .1), x)) (sym (i (p .0)))
+turn-next neg i (suc (suc (suc zero))) p l = ap (λ x. (p .0, x)) (sym (i (p .1)))
+turn-next neg i (suc (suc (suc (suc q)))) p l = absurd (let f : ⊥ = omega arith in f)
 
-pub turn-fourth : {A : Type 0} (neg : A → A) → ((x : A) → neg (neg x) ≡ x) → (p : A × A) → turn neg 1 (turn neg 3 p) ≡ p
-turn-fourth neg i p = rw (i (p .1))
-
--- two more of them, mod 4, change both signs
-pub turn-half : {A : Type 0} (neg : A → A) → ((x : A) → neg (neg x) ≡ x) → (q : ℕ) (p : A × A) → q < 4 →
-    turn neg ((q + 2) % 4) p ≡ (neg (turn neg q p .0), neg (turn neg q p .1))
-turn-half neg i zero p l = refl
-turn-half neg i (suc zero) p l = ap (λ x. (neg (p .1), x)) (sym (i (p .0)))
-turn-half neg i (suc (suc zero)) p l = ap₂ (λ x y. (x, y)) (sym (i (p .0))) (sym (i (p .1)))
-turn-half neg i (suc (suc (suc zero))) p l = ap (λ x. (x, neg (p .0))) (sym (i (p .1)))
-turn-half neg i (suc (suc (suc (suc q)))) p l = absurd (let f : ⊥ = omega arith in f)
+-- two of them change both signs
+pub turn-twice : {A : Type 0} (neg : A → A) (p : A × A) → turn neg 1 (turn neg 1 p) ≡ (neg (p .0), neg (p .1))
+turn-twice neg p = refl
 
 -- one of them is what the addition formula gives: the sine of an angle and a quarter is the cosine of the angle
 pub turn-quarter : (n : ℕ) (r : Rotation) → Good n r →

@@ -7,51 +7,49 @@ use mathlib.Core.List.{List, map}
 use lib.Dec.{leb, ltb}
 use lib.ListN.{getD}
 use Rattle.sample.specs.declared.Samples.{Samples}
-use lib.IntN.{ℤ, negℤ, natAbs, negℤ-negℤ}
+use lib.IntN.{ℤ, negℤ, natAbs}
 use borrow.Author.Tests.{le-ltb}
-use Rattle.exact.proofs.MemberLaws.{turn-half}
 use Rattle.radius.specs.Steps.{width, radiusOf}
-use Rattle.angle.specs.Steps.{signedOf}
+use Rattle.angle.specs.Steps.{signedOf, quarterOn}
+use Rattle.angle.proofs.QuarterTurn.{signed-quarter}
 use Rattle.sample.specs.Steps.{fractionBits, rounded}
 use Rattle.sample.proofs.RoundingLaws.{rounded-neg, first-small, second-small}
 use Rattle.sample.specs.Sample.{firstOf, secondOf, refused, samplesOf}
-use Rattle.sample.specs.Theorems.{opposite, negated, Theorems}
+use Rattle.sample.specs.Theorems.{opposite, turnedOn, negated, Theorems}
 use Rattle.sample.specs.Readings.{Reading, readings, readings-hold}
 
--- ---- half a turn on
+-- ---- a quarter turn on
 
-signed-half : (v : ℕ) → v < 65536 → signedOf (opposite v) ≡ (negℤ (signedOf v .0), negℤ (signedOf v .1))
-unfolding signedOf
-signed-half v h =
-    let q : (v + 32768) % 65536 / 16384 ≡ (v / 16384 + 2) % 4 = omega arith in
-    let w : (v + 32768) % 65536 % 16384 ≡ v % 16384 = omega arith in
-    rw (q, w) (turn-half negℤ negℤ-negℤ (v / 16384) _ (omega arith))
-
-pair-half : (k v : ℕ) → v < 65536 → (firstOf k (opposite v) ≡ negℤ (firstOf k v)) × (secondOf k (opposite v) ≡ negℤ (secondOf k v))
+pair-quarter : (k v : ℕ) → v < 65536 → (firstOf k (quarterOn v) ≡ secondOf k v) × (secondOf k (quarterOn v) ≡ negℤ (firstOf k v))
 unfolding firstOf secondOf
-pair-half k v h =
-    let F = radiusOf k in
-    let e = signed-half v h in
-    let G = signedOf v in (
-      ap (λ (p : ℤ × ℤ). rounded fractionBits F (p .0)) e ∙ rounded-neg fractionBits F (omega arith) (G .0),
-      ap (λ (p : ℤ × ℤ). rounded fractionBits F (p .1)) e ∙ rounded-neg fractionBits F (omega arith) (G .1),
+pair-quarter k v h =
+    let sample : ℤ → ℤ = rounded fractionBits (radiusOf k) in
+    let e = signed-quarter v h in (
+      ap (λ (p : ℤ × ℤ). sample (p .0)) e,
+      ap (λ (p : ℤ × ℤ). sample (p .1)) e ∙ rounded-neg fractionBits (radiusOf k) (omega arith) (signedOf v .0),
     )
 
--- ---- from the samples to the answers
-
--- both are refused for k, or neither is: v and its opposite are in range
-half-turn : (k v : ℕ) → v < 65536 → samplesOf k (opposite v) ≡ negated (samplesOf k v)
+-- both are refused for k, or neither is: v is in range here and there
+quarter-turn : (k v : ℕ) → v < 65536 → samplesOf k (quarterOn v) ≡ turnedOn (samplesOf k v)
 unfolding samplesOf
-half-turn k v h =
+quarter-turn k v h =
     let here : ltb 65535 v ≡ false = le-ltb 65535 v (omega arith) in
-    let there : ltb 65535 (opposite v) ≡ false = le-ltb 65535 (opposite v) (omega arith) in
+    let there : ltb 65535 (quarterOn v) ≡ false = le-ltb 65535 (quarterOn v) (omega arith) in
     rw (here, there) (go (leb (2 ^ width) k))
   where
-    go : (t : Bool) → cond t (refused 2) (record { number = 0; first = firstOf k (opposite v); second = secondOf k (opposite v) })
-        ≡ negated (cond t (refused 2) (record { number = 0; first = firstOf k v; second = secondOf k v }))
+    go : (t : Bool) → cond t (refused 2) (record { number = 0; first = firstOf k (quarterOn v); second = secondOf k (quarterOn v) })
+        ≡ turnedOn (cond t (refused 2) (record { number = 0; first = firstOf k v; second = secondOf k v }))
     go true = refl
     go false =
-        ap₂ (λ (x y : ℤ). record { number = 0; first = x; second = y }) (pair-half k v h .0) (pair-half k v h .1)
+        ap₂ (λ (x y : ℤ). record { number = 0; first = x; second = y }) (pair-quarter k v h .0) (pair-quarter k v h .1)
+
+-- half a turn is a quarter turn, twice
+half-turn : (k v : ℕ) → v < 65536 → samplesOf k (opposite v) ≡ negated (samplesOf k v)
+half-turn k v h =
+    let twice : opposite v ≡ quarterOn (quarterOn v) = omega arith in
+    rw twice (quarter-turn k (quarterOn v) (omega arith) ∙ ap turnedOn (quarter-turn k v h))
+
+-- ---- sizes
 
 -- an answer is a refusal, whose samples are 0, or has the two samples
 sizes : (k v : ℕ) → (natAbs (samplesOf k v .first) ≤ 16706) × (natAbs (samplesOf k v .second) ≤ 16706)
@@ -73,6 +71,7 @@ at n = ap (λ (l : List Samples). getD l n (refused 0)) readings-hold
 
 pub theorems : Theorems
 theorems = record {
+  quarter-turn = quarter-turn;
   half-turn = half-turn;
   sizes = sizes;
   highest = (ap (λ (r : Samples). r .first) (at 1), ap (λ (r : Samples). r .second) (at 0));

@@ -2,6 +2,7 @@
 use mathlib.Core.Path.{_≡_}
 use Prim.Native.Nat.{ℕ, _+_, _%_, _≤_, _<_}
 use lib.IntN.{pos, negℤ, natAbs}
+use Rattle.angle.specs.Steps.{quarterOn}
 use Rattle.sample.specs.declared.Samples.{Samples}
 use Rattle.sample.specs.Sample.{samplesOf}
 
@@ -9,11 +10,17 @@ use Rattle.sample.specs.Sample.{samplesOf}
 abbrev pub opposite : ℕ → ℕ
 opposite v = (v + 32768) % 65536
 
+-- an answer with the second sample first, and then the first negated
+abbrev pub turnedOn : Samples → Samples
+turnedOn r = record { number = r .number; first = r .second; second = negℤ (r .first) }
+
 -- an answer with both samples negated
 abbrev pub negated : Samples → Samples
 negated r = record { number = r .number; first = negℤ (r .first); second = negℤ (r .second) }
 
 pub record Theorems : Type 0 where
+  -- "for the same k, v a quarter turn on, mod 65536, gives the old second sample, then the old first negated" (document 02, Job 3)
+  pub quarter-turn : (k v : ℕ) → v < 65536 → samplesOf k (quarterOn v) ≡ turnedOn (samplesOf k v)
   -- "a turn of half a circle" is "an exact change of sign" (document 01, 'Blunders that would look sound')
   pub half-turn : (k v : ℕ) → v < 65536 → samplesOf k (opposite v) ≡ negated (samplesOf k v)
   -- no sample's size is above 16706

@@ -3,9 +3,9 @@ ghost use mathlib.Core.Path.{_≡_};
 ghost use Prim.Native.Nat.{_/_, _^_, _≤_, _<_, min};
 ghost use lib.IntN.{pos, natAbs};
 ghost use Rattle.exact.specs.Pair.{along, Close};
-ghost use Rattle.radius.specs.Steps.{width, radiusLimit};
+ghost use Rattle.radius.specs.Steps.{width, radiusOf, radiusLimit};
 ghost use Rattle.sample.specs.Steps.{fractionBits, rounded};
-ghost use Rattle.sample.specs.Private.{Loaded};
+ghost use Rattle.sample.specs.Private.{Logarithms, Rotations};
 ghost use Rattle.sample.specs.Sample.{firstAt, secondAt, samplesOf, nineSixteenths, filled};
 
 // The fraction bits of a sample, its unit in the product of F and a sine or cosine, and half of it.
@@ -36,9 +36,18 @@ struct Pair {
     second: i16,
 }
 
-// The two samples of z = 65536 k + v, from the lent tables A, B, C, D, c and s.
-fn pair_of(lc: &[u64], lf: &[u64], cc: &[u64], sc: &[u64], cf: &[u64], sf: &[u64], z: u64) -> Pair
-    requires { ⌜ Loaded (now lc) (now lf) (now cc) (now sc) (now cf) (now sf) ⌝ }
+// F of z = 65536 k + v, from the lent tables A and B.
+fn radius_at(lc: &[u64], lf: &[u64], z: u64) -> u64
+    requires { ⌜ Logarithms (now lc) (now lf) ⌝ }
+    ensures { λ r. ⌜ r ≡ radiusOf (z / 65536) ⌝ }
+{
+    radius::radius(lc, lf, z / 65536)
+}
+
+// The two samples of z = 65536 k + v, from its F and the lent tables C, D, c and s. (Apart from `radius_at`: each of the two is then
+// short enough for the compiler to put it into the loop below.)
+fn pair_of(cc: &[u64], sc: &[u64], cf: &[u64], sf: &[u64], f: u64, z: u64) -> Pair
+    requires { ⌜ (Rotations (now cc) (now sc) (now cf) (now sf)) × (f ≡ radiusOf (z / 65536)) ⌝ }
     ensures { λ r. ⌜ (r .first ≡ firstAt z) × (r .second ≡ secondAt z) ⌝ }
 {
     let v = z % 65536;
@@ -46,7 +55,6 @@ fn pair_of(lc: &[u64], lf: &[u64], cc: &[u64], sc: &[u64], cf: &[u64], sf: &[u64
     let t = angle::turn(v / 16384, angle.sine, angle.cosine);
     let sine = t.first;
     let cosine = t.second;
-    let f = radius::radius(lc, lf, z / 65536);
     Pair {
         first: rounded(f, sine.size, sine.negative),
         second: rounded(f, cosine.size, cosine.negative),
@@ -79,7 +87,9 @@ pub fn sample(k: u64, v: u32) -> Samples
     let sc = tables::sin_coarse();
     let cf = tables::cos_fine();
     let sf = tables::sin_fine();
-    let pair = pair_of(&lc, &lf, &cc, &sc, &cf, &sf, k * 65536 + v as u64);
+    let z = k * 65536 + v as u64;
+    let f = radius_at(&lc, &lf, z);
+    let pair = pair_of(&cc, &sc, &cf, &sf, f, z);
     Samples {
         number: 0,
         first: pair.first,
@@ -105,13 +115,14 @@ fn fill_with(
     z: &[u64],
     out: &mut [i16],
 )
-    requires { ⌜ Loaded (now lc) (now lf) (now cc) (now sc) (now cf) (now sf) ⌝ }
+    requires { ⌜ (Logarithms (now lc) (now lf)) × (Rotations (now cc) (now sc) (now cf) (now sf)) ⌝ }
     ensures { λ r. ⌜ now (out .exit) ≡ filled (now (z .entry)) (now (out .entry)) ⌝ }
 {
     let n = pairs(z.len(), out.len());
     let mut i = 0;
     while i < n {
-        let pair = pair_of(lc, lf, cc, sc, cf, sf, z[i]);
+        let f = radius_at(lc, lf, z[i]);
+        let pair = pair_of(cc, sc, cf, sf, f, z[i]);
         let first = pair.first;
         let second = pair.second;
         out[2 * i] = first;

@@ -25,6 +25,15 @@ loop-holds : tie.Need-loop-holds Inv-loop μ-loop
 unfolding filled
 loop-holds c = (omega arith, refl, refl)
 
+mul-radius-at : tie.Need-mul-radius-at Inv-loop μ-loop
+mul-radius-at c = search needs
+
+shared-slice-read-radius-at : tie.Need-shared-slice-read-radius-at Inv-loop μ-loop
+shared-slice-read-radius-at c = search needs
+
+radius-at-requires : tie.Need-radius-at-requires Inv-loop μ-loop
+radius-at-requires c κs = search needs
+
 mul-pair-of : tie.Need-mul-pair-of Inv-loop μ-loop
 mul-pair-of c = search needs
 
@@ -63,15 +72,18 @@ loop-less c = search needs
 
 loop-again : tie.Need-loop-again Inv-loop μ-loop
 loop-again c =
-    let head = c .before .before .before .before .before in
+    let turn = c .before .before .before .before .before .before in
+    let head = turn .before in
     let start = head .before .before .before .before .before .before .before .before .before in
     let i = head .loop .i in
     let pair = c .before .before .pair-of in
     let first = toZ-ofZ {w = w16} {z = pair .result .first} (record { sfits = c .before .struct-told .given .0 .1 }) ∙ pair .ensures .0 in
     let second = toZ-ofZ {w = w16} {z = pair .result .second} (record { sfits = c .struct-told2 .given .1 .0 .1 }) ∙ pair .ensures .1 in
-    let inside : i < length (start .args .z .now) = omega arith in
-    let room : 2 * i + 1 < length (start .args .out .now) = omega arith in (
-      omega arith,
+    let more = turn .loop-test .taken in
+    let pairs = head .before .pairs .ensures in
+    let inside : i < length (start .args .z .now) = omega (arith, more, pairs) in
+    let room : 2 * i + 1 < length (start .args .out .now) = omega (arith, more, pairs) in (
+      omega (arith, more, pairs),
       simp length-set (head .loop .inv .1),
       filled-next i (start .args .z .now) (start .args .out .now) _ _ _ (head .loop .inv .2) first second inside room,
     )
@@ -92,6 +104,9 @@ fill-with-spec =
     μ-loop
     pairs-requires
     loop-holds
+    mul-radius-at
+    shared-slice-read-radius-at
+    radius-at-requires
     mul-pair-of
     shared-slice-read-pair-of
     pair-of-requires

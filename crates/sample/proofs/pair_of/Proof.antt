@@ -1,12 +1,11 @@
--- `sample::pair_of` meets its contract: what its callees return is the radius, the sine and the cosine at the tables.
+-- `sample::pair_of` meets its contract: what its callees return is the sine and the cosine at the tables, turned and rounded.
 use mathlib.Core.Path.{_≡_, refl, ap₂, _∙_}
-use Prim.Native.Nat.{_/_, _%_, _<_, _^_}
-use native.Mathlib.Nat.{mod-eq-of-lt}
+use Prim.Native.Nat.{_%_, _<_}
 use native.Mathlib.Omega.{arith}
 use borrow.Author.Needs.{needs}
 use mir.Syntax.{w16}
 use mir.Facts.{toZ-ofZ}
-use Rattle.radius.specs.Steps.{width, radiusOf, radiusLimit}
+use Rattle.radius.specs.Steps.{radiusLimit}
 use Rattle.radius.proofs.Ranges.{radius-of-range}
 use Rattle.angle.specs.Steps.{sineAt, cosineAt}
 use Rattle.angle.proofs.Ranges.{sine-read, cosine-read, TurnedFor, turned-for}
@@ -23,63 +22,43 @@ turn-requires c κs = search needs
 
 -- the sine and the cosine, turned
 module _ (c : tie.After-angle-of) where
-  sine-is : c .angle-of .result .sine ≡ sineAt (c .before .before .before .before .before .before .before .args .z % 65536 % 16384)
+  sine-is : c .angle-of .result .sine ≡ sineAt (c .before .before .before .before .before .args .z % 65536 % 16384)
   sine-is =
-      let tables = c .before .before .before .before .before .before .before .pre in
+      let tables = c .before .before .before .before .before .pre .0 in
       c .angle-of .ensures .0 ∙ sine-read (tables .cos-coarse) (tables .sin-coarse) (tables .cos-fine) (tables .sin-fine) _
 
-  cosine-is : c .angle-of .result .cosine ≡ cosineAt (c .before .before .before .before .before .before .before .args .z % 65536 % 16384)
+  cosine-is : c .angle-of .result .cosine ≡ cosineAt (c .before .before .before .before .before .args .z % 65536 % 16384)
   cosine-is =
-      let tables = c .before .before .before .before .before .before .before .pre in
+      let tables = c .before .before .before .before .before .pre .0 in
       c .angle-of .ensures .1 ∙ cosine-read (tables .cos-coarse) (tables .sin-coarse) (tables .cos-fine) (tables .sin-fine) _
 
-turned : (c : tie.After-turn) → TurnedFor (c .before .before .before .before .before .before .before .before .args .z % 65536) (c .turn .result .first, c .turn .result .second)
+turned : (c : tie.After-turn) → TurnedFor (c .before .before .before .before .before .before .args .z % 65536) (c .turn .result .first, c .turn .result .second)
 turned c = turned-for _ _ (c .turn .ensures ∙ rw (sine-is (c .before), cosine-is (c .before)) refl)
 
-radius-requires : tie.Need-radius-requires
-radius-requires c κs = search needs
-
--- F
-module _ (c : tie.After-radius) where
-  radius-is : c .radius .result ≡ radiusOf (c .before .before .before .before .before .before .before .before .before .before .before .args .z / 65536)
-  unfolding radiusOf
-  radius-is =
-      let start = c .before .before .before .before .before .before .before .before .before .before .before in
-      let z : start .args .z < 2 ^ 64 = start .fits .z .fits in
-      let small : start .args .z / 65536 % 2 ^ width ≡ start .args .z / 65536 = mod-eq-of-lt (omega arith) in
-      c .radius .ensures ∙ rw (start .pre .log-coarse, start .pre .log-fine, small) refl
-
-  radius-small : c .radius .result < radiusLimit
-  radius-small = rw radius-is (radius-of-range _)
+-- F is small
+radius-small : (c : tie.After-turn) → c .before .before .before .before .before .before .args .f < radiusLimit
+radius-small c = rw (c .before .before .before .before .before .before .pre .1) (radius-of-range _)
 
 rounded-requires : tie.Need-rounded-requires
 rounded-requires c κs =
-    let t = turned (c .before .before .before) in
-    omega (arith, radius-small c, t .first-small, t .second-small)
+    let turn = c .before .before in
+    omega (arith, radius-small turn, turned turn .first-small, turned turn .second-small)
 
 rounded-requires-2 : tie.Need-rounded-requires-2
 rounded-requires-2 c κs =
-    let t = turned (c .before .before .before .before) in
-    omega (arith, radius-small (c .before), t .first-small, t .second-small)
+    let turn = c .before .before .before in
+    omega (arith, radius-small turn, turned turn .first-small, turned turn .second-small)
 
 returns : tie.Need-returns
 unfolding firstOf secondOf
 returns c =
-    let f = radius-is (c .before .before) in
-    let t = turned (c .before .before .before .before .before) in
+    let turn = c .before .before .before .before in
+    let f = turn .before .before .before .before .before .before .pre .1 in
     let first = c .before .rounded in
     let second = c .rounded2 in (
-      toZ-ofZ {w = w16} {z = first .result} (record { sfits = first .ok }) ∙ first .ensures ∙ ap₂ (rounded fractionBits) f (t .first-is),
-      toZ-ofZ {w = w16} {z = second .result} (record { sfits = second .ok }) ∙ second .ensures ∙ ap₂ (rounded fractionBits) f (t .second-is),
+      toZ-ofZ {w = w16} {z = first .result} (record { sfits = first .ok }) ∙ first .ensures ∙ ap₂ (rounded fractionBits) f (turned turn .first-is),
+      toZ-ofZ {w = w16} {z = second .result} (record { sfits = second .ok }) ∙ second .ensures ∙ ap₂ (rounded fractionBits) f (turned turn .second-is),
     )
 
 pub pair-of-spec : {M : Type 1} → statement M
-pair-of-spec =
-    tie.close
-    (tie.spec
-    angle-of-requires
-    turn-requires
-    radius-requires
-    rounded-requires
-    rounded-requires-2
-    returns)
+pair-of-spec = tie.close (tie.spec angle-of-requires turn-requires rounded-requires rounded-requires-2 returns)

@@ -41,6 +41,21 @@ cos-fine-requires c κs = search needs
 sin-fine-requires : tie.Need-sin-fine-requires
 sin-fine-requires c κs = search needs
 
+mul-z : tie.Need-mul-z
+mul-z c = search needs
+
+add-z : tie.Need-add-z
+add-z c = search needs
+
+slice-aggregate-radius-at : tie.Need-slice-aggregate-radius-at
+slice-aggregate-radius-at c = search needs
+
+slice-aggregate-radius-at-2 : tie.Need-slice-aggregate-radius-at-2
+slice-aggregate-radius-at-2 c = search needs
+
+radius-at-requires : tie.Need-radius-at-requires
+radius-at-requires c κs = search needs
+
 slice-aggregate-pair-of : tie.Need-slice-aggregate-pair-of
 slice-aggregate-pair-of c = search needs
 
@@ -53,18 +68,6 @@ slice-aggregate-pair-of-3 c = search needs
 slice-aggregate-pair-of-4 : tie.Need-slice-aggregate-pair-of-4
 slice-aggregate-pair-of-4 c = search needs
 
-slice-aggregate-pair-of-5 : tie.Need-slice-aggregate-pair-of-5
-slice-aggregate-pair-of-5 c = search needs
-
-slice-aggregate-pair-of-6 : tie.Need-slice-aggregate-pair-of-6
-slice-aggregate-pair-of-6 c = search needs
-
-mul-pair-of : tie.Need-mul-pair-of
-mul-pair-of c = search needs
-
-add-pair-of : tie.Need-add-pair-of
-add-pair-of c = search needs
-
 pair-of-requires : tie.Need-pair-of-requires
 pair-of-requires c κs = search needs
 
@@ -75,7 +78,7 @@ apart k v h = (omega arith, omega arith)
 returns-3 : tie.Need-returns-3
 unfolding samplesOf
 returns-3 c =
-    let tested = c .before .before .before .before .before .before .before .before .before .before .before .before .before .before in
+    let tested = c .before .before .before .before .before .before .before .before .before .before .before .before .before .before .before in
     let k = tested .before .before .args .k in
     let v = tested .before .before .args .v in
     let a = apart k v (tested .if2 .left) in
@@ -98,13 +101,14 @@ sample-spec =
     sin-coarse-requires
     cos-fine-requires
     sin-fine-requires
+    mul-z
+    add-z
+    slice-aggregate-radius-at
+    slice-aggregate-radius-at-2
+    radius-at-requires
     slice-aggregate-pair-of
     slice-aggregate-pair-of-2
     slice-aggregate-pair-of-3
     slice-aggregate-pair-of-4
-    slice-aggregate-pair-of-5
-    slice-aggregate-pair-of-6
-    mul-pair-of
-    add-pair-of
     pair-of-requires
     returns-3)
