@@ -1,40 +1,53 @@
-// The makers' C interface: each function equals the call below it. A generator record is lent as six registers, a's s0, s1, s2 and then b's: the
-// header's struct jabulghi_record.
+// The makers' C interface: each function equals the call below it. A generator record is lent as eight words, a's s0, s1, s2, then b's, then the
+// count's low and high word: the header's struct jabulghi_record.
 ghost use mathlib.Core.Path.{_≡_};
-ghost use Prim.Native.Nat.{_<_, _^_};
+ghost use Prim.Native.Nat.{_+_, _*_, _<_, _^_};
 ghost use mathlib.Core.List.{[], _∷_};
 ghost use lib.ListN.{length};
-ghost use Rattle.streams.specs.Streams.{seedOf, drawA, drawB, skipOf};
+ghost use Rattle.streams.specs.Streams.{seedOf, skipOf};
 ghost use Rattle.sample.specs.Sample.{samplesOf, nineSixteenths};
 ghost use Rattle.exact.specs.Pair.{Close};
 ghost use Rattle.noise.specs.Noise.{pairOf, blockOf, blockHolds};
 ghost use Rattle.job.specs.Job.{jobOf, answerOf, bufferAfter};
-ghost use Rattle.jabulghi.specs.Registers.{registersOf, generatorOf, samplesIn};
+ghost use Rattle.jabulghi.specs.Words.{wordsOf, generatorOf, samplesIn};
 use streams::Generator;
 use streams::Stream;
 
-// The record that six registers are.
-fn unpacked(registers: [u32; 6]) -> Generator
-    ensures { λ r. ⌜ r ≡ generatorOf registers ⌝ }
+// A word's values.
+const WORD: u64 = 1 << 32;
+
+// The number of 64 bits that two words are.
+fn joined(low: u32, high: u32) -> u64
+    ensures { λ r. ⌜ r ≡ high * 2 ^ 32 + low ⌝ }
 {
-    let a = Stream {
-        s0: registers[0],
-        s1: registers[1],
-        s2: registers[2],
-    };
-    let b = Stream {
-        s0: registers[3],
-        s1: registers[4],
-        s2: registers[5],
-    };
-    Generator { a, b }
+    high as u64 * WORD + low as u64
 }
 
-// The six registers of a record.
-fn packed(g: Generator) -> [u32; 6]
-    ensures { λ r. ⌜ r ≡ registersOf g ⌝ }
+// The record that eight words are.
+fn unpacked(words: [u32; 8]) -> Generator
+    ensures { λ r. ⌜ r ≡ generatorOf words ⌝ }
 {
-    [g.a.s0, g.a.s1, g.a.s2, g.b.s0, g.b.s1, g.b.s2]
+    let a = Stream {
+        s0: words[0],
+        s1: words[1],
+        s2: words[2],
+    };
+    let b = Stream {
+        s0: words[3],
+        s1: words[4],
+        s2: words[5],
+    };
+    let count = joined(words[6], words[7]);
+    Generator { a, b, count }
+}
+
+// The eight words of a record.
+fn packed(g: Generator) -> [u32; 8]
+    ensures { λ r. ⌜ r ≡ wordsOf g ⌝ }
+{
+    let low = (g.count % WORD) as u32;
+    let high = (g.count / WORD) as u32;
+    [g.a.s0, g.a.s1, g.a.s2, g.b.s0, g.b.s1, g.b.s2, low, high]
 }
 
 // Seeds a record.
@@ -46,45 +59,15 @@ pub extern "C" fn jabulghi_seed(
     b0: u32,
     b1: u32,
     b2: u32,
-    registers: &mut [u32; 6],
+    words: &mut [u32; 8],
 ) -> u32
     ensures { λ r. ⌜ r ≡ seedOf a0 a1 a2 b0 b1 b2 .number ⌝ }
-    ensures { λ _. ⌜ now (registers .exit) ≡ registersOf (seedOf a0 a1 a2 b0 b1 b2 .next) ⌝ }
+    ensures { λ _. ⌜ now (words .exit) ≡ wordsOf (seedOf a0 a1 a2 b0 b1 b2 .next) ⌝ }
 {
     let seeded = Generator::seed(a0, a1, a2, b0, b1, b2);
     let next = seeded.next;
-    *registers = packed(next);
+    *words = packed(next);
     seeded.number
-}
-
-// One draw from stream a.
-#[no_mangle]
-pub extern "C" fn jabulghi_draw_a(registers: &mut [u32; 6], draw: &mut u32) -> u32
-    ensures { λ r. ⌜ r ≡ drawA (generatorOf (now (registers .entry))) .number ⌝ }
-    ensures { λ _. ⌜ now (draw .exit) ≡ drawA (generatorOf (now (registers .entry))) .draw ⌝ }
-    ensures { λ _. ⌜ now (registers .exit) ≡ registersOf (drawA (generatorOf (now (registers .entry))) .next) ⌝ }
-{
-    let g = unpacked(*registers);
-    let from_a = g.draw_a();
-    let after_a = from_a.next;
-    *draw = from_a.draw;
-    *registers = packed(after_a);
-    from_a.number
-}
-
-// One draw from stream b.
-#[no_mangle]
-pub extern "C" fn jabulghi_draw_b(registers: &mut [u32; 6], draw: &mut u32) -> u32
-    ensures { λ r. ⌜ r ≡ drawB (generatorOf (now (registers .entry))) .number ⌝ }
-    ensures { λ _. ⌜ now (draw .exit) ≡ drawB (generatorOf (now (registers .entry))) .draw ⌝ }
-    ensures { λ _. ⌜ now (registers .exit) ≡ registersOf (drawB (generatorOf (now (registers .entry))) .next) ⌝ }
-{
-    let g = unpacked(*registers);
-    let from_b = g.draw_b();
-    let after_b = from_b.next;
-    *draw = from_b.draw;
-    *registers = packed(after_b);
-    from_b.number
 }
 
 // The two samples of k and v.
@@ -101,43 +84,43 @@ pub extern "C" fn jabulghi_sample(k: u64, v: u32, samples: &mut [i16; 2]) -> u32
 
 // One pair of samples from a record.
 #[no_mangle]
-pub extern "C" fn jabulghi_pair(registers: &mut [u32; 6], samples: &mut [i16; 2]) -> u32
-    ensures { λ r. ⌜ r ≡ pairOf (generatorOf (now (registers .entry))) .number ⌝ }
-    ensures { λ _. ⌜ now (samples .exit) ≡ samplesIn (pairOf (generatorOf (now (registers .entry)))) ⌝ }
-    ensures { λ _. ⌜ now (registers .exit) ≡ registersOf (pairOf (generatorOf (now (registers .entry))) .next) ⌝ }
+pub extern "C" fn jabulghi_pair(words: &mut [u32; 8], samples: &mut [i16; 2]) -> u32
+    ensures { λ r. ⌜ r ≡ pairOf (generatorOf (now (words .entry))) .number ⌝ }
+    ensures { λ _. ⌜ now (samples .exit) ≡ samplesIn (pairOf (generatorOf (now (words .entry)))) ⌝ }
+    ensures { λ _. ⌜ now (words .exit) ≡ wordsOf (pairOf (generatorOf (now (words .entry))) .next) ⌝ }
 {
-    let g = unpacked(*registers);
+    let g = unpacked(*words);
     let pair = noise::pair(g);
     let after_pair = pair.next;
     *samples = [pair.first, pair.second];
-    *registers = packed(after_pair);
+    *words = packed(after_pair);
     pair.number
 }
 
 // A block of samples from a record, first and second alternating.
 #[no_mangle]
-pub extern "C" fn jabulghi_block(registers: &mut [u32; 6], block: &mut [i16]) -> u32
-    ensures { λ r. ⌜ r ≡ blockOf (generatorOf (now (registers .entry))) (length (now (block .entry))) .number ⌝ }
-    ensures { λ _. ⌜ now (block .exit) ≡ blockHolds (generatorOf (now (registers .entry))) (now (block .entry)) ⌝ }
-    ensures { λ _. ⌜ now (registers .exit) ≡ registersOf (blockOf (generatorOf (now (registers .entry))) (length (now (block .entry))) .next) ⌝ }
+pub extern "C" fn jabulghi_block(words: &mut [u32; 8], block: &mut [i16]) -> u32
+    ensures { λ r. ⌜ r ≡ blockOf (generatorOf (now (words .entry))) (length (now (block .entry))) .number ⌝ }
+    ensures { λ _. ⌜ now (block .exit) ≡ blockHolds (generatorOf (now (words .entry))) (now (block .entry)) ⌝ }
+    ensures { λ _. ⌜ now (words .exit) ≡ wordsOf (blockOf (generatorOf (now (words .entry))) (length (now (block .entry))) .next) ⌝ }
 {
-    let g = unpacked(*registers);
+    let g = unpacked(*words);
     let filled = noise::block(g, block);
     let after_block = filled.next;
-    *registers = packed(after_block);
+    *words = packed(after_block);
     filled.number
 }
 
 // A record n pairs on.
 #[no_mangle]
-pub extern "C" fn jabulghi_skip(registers: &mut [u32; 6], n: u64) -> u32
-    ensures { λ r. ⌜ r ≡ skipOf (generatorOf (now (registers .entry))) n .number ⌝ }
-    ensures { λ _. ⌜ now (registers .exit) ≡ registersOf (skipOf (generatorOf (now (registers .entry))) n .next) ⌝ }
+pub extern "C" fn jabulghi_skip(words: &mut [u32; 8], n: u64) -> u32
+    ensures { λ r. ⌜ r ≡ skipOf (generatorOf (now (words .entry))) n .number ⌝ }
+    ensures { λ _. ⌜ now (words .exit) ≡ wordsOf (skipOf (generatorOf (now (words .entry))) n .next) ⌝ }
 {
-    let g = unpacked(*registers);
+    let g = unpacked(*words);
     let skipped = g.skip(n);
     let after_skip = skipped.next;
-    *registers = packed(after_skip);
+    *words = packed(after_skip);
     skipped.number
 }
 

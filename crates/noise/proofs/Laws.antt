@@ -2,7 +2,8 @@
 use mathlib.Core.Path.{_≡_, refl, sym, ap, _∙_}
 use mathlib.Core.Bool.{Bool, true, false}
 use mathlib.Core.List.{List, [], _∷_, _++_}
-use Prim.Native.Nat.{ℕ, zero, suc, _+_, _*_, _/_, _%_, _^_, _<_}
+use mathlib.Core.Logic.{_↔_}
+use Prim.Native.Nat.{ℕ, zero, suc, _+_, _*_, _/_, _%_, _^_, _≤_, _<_}
 use native.Mathlib.Nat.{zero-add, suc-add}
 use native.Mathlib.Omega.{arith}
 use borrow.Author.Tests.{lt-leb, le-ltb, eqb-true, eqb-false}
@@ -11,9 +12,10 @@ use lib.IntN.{ℤ}
 use lib.ListN.{length}
 use Rattle.streams.specs.declared.Generator.{Generator}
 use Rattle.streams.specs.declared.Uniforms.{Uniforms}
-use Rattle.streams.specs.Streams.{recordNumber, firstCause, uniformsOf, after}
-use Rattle.streams.specs.Recurrence.{Sound}
-use Rattle.streams.proofs.Theorems.{uniforms-accepted, next-sound, numbers-bounded}
+use Rattle.streams.specs.Streams.{recordNumber, mostCount, countNumber, pairsNumber, uniformsOf, after}
+use Rattle.streams.specs.Recurrence.{Sound, moved}
+use Rattle.streams.proofs.Theorems.{sound-accepted, pairs-accepted, uniforms-accepted, next-sound, numbers-bounded}
+use Rattle.streams.proofs.Causes.{none-applies, count-room}
 use Rattle.sample.specs.Sample.{samplesOf, firstOf, secondOf}
 use Rattle.sample.specs.Sample.{samplesAt}
 use Rattle.noise.specs.Noise.{pairOf, samples, lengthNumber, blockNumber}
@@ -21,33 +23,33 @@ use Rattle.noise.specs.Private.{numbers}
 
 -- ---- Causes
 
-pub lone-cause : (number : ℕ) → firstCause (number ∷ []) ≡ number
-lone-cause number = by-test (eqb number 0) refl
+even : (n : ℕ) → (lengthNumber n ≡ 0) ↔ (n % 2 ≡ 0)
+unfolding lengthNumber
+even n = by-length (eqb (n % 2) 0) refl
   where
-    by-test : (t : Bool) → eqb number 0 ≡ t → firstCause (number ∷ []) ≡ number
-    by-test true e = rw e (sym (eqb-true number 0 e))
-    by-test false e = rw e
+    by-length : (t : Bool) → eqb (n % 2) 0 ≡ t → (lengthNumber n ≡ 0) ↔ (n % 2 ≡ 0)
+    by-length true e = (λ h. eqb-true (n % 2) 0 e, λ h. rw (lengthNumber, e))
+    by-length false e = (λ h. absurd (omega (arith, rw (lengthNumber, e) at h)), λ h. absurd (eqb-false (n % 2) 0 e h))
 
--- A block that is accepted has an accepted record and an even length.
-pub block-accepted : (g : Generator) (n : ℕ) → blockNumber g n ≡ 0 → (recordNumber g ≡ 0) × (n % 2 ≡ 0)
-unfolding blockNumber lengthNumber
-block-accepted g n z = by-record (eqb (recordNumber g) 0) refl
-  where
-    by-length : (t : Bool) → eqb (n % 2) 0 ≡ t → lengthNumber n ≡ 0 → n % 2 ≡ 0
-    by-length true e h = eqb-true (n % 2) 0 e
-    by-length false e h = absurd (omega (arith, rw (lengthNumber, e) at h))
-
-    by-record : (t : Bool) → eqb (recordNumber g) 0 ≡ t → (recordNumber g ≡ 0) × (n % 2 ≡ 0)
-    by-record true e =
-        (eqb-true _ _ e, by-length (eqb (n % 2) 0) refl (sym (lone-cause (lengthNumber n)) ∙ rw (blockNumber, e) at z))
-    by-record false e = absurd (eqb-false _ _ e (rw (blockNumber, e) at z))
+-- A block is accepted just where its length is even and its pairs are.
+pub block-accepted : (g : Generator) (n : ℕ) → (blockNumber g n ≡ 0) ↔ ((pairsNumber g (n / 2) ≡ 0) × (n % 2 ≡ 0))
+unfolding blockNumber pairsNumber
+block-accepted g n = (
+  λ h.
+      let (fits, rest) = none-applies (recordNumber g) (lengthNumber n ∷ countNumber g (n / 2) ∷ []) h in
+      let (whole, last) = none-applies (lengthNumber n) (countNumber g (n / 2) ∷ []) rest in
+      (rw (pairsNumber, fits) last, even n .0 whole),
+  λ h.
+      let (fits, room) = pairs-accepted g (n / 2) .0 (h .0) in
+      rw (fits, even n .1 (h .1), count-room g (n / 2) .1 room),
+)
 
 -- ---- One pair
 
--- The record after a pair is the one after its two draws, refused or not.
-pub pair-next : (g : Generator) → pairOf g .next ≡ uniformsOf g .next
-unfolding pairOf
-pair-next g = refl
+-- A pair's number is that of its two draws, which is that of one pair.
+pub pair-number : (g : Generator) → pairOf g .number ≡ pairsNumber g 1
+unfolding pairOf uniformsOf
+pair-number g = refl
 
 -- ---- The samples of n pairs
 
@@ -78,7 +80,7 @@ accepts : (k v : ℕ) → k < 2 ^ 48 → v < 65536 → samplesOf k v ≡ record 
 unfolding samplesOf
 accepts k v hk hv = rw (samplesOf, lt-leb (2 ^ 48) k hk, le-ltb 65535 v (omega arith))
 
-pub pair-is : (g : Generator) → Sound g
+pub pair-is : (g : Generator) → Sound g → pairsNumber g 1 ≡ 0
     → pairOf g
     ≡ record {
       number = 0;
@@ -87,18 +89,21 @@ pub pair-is : (g : Generator) → Sound g
       next = uniformsOf g .next;
     }
 unfolding pairOf
-pair-is g h =
+pair-is g h e =
     let (hk, hv) = numbers-bounded g h in
-    let accepted : uniformsOf g .number ≡ 0 = ap (λ (u : Uniforms). u .number) (uniforms-accepted g h) in
+    let accepted : uniformsOf g .number ≡ 0 = ap (λ (u : Uniforms). u .number) (uniforms-accepted g e) in
     rw (pairOf, accepted, accepts (uniformsOf g .k) (uniformsOf g .v) hk hv)
 
-pub samples-numbers : (n : ℕ) (g : Generator) → Sound g → samples n g ≡ samplesAt (numbers n g)
+-- Where the count has room for n pairs, the samples are those of their numbers.
+pub samples-numbers : (n : ℕ) (g : Generator) → Sound g → g .count + n ≤ mostCount → samples n g ≡ samplesAt (numbers n g)
 unfolding samples numbers samplesAt
-samples-numbers zero g h = refl
-samples-numbers (suc n) g h =
+samples-numbers zero g h room = refl
+samples-numbers (suc n) g h room =
     let (hk, hv) = numbers-bounded g h in
     let high : (uniformsOf g .k * 65536 + uniformsOf g .v) / 65536 ≡ uniformsOf g .k = omega (arith, hv) in
     let low : (uniformsOf g .k * 65536 + uniformsOf g .v) % 65536 ≡ uniformsOf g .v = omega (arith, hv) in
-    rw (pair-is g h, high, low)
+    let accepted : pairsNumber g 1 ≡ 0 = pairs-accepted g 1 .1 (sound-accepted g h, omega arith) in
+    let next-is : uniformsOf g .next ≡ moved 1 g = ap (λ (u : Uniforms). u .next) (uniforms-accepted g accepted) in
+    rw (pair-is g h accepted, high, low)
     (ap (λ (l : List ℤ). firstOf (uniformsOf g .k) (uniformsOf g .v) ∷ secondOf (uniformsOf g .k) (uniformsOf g .v) ∷ l)
-    (samples-numbers n (uniformsOf g .next) (next-sound g h)))
+    (samples-numbers n (uniformsOf g .next) (next-sound g h) (rw next-is (omega arith))))

@@ -1,108 +1,153 @@
--- What is proved of runs of calls: accepted stays accepted, and every draw and every pair is L'Ecuyer's. `Sound g` says that g is
--- accepted and its registers have 32 bits.
-use mathlib.Core.Path.{_≡_, refl, ap, _∙_}
+-- What is proved of runs of calls: the count, what a call may be refused for, and that every pair is L'Ecuyer's. `Sound g` says that
+-- the streams of g are fit and its registers have 32 bits.
+use mathlib.Core.Path.{_≡_, refl, sym, ap, _∙_}
 use mathlib.Core.Bool.{Bool, true, false, cond}
 use mathlib.Core.List.{List, [], _∷_}
-use Prim.Native.Nat.{ℕ, suc, _+_, _*_, _/_, _%_, _<_}
+use mathlib.Core.Logic.{_↔_}
+use Prim.Native.Nat.{ℕ, suc, _+_, _*_, _/_, _%_, _≤_, _<_}
+use native.Mathlib.Nat.{add-zero, zero-add}
+use native.Mathlib.Omega.{arith}
 use lib.Dec.{eqb}
+use borrow.Author.Tests.{eqb-true, eqb-false, ne-eqb}
 use Rattle.squares.specs.Squares.{repeat}
 use Rattle.streams.specs.declared.Stream.{Stream}
 use Rattle.streams.specs.declared.Generator.{Generator}
-use Rattle.streams.specs.Streams.{fresh, recordNumber, seedOf, drawA, drawB, uniformsOf, after, skipOf}
-use Rattle.streams.specs.Recurrence.{top, combined, InRange, Sound, moved, drawAt}
-use Rattle.streams.proofs.Theorems.{sound-accepted, seeded, moved-sound, moved-add, draw-a-moves, draw-b-moves, numbers-moves}
-use Rattle.streams.proofs.Theorems.{draw-a-is, draw-b-is, numbers-are, stream-history, after-moved}
+use Rattle.streams.specs.Streams.{fresh, recordNumber, mostCount, countNumber, firstCause, ifAccepted, pairsNumber, uniformsOf, after, skipOf}
+use Rattle.streams.specs.Recurrence.{InRange, Sound, moved, drawAt, seedFrom}
+use Rattle.streams.proofs.Causes.{lone-cause, none-applies, count-room, count-full}
+use Rattle.streams.proofs.Theorems.{sound, sound-accepted, seeded, seeded-range, fit-number, moved-sound, moved-add, after-moved, numbers-are}
 use Rattle.noise.specs.Noise.{pairOf, lengthNumber, blockNumber, blockOf}
-use Rattle.noise.specs.Runs.{Call, numberOf, nextOf, run, sumOver, fromA, fromB, drawsA, drawsB, ownNumber}
-use Rattle.noise.specs.Runs.Call.{draw-a, draw-b, numbers, a-pair, a-block, a-skip}
-use Rattle.noise.proofs.Laws.{lone-cause, pair-next}
+use Rattle.noise.specs.Runs.{Call, numberOf, nextOf, run, sumOver, pairsIn, handed, ownNumber}
+use Rattle.noise.specs.Runs.Call.{numbers, a-pair, a-block, a-skip}
 
--- ---- Accepted stays accepted
+-- ---- One call
 
--- A call on an accepted record is refused for its own cause, and for nothing else.
-pub accepted-number : (c : Call) (g : Generator) → Sound g → numberOf c g ≡ ownNumber c
-unfolding numberOf drawA drawB uniformsOf pairOf blockOf blockNumber skipOf ownNumber
-accepted-number draw-a g h = sound-accepted g h
-accepted-number draw-b g h = sound-accepted g h
-accepted-number numbers g h = sound-accepted g h
-accepted-number a-pair g h = sound-accepted g h
-accepted-number (a-block n) g h = rw (sound-accepted g h) (lone-cause (lengthNumber n))
-accepted-number (a-skip n) g h = sound-accepted g h
+-- A call on fit streams is refused for its own arguments, then for the count, and for nothing else.
+pub fit-call : (c : Call) (g : Generator) → Sound g → numberOf c g ≡ firstCause (ownNumber c ∷ countNumber g (pairsIn c) ∷ [])
+unfolding numberOf uniformsOf pairOf blockOf blockNumber skipOf ownNumber pairsIn
+fit-call numbers g h = fit-number g 1 h ∙ sym (lone-cause _)
+fit-call a-pair g h = fit-number g 1 h ∙ sym (lone-cause _)
+fit-call (a-block n) g h = rw (sound-accepted g h)
+fit-call (a-skip n) g h = fit-number g n h ∙ sym (lone-cause _)
 
--- m pairs on, or not.
-pairs-moved : (t : Bool) (m : ℕ) (g : Generator) → Sound g → cond t (after m g) g ≡ moved (cond t m 0) (cond t m 0) g
-unfolding repeat
-pairs-moved true m g h = after-moved m g h
-pairs-moved false m g h = refl
+pub accepted-room : (c : Call) (g : Generator) → Sound g → numberOf c g ≡ 0 → g .count + pairsIn c ≤ mostCount
+accepted-room c g h e =
+    let (own, rest) = none-applies (ownNumber c) (countNumber g (pairsIn c) ∷ []) (sym (fit-call c g h) ∙ e) in
+    count-room g (pairsIn c) .0 (sym (lone-cause _) ∙ rest)
 
--- A call on an accepted record moves each stream as far as it says.
-pub call-moves : (c : Call) (g : Generator) → Sound g → nextOf c g ≡ moved (drawsA c g) (drawsB c g) g
-unfolding nextOf drawsA drawsB fromA fromB ownNumber
-call-moves draw-a g h = rw (accepted-number draw-a g h) (draw-a-moves g h)
-call-moves draw-b g h = rw (accepted-number draw-b g h) (draw-b-moves g h)
-call-moves numbers g h = rw (accepted-number numbers g h) (numbers-moves g h)
-call-moves a-pair g h = rw (accepted-number a-pair g h, pair-next g) (numbers-moves g h)
-call-moves (a-block n) g h = unfold blockOf numberOf in pairs-moved (eqb (blockNumber g n) 0) (n / 2) g h
-call-moves (a-skip n) g h = unfold skipOf numberOf in pairs-moved (eqb (recordNumber g) 0) n g h
+once-or-not : (t : Bool) (x y : Generator) → cond t x y ≡ cond t (cond t x y) y
+once-or-not true x y = refl
+once-or-not false x y = refl
+
+-- A call returns the record as many pairs on as it asks for, or, refused, the record passed in.
+pub next-is : (c : Call) (g : Generator) → nextOf c g ≡ ifAccepted (numberOf c g) (after (pairsIn c) g) g
+unfolding nextOf numberOf pairsIn uniformsOf pairOf blockOf skipOf after
+next-is numbers g = once-or-not (eqb (pairsNumber g 1) 0) _ _
+next-is a-pair g = once-or-not (eqb (pairsNumber g 1) 0) _ _
+next-is (a-block n) g = refl
+next-is (a-skip n) g = refl
+
+-- A call on fit streams moves both streams and the count by the pairs that it hands out or skips.
+pub call-moves : (c : Call) (g : Generator) → Sound g → nextOf c g ≡ moved (handed c g) g
+unfolding handed repeat
+call-moves c g h = next-is c g ∙ by-test (eqb (numberOf c g) 0) refl
+  where
+    by-test : (t : Bool) → eqb (numberOf c g) 0 ≡ t → cond t (after (pairsIn c) g) g ≡ moved (cond t (pairsIn c) 0) g
+    by-test true e = after-moved (pairsIn c) g h (accepted-room c g h (eqb-true _ _ e))
+    by-test false e = rw (add-zero (g .count))
 
 pub call-sound : (c : Call) (g : Generator) → Sound g → Sound (nextOf c g)
-call-sound c g h = rw (call-moves c g h) (moved-sound (drawsA c g) (drawsB c g) g h)
+call-sound c g h = rw (call-moves c g h) (moved-sound (handed c g) g h)
 
--- A record once accepted is accepted after any run of calls,
+-- A call on unfit streams is refused with the record's number,
+pub unfit-call : (c : Call) (g : Generator) → (recordNumber g ≡ 0 → ⊥) → numberOf c g ≡ recordNumber g
+unfolding numberOf uniformsOf pairOf blockOf blockNumber skipOf pairsNumber
+unfit-call numbers g h = rw (ne-eqb (recordNumber g) 0 h)
+unfit-call a-pair g h = rw (ne-eqb (recordNumber g) 0 h)
+unfit-call (a-block n) g h = rw (ne-eqb (recordNumber g) 0 h)
+unfit-call (a-skip n) g h = rw (ne-eqb (recordNumber g) 0 h)
+
+-- hands out nothing and leaves the record.
+unfit-stays : (c : Call) (g : Generator) → (recordNumber g ≡ 0 → ⊥) → (nextOf c g ≡ g) × (handed c g ≡ 0)
+unfolding handed
+unfit-stays c g h = (next-is c g ∙ rw (unfit-call c g h, ne-eqb _ _ h), rw (unfit-call c g h, ne-eqb _ _ h))
+
+-- ---- Runs of calls, each passed what the one before returned
+
+-- After any run both streams and the count have moved by the pairs that the accepted calls of the run handed out or skipped.
+pub run-moved : (l : List Call) (g : Generator) → Sound g → run l g ≡ moved (sumOver handed l g) g
+unfolding run sumOver repeat
+run-moved [] g h = rw (add-zero (g .count))
+run-moved (c ∷ l) g h =
+    let rest = sumOver handed l (nextOf c g) in
+    run-moved l (nextOf c g) (call-sound c g h) ∙ ap (moved rest) (call-moves c g h) ∙ moved-add (handed c g) rest g
+
 pub run-sound : (l : List Call) (g : Generator) → Sound g → Sound (run l g)
-unfolding run
-run-sound [] g h = h
-run-sound (c ∷ l) g h = run-sound l (nextOf c g) (call-sound c g h)
+run-sound l g h = rw (run-moved l g h) (moved-sound (sumOver handed l g) g h)
 
--- so no later call is refused for it: a block for its length alone, any other call never.
-pub never-refused : (l : List Call) (c : Call) (g : Generator) → Sound g → numberOf c (run l g) ≡ ownNumber c
-never-refused l c g h = accepted-number c (run l g) (run-sound l g h)
+-- A run on unfit streams leaves the record, and hands out nothing.
+run-unfit : (l : List Call) (g : Generator) → (recordNumber g ≡ 0 → ⊥) → (run l g ≡ g) × (sumOver handed l g ≡ 0)
+unfolding run sumOver
+run-unfit [] g h = (refl, refl)
+run-unfit (c ∷ l) g h =
+    let (same, none) = unfit-stays c g h in
+    let (rest-same, rest-none) = run-unfit l g h in
+    (rw same rest-same, rw (none, same, rest-none))
 
--- From seeding on: once six numbers are accepted, every call of every run is refused for its own cause alone.
-pub from-seeding : (a b : Stream) → InRange a → InRange b
-    → seedOf (a .s0) (a .s1) (a .s2) (b .s0) (b .s1) (b .s2) .number ≡ 0
+-- The count, after any run on any record: what it was, and the pairs handed out or skipped since.
+pub run-count : (l : List Call) (g : Generator) → InRange (g .a) → InRange (g .b) → run l g .count ≡ g .count + sumOver handed l g
+run-count l g ra rb = by-test (eqb (recordNumber g) 0) refl
+  where
+    by-test : (t : Bool) → eqb (recordNumber g) 0 ≡ t → run l g .count ≡ g .count + sumOver handed l g
+    by-test true e = ap (λ (r : Generator). r .count) (run-moved l g (sound g ra rb (eqb-true _ _ e)))
+    by-test false e =
+        let (same, none) = run-unfit l g (eqb-false _ _ e) in
+        rw (same, none, add-zero (g .count))
+
+-- From seeding on, accepted or refused: the count is the pairs handed out plus those skipped, by the accepted calls of the run.
+pub count-from-seeding : (a b : Stream) → InRange a → InRange b → (l : List Call)
+    → run l (seedFrom a b .next) .count ≡ sumOver handed l (seedFrom a b .next)
+count-from-seeding a b ra rb l =
+    let (na, nb, zero-count) = seeded-range a b ra rb in
+    run-count l (seedFrom a b .next) na nb ∙ rw (zero-count, zero-add (sumOver handed l (seedFrom a b .next)))
+
+-- A generator once accepted is later refused only for the call's own arguments, or for its count,
+pub never-refused : (l : List Call) (c : Call) (g : Generator) → Sound g
+    → numberOf c (run l g) ≡ firstCause (ownNumber c ∷ countNumber (run l g) (pairsIn c) ∷ [])
+never-refused l c g h = fit-call c (run l g) (run-sound l g h)
+
+-- for its count just where the sum would pass the most;
+pub full-just-where : (l : List Call) (c : Call) (g : Generator) → Sound g → ownNumber c ≡ 0
+    → (numberOf c (run l g) ≡ 13) ↔ (mostCount < g .count + sumOver handed l g + pairsIn c)
+full-just-where l c g h own =
+    let number-is : numberOf c (run l g) ≡ countNumber (run l g) (pairsIn c)
+    = never-refused l c g h ∙ rw own (lone-cause _) in
+    rw (number-is, ← run-count l g (h .range-a) (h .range-b)) (count-full (run l g) (pairsIn c))
+
+-- and so from seeding on: once six numbers are accepted, every call of every run.
+pub from-seeding : (a b : Stream) → InRange a → InRange b → seedFrom a b .number ≡ 0
     → (l : List Call) (c : Call)
-    → numberOf c (run l (seedOf (a .s0) (a .s1) (a .s2) (b .s0) (b .s1) (b .s2) .next)) ≡ ownNumber c
+    → numberOf c (run l (seedFrom a b .next)) ≡ firstCause (ownNumber c ∷ countNumber (run l (seedFrom a b .next)) (pairsIn c) ∷ [])
 from-seeding a b ra rb h l c =
     let (is-fresh, is-sound) = seeded a b ra rb h in
     rw is-fresh (never-refused l c (fresh a b) is-sound)
 
 -- ---- Demand 2, over the whole history
 
--- After any run each stream has moved as far as the calls of the run have moved it, whatever was done with the other.
-pub run-moved : (l : List Call) (g : Generator) → Sound g → run l g ≡ moved (sumOver drawsA l g) (sumOver drawsB l g) g
-unfolding run sumOver repeat
-run-moved [] g h = refl
-run-moved (c ∷ l) g h =
-    let a = sumOver drawsA l (nextOf c g) in
-    let b = sumOver drawsB l (nextOf c g) in
-    run-moved l (nextOf c g) (call-sound c g h)
-    ∙ ap (moved a b) (call-moves c g h)
-    ∙ moved-add (drawsA c g) (drawsB c g) a b g
-
--- Each bit of each draw after any run is L'Ecuyer's: from a,
-pub draw-a-history : (l : List Call) (g : Generator) → Sound g → (i : ℕ) → i < 32
-    → top (drawA (run l g) .draw) i ≡ combined (g .a) (suc (sumOver drawsA l g)) i
-draw-a-history l g h i hi =
-    rw (run-moved l g h, draw-a-is (sumOver drawsA l g) (sumOver drawsB l g) g h)
-    (stream-history (g .a) (h .range-a) (sumOver drawsA l g) i hi)
-
--- and from b;
-pub draw-b-history : (l : List Call) (g : Generator) → Sound g → (i : ℕ) → i < 32
-    → top (drawB (run l g) .draw) i ≡ combined (g .b) (suc (sumOver drawsB l g)) i
-draw-b-history l g h i hi =
-    rw (run-moved l g h, draw-b-is (sumOver drawsA l g) (sumOver drawsB l g) g h)
-    (stream-history (g .b) (h .range-b) (sumOver drawsB l g) i hi)
-
--- and the numbers of each pair are those of its two draws, whose bits are L'Ecuyer's by `stream-history`.
-pub pair-history : (l : List Call) (g : Generator) → Sound g
+-- The numbers of each accepted pair after any run are those of the next draw of both streams, whose bits are L'Ecuyer's by
+-- `stream-history`.
+pub pair-history : (l : List Call) (g : Generator) → Sound g → numberOf numbers (run l g) ≡ 0
     → (uniformsOf (run l g) .k
-    ≡ drawAt (g .a) (suc (sumOver drawsA l g)) * 65536 + drawAt (g .b) (suc (sumOver drawsB l g)) / 65536)
-    × (uniformsOf (run l g) .v ≡ drawAt (g .b) (suc (sumOver drawsB l g)) % 65536)
-pair-history l g h = rw (run-moved l g h) (numbers-are (sumOver drawsA l g) (sumOver drawsB l g) g h)
+    ≡ drawAt (g .a) (suc (sumOver handed l g)) * 65536 + drawAt (g .b) (suc (sumOver handed l g)) / 65536)
+    × (uniformsOf (run l g) .v ≡ drawAt (g .b) (suc (sumOver handed l g)) % 65536)
+unfolding pairsIn
+pair-history l g h e =
+    let room = accepted-room numbers (run l g) (run-sound l g h) e in
+    let here : g .count + sumOver handed l g < mostCount = omega (arith, room, run-count l g (h .range-a) (h .range-b)) in
+    rw (run-moved l g h) (numbers-are (sumOver handed l g) g h here)
 
 -- Pair n + 1 of a block has draw n + 1 of both streams.
-pub block-history : (n : ℕ) (g : Generator) → Sound g
+pub block-history : (n : ℕ) (g : Generator) → Sound g → g .count + n < mostCount
     → (uniformsOf (after n g) .k ≡ drawAt (g .a) (suc n) * 65536 + drawAt (g .b) (suc n) / 65536)
     × (uniformsOf (after n g) .v ≡ drawAt (g .b) (suc n) % 65536)
-block-history n g h = rw (after-moved n g h) (numbers-are n n g h)
+block-history n g h room = rw (after-moved n g h (omega arith)) (numbers-are n g h room)

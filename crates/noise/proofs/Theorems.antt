@@ -1,5 +1,5 @@
 -- What is proved of pairs and blocks. `Sound g` says that g is accepted and its registers have 32 bits. Runs of calls are in `Runs`.
-use mathlib.Core.Path.{_≡_, refl, ap}
+use mathlib.Core.Path.{_≡_, refl, sym, ap, _∙_}
 use mathlib.Core.Bool.{Bool, true, false, cond}
 use mathlib.Core.List.{List, [], _∷_, _++_, map}
 use Prim.Native.Nat.{ℕ, zero, suc, _+_, _*_, _/_, _%_, _≤_, _<_}
@@ -8,12 +8,13 @@ use lib.IntN.{ℤ, pos, natAbs}
 use lib.Dec.{eqb}
 use lib.ListN.{length, getD, drop, length-append}
 use lib.Seq.{drop-at}
-use borrow.Author.Tests.{eq-eqb}
 use Rattle.exact.specs.Pair.{Close}
 use Rattle.streams.specs.declared.Generator.{Generator}
-use Rattle.streams.specs.Streams.{recordNumber, uniformsOf, after, skipOf}
-use Rattle.streams.specs.Recurrence.{Sound}
-use Rattle.streams.proofs.Theorems.{sound-accepted, after-add, after-sound, numbers-bounded}
+use Rattle.streams.specs.declared.RecordAnswer.{RecordAnswer}
+use Rattle.streams.specs.Streams.{mostCount, uniformsOf, after, skipOf}
+use Rattle.streams.specs.Recurrence.{Sound, moved}
+use Rattle.streams.proofs.Theorems.{sound-accepted, pairs-accepted, moved-sound, moved-add, after-sound, after-moved, numbers-bounded}
+use Rattle.streams.proofs.Skip.{skip-accepted, skip-moves}
 use Rattle.streams.proofs.Theorems.{readings as draw-readings}
 use Rattle.radius.specs.Steps.{width}
 use Rattle.sample.specs.Steps.{fractionBits}
@@ -22,69 +23,80 @@ use Rattle.sample.specs.Readings.{Reading, readings, readings-hold}
 use Rattle.sample.specs.declared.Samples.{Samples}
 use Rattle.sample.proofs.Closeness.{samples-close}
 use Rattle.sample.proofs.Theorems.{theorems}
-use Rattle.noise.specs.Noise.{pairOf, samples, lengthNumber, blockNumber, blockOf, blockHolds}
+use Rattle.noise.specs.Noise.{pairOf, samples, blockNumber, blockOf, blockHolds}
 use Rattle.noise.specs.Readings.{Check, of-samples, of-draw, AllHold, twelve}
-use Rattle.noise.proofs.Laws.{pair-is, samples-add, length-samples}
+use Rattle.noise.proofs.Laws.{block-accepted, pair-number, pair-is, samples-add, length-samples}
 
 -- ---- Blocks
 
--- A block of even length on an accepted record holds the samples of half as many pairs, whatever it held before,
-pub block-holds : (g : Generator) (old : List ℤ) → recordNumber g ≡ 0 → length old % 2 ≡ 0
-    → blockHolds g old ≡ samples (length old / 2) g
-unfolding blockHolds blockNumber lengthNumber
-block-holds g old h e = rw (blockHolds, blockNumber, h, lengthNumber, eq-eqb _ _ e)
+-- An accepted block holds the samples of half as many pairs, whatever it held before,
+pub block-holds : (g : Generator) (old : List ℤ) → blockNumber g (length old) ≡ 0 → blockHolds g old ≡ samples (length old / 2) g
+unfolding blockHolds
+block-holds g old e = rw (blockHolds, e)
 
--- and returns the record as many pairs on.
-pub block-next : (g : Generator) (n : ℕ) → recordNumber g ≡ 0 → n % 2 ≡ 0
-    → blockOf g n ≡ record { number = 0; next = after (n / 2) g }
-unfolding blockOf blockNumber lengthNumber
-block-next g n h e = rw (blockOf, blockNumber, h, lengthNumber, eq-eqb _ _ e)
+-- and leaves the streams and the count as many pairs on.
+pub block-moves : (g : Generator) (n : ℕ) → Sound g → blockNumber g n ≡ 0 → blockOf g n ≡ record { number = 0; next = moved (n / 2) g }
+unfolding blockOf
+block-moves g n h e =
+    let (fits, room) = pairs-accepted g (n / 2) .0 (block-accepted g n .0 e .0) in
+    rw (blockOf, e, after-moved (n / 2) g h room)
 
--- A block of n + m is a block of n and then one of m on the record returned: the samples,
-pub blocks-hold : (g : Generator) (x y : List ℤ) → Sound g → length x % 2 ≡ 0 → length y % 2 ≡ 0
+-- Two blocks are accepted, one after the other, where each is even and one of their sum is accepted,
+pub blocks-accepted : (g : Generator) (n m : ℕ) → Sound g → n % 2 ≡ 0 → blockNumber g (n + m) ≡ 0
+    → (blockNumber g n ≡ 0) × (blockNumber (blockOf g n .next) m ≡ 0)
+blocks-accepted g n m h en e =
+    let (pairs, whole) = block-accepted g (n + m) .0 e in
+    let (fits, room) = pairs-accepted g ((n + m) / 2) .0 pairs in
+    let first : blockNumber g n ≡ 0 = block-accepted g n .1 (pairs-accepted g (n / 2) .1 (fits, omega arith), en) in
+    let fits-after = sound-accepted _ (moved-sound (n / 2) g h) in (
+      first,
+      rw (block-moves g n h first)
+          (block-accepted (moved (n / 2) g) m .1 (pairs-accepted _ (m / 2) .1 (fits-after, omega arith), omega arith)),
+    )
+
+-- and a block of n + m is then a block of n and one of m on the record returned: the samples,
+pub blocks-hold : (g : Generator) (x y : List ℤ) → Sound g → length x % 2 ≡ 0 → blockNumber g (length (x ++ y)) ≡ 0
     → blockHolds g (x ++ y) ≡ blockHolds g x ++ blockHolds (blockOf g (length x) .next) y
-blocks-hold g x y h ex ey =
+blocks-hold g x y h ex e =
     let n = length x / 2 in
     let m = length y / 2 in
+    let (first, second) = blocks-accepted g (length x) (length y) h ex (rw (length-append x y) at e) in
     let size : length (x ++ y) / 2 ≡ n + m = rw (length-append x y) (omega arith) in
-    rw (
-      block-holds g (x ++ y) (sound-accepted g h) (rw (length-append x y) (omega arith)),
-      block-holds g x (sound-accepted g h) ex,
-      block-next g (length x) (sound-accepted g h) ex,
-      block-holds (after n g) y (sound-accepted _ (after-sound n g h)) ey,
-      size,
-    )
-    (samples-add n m g)
+    let (fits, room) = pairs-accepted g n .0 (block-accepted g (length x) .0 first .0) in
+    rw (block-holds g (x ++ y) e, block-holds g x first, block-holds (blockOf g (length x) .next) y second, size, samples-add n m g)
+    (ap (λ (next : Generator). samples n g ++ samples m next)
+    (after-moved n g h room ∙ sym (ap (λ (r : RecordAnswer). r .next) (block-moves g (length x) h first))))
 
 -- and the record.
-pub blocks-next : (g : Generator) (n m : ℕ) → Sound g → n % 2 ≡ 0 → m % 2 ≡ 0
+pub blocks-next : (g : Generator) (n m : ℕ) → Sound g → n % 2 ≡ 0 → blockNumber g (n + m) ≡ 0
     → blockOf g (n + m) ≡ blockOf (blockOf g n .next) m
-blocks-next g n m h en em =
-    let half : (n + m) / 2 ≡ n / 2 + m / 2 = omega arith in
-    rw (
-      block-next g (n + m) (sound-accepted g h) (omega arith),
-      block-next g n (sound-accepted g h) en,
-      block-next (after (n / 2) g) m (sound-accepted _ (after-sound (n / 2) g h)) em,
-      half,
-      after-add (n / 2) (m / 2) g,
-    )
+blocks-next g n m h en e =
+    let (first, second) = blocks-accepted g n m h en e in
+    let half : n / 2 + m / 2 ≡ (n + m) / 2 = omega arith in
+    rw (block-moves g (n + m) h e, block-moves g n h first)
+    (sym (block-moves (moved (n / 2) g) m (moved-sound (n / 2) g h) (rw (block-moves g n h first) at second)
+    ∙ rw (← half) (ap (λ (next : Generator). record { number = 0; next = next }) (moved-add (n / 2) (m / 2) g))))
 
--- A block of 2 n samples after a skip of m pairs is the last 2 n of a block of 2 (m + n).
+-- A block of 2 n samples after a skip of m pairs is the last 2 n of a block of 2 (m + n), where that is accepted.
 pub skip-block : (m n : ℕ) (g : Generator) (long short : List ℤ) → Sound g → length long ≡ 2 * (m + n) → length short ≡ 2 * n
-    → blockHolds (skipOf g m .next) short ≡ drop (2 * m) (blockHolds g long)
-unfolding skipOf
-skip-block m n g long short h el es =
+    → blockNumber g (length long) ≡ 0 → blockHolds (skipOf g m .next) short ≡ drop (2 * m) (blockHolds g long)
+skip-block m n g long short h el es e =
     let whole : length long / 2 ≡ m + n = omega arith in
     let part : length short / 2 ≡ n = omega arith in
+    let (fits, room) = pairs-accepted g (length long / 2) .0 (block-accepted g (length long) .0 e .0) in
+    let first : skipOf g m .number ≡ 0 = skip-accepted m g .1 (fits, omega arith) in
+    let second : blockNumber (moved m g) (length short) ≡ 0
+    = block-accepted (moved m g) (length short) .1
+    (pairs-accepted _ (length short / 2) .1 (sound-accepted _ (moved-sound m g h), omega arith), omega arith) in
     rw (
-      skipOf,
-      sound-accepted g h,
-      block-holds (after m g) short (sound-accepted _ (after-sound m g h)) (omega arith),
-      block-holds g long (sound-accepted g h) (omega arith),
+      skip-moves m g (h .range-a) (h .range-b) first,
+      block-holds (moved m g) short second,
+      block-holds g long e,
       whole,
       part,
       samples-add m n g,
       drop-at (samples m g) (samples n (after m g)) (2 * m) (length-samples m g),
+      after-moved m g h (omega arith),
     )
 
 -- ---- Every sample is that of its pair, of bounded size, and close
@@ -120,22 +132,27 @@ samples-second (suc n) (suc i) g d h =
     let e : 2 * suc i + 1 ≡ suc (suc (2 * i + 1)) = omega arith in
     rw e (samples-second n i (pairOf g .next) d (omega arith))
 
--- Demand 3, of a pair: each sample is less than nine sixteenths of a unit from its member of the exact pair of its two numbers.
-pub pair-close : (g : Generator) → Sound g
+-- Demand 3, of an accepted pair: each sample is less than nine sixteenths of a unit from its member of the exact pair of its two numbers.
+pub pair-close : (g : Generator) → Sound g → pairOf g .number ≡ 0
     → Close nineSixteenths fractionBits width (uniformsOf g .k) (uniformsOf g .v) (pairOf g .first) (pairOf g .second)
-pair-close g h = let (hk, hv) = numbers-bounded g h in rw (pair-is g h) (samples-close (uniformsOf g .k) (uniformsOf g .v) hk hv)
+pair-close g h e =
+    let (hk, hv) = numbers-bounded g h in
+    rw (pair-is g h (rw (pair-number g) at e)) (samples-close (uniformsOf g .k) (uniformsOf g .v) hk hv)
 
--- Demand 3, of a block: so is every sample of a block from that of the pair in its place.
-pub block-close : (g : Generator) (old : List ℤ) (i : ℕ) (d : ℤ) → Sound g → length old % 2 ≡ 0 → i < length old / 2
+-- n pairs on, the next pair is accepted where the count has room for it: so is each of the 500 pairs of a job, whose count starts at 0.
+pub pair-accepted : (n : ℕ) (g : Generator) → Sound g → g .count + n < mostCount → pairOf (after n g) .number ≡ 0
+pair-accepted n g h room =
+    rw (pair-number (after n g), after-moved n g h (omega arith))
+    (pairs-accepted (moved n g) 1 .1 (sound-accepted _ (moved-sound n g h), omega arith))
+
+-- Demand 3, of an accepted block: so is every sample of it from that of the pair in its place.
+pub block-close : (g : Generator) (old : List ℤ) (i : ℕ) (d : ℤ) → Sound g → blockNumber g (length old) ≡ 0 → i < length old / 2
     → Close nineSixteenths fractionBits width (uniformsOf (after i g) .k) (uniformsOf (after i g) .v)
     (getD (blockHolds g old) (2 * i) d) (getD (blockHolds g old) (2 * i + 1) d)
 block-close g old i d h e l =
-    rw (
-      block-holds g old (sound-accepted g h) e,
-      samples-first (length old / 2) i g d l,
-      samples-second (length old / 2) i g d l,
-    )
-    (pair-close (after i g) (after-sound i g h))
+    let (fits, room) = pairs-accepted g (length old / 2) .0 (block-accepted g (length old) .0 e .0) in
+    rw (block-holds g old e, samples-first (length old / 2) i g d l, samples-second (length old / 2) i g d l)
+    (pair-close (after i g) (after-sound i g h) (pair-accepted i g h (omega arith)))
 
 -- ---- The twelve readings of document 01
 

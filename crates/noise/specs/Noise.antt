@@ -8,7 +8,7 @@ use lib.ListN.{length}
 use Rattle.streams.specs.declared.Generator.{Generator}
 use Rattle.streams.specs.declared.Uniforms.{Uniforms}
 use Rattle.streams.specs.declared.RecordAnswer.{RecordAnswer}
-use Rattle.streams.specs.Streams.{recordNumber, firstCause, ifAccepted, uniformsOf, after}
+use Rattle.streams.specs.Streams.{recordNumber, countNumber, firstCause, ifAccepted, uniformsOf, after}
 use Rattle.sample.specs.declared.Samples.{Samples}
 use Rattle.sample.specs.Sample.{samplesOf}
 use Rattle.noise.specs.declared.PairAnswer.{PairAnswer}
@@ -35,9 +35,9 @@ samples (suc n) g = pairOf g .first ∷ pairOf g .second ∷ samples n (pairOf g
 unfoldable pub lengthNumber : ℕ → ℕ
 lengthNumber n = cond (eqb (n % 2) 0) 0 4
 
--- The number of a block of n elements: the record's, and then 4.
+-- The number of a block of n elements: the record's, then 4, and then 13 for its n / 2 pairs.
 unfoldable pub blockNumber : Generator → ℕ → ℕ
-blockNumber g n = firstCause (recordNumber g ∷ lengthNumber n ∷ [])
+blockNumber g n = firstCause (recordNumber g ∷ lengthNumber n ∷ countNumber g (n / 2) ∷ [])
 
 -- A block of n elements: the record n / 2 pairs on; refused, the record passed in.
 unfoldable pub blockOf : Generator → ℕ → RecordAnswer

@@ -2,11 +2,12 @@
 ghost use mathlib.Core.Path.{_≡_};
 ghost use Prim.Native.Nat.{_+_, _*_, _/_, _%_, _≤_, min};
 ghost use lib.ListN.{length};
-ghost use Rattle.streams.specs.Streams.{recordNumber, after};
-ghost use Rattle.noise.specs.Noise.{pairOf, blockNumber, blockOf, blockHolds};
+ghost use Rattle.streams.specs.Streams.{recordNumber, pairsNumber, after};
+ghost use Rattle.noise.specs.Noise.{pairOf, lengthNumber, blockNumber, blockOf, blockHolds};
 ghost use Rattle.noise.specs.Private.{stretchLength, numbers, PairsDrawn};
 use streams::Generator;
 use streams::RecordAnswer;
+use streams::first_cause;
 
 pub struct PairAnswer {
     pub number: u32,
@@ -56,7 +57,7 @@ fn draw_numbers(g: Generator, z: &mut [u64]) -> Generator
 
 // The samples of as many pairs as z has elements, by way of their numbers in z.
 fn draw_samples(g: Generator, z: &mut [u64], out: &mut [i16]) -> Generator
-    requires { ⌜ (recordNumber g ≡ 0) × (length (now out) ≡ 2 * length (now z)) ⌝ }
+    requires { ⌜ (pairsNumber g (length (now z)) ≡ 0) × (length (now out) ≡ 2 * length (now z)) ⌝ }
     ensures { λ r. ⌜ PairsDrawn (length (now (z .entry))) g r (now (out .exit)) ⌝ }
 {
     let next = draw_numbers(g, z);
@@ -69,7 +70,7 @@ const STRETCH: usize = 1024;
 
 // A stretch: the tables are loaded once for all of its samples.
 fn stretch(g: Generator, out: &mut [i16]) -> Generator
-    requires { ⌜ (recordNumber g ≡ 0) × (length (now out) % 2 ≡ 0) × (length (now out) ≤ stretchLength) ⌝ }
+    requires { ⌜ (pairsNumber g (length (now out) / 2) ≡ 0) × (length (now out) % 2 ≡ 0) × (length (now out) ≤ stretchLength) ⌝ }
     ensures { λ r. ⌜ PairsDrawn (length (now (out .entry)) / 2) g r (now (out .exit)) ⌝ }
 {
     let mut z = [0u64; STRETCH / 2];
@@ -87,7 +88,7 @@ fn stretch_end(at: usize, n: usize) -> usize
 
 // A block of even length on an accepted record, stretch by stretch.
 fn stretches(g: Generator, out: &mut [i16]) -> Generator
-    requires { ⌜ (recordNumber g ≡ 0) × (length (now out) % 2 ≡ 0) ⌝ }
+    requires { ⌜ (pairsNumber g (length (now out) / 2) ≡ 0) × (length (now out) % 2 ≡ 0) ⌝ }
     ensures { λ r. ⌜ PairsDrawn (length (now (out .entry)) / 2) g r (now (out .exit)) ⌝ }
 {
     let mut state = g;
@@ -101,18 +102,25 @@ fn stretches(g: Generator, out: &mut [i16]) -> Generator
     state
 }
 
+// 4 for an odd length.
+fn length_number(n: usize) -> u32
+    ensures { λ r. ⌜ r ≡ lengthNumber n ⌝ }
+{
+    if n % 2 != 0 {
+        return 4;
+    }
+    0
+}
+
 // The number of a block of n elements.
 fn block_number(g: Generator, n: usize) -> u32
     ensures { λ r. ⌜ r ≡ blockNumber g n ⌝ }
 {
     let unfit = g.record_number();
-    if unfit != 0 {
-        return unfit;
-    }
-    if n % 2 != 0 {
-        return 4;
-    }
-    0
+    let odd = length_number(n);
+    let full = g.count_number((n / 2) as u64);
+    let causes = [unfit, odd, full];
+    first_cause(&causes)
 }
 
 // A block of samples, first and second of each pair alternating.

@@ -1,8 +1,9 @@
 -- Request 2: each register's step is additive, so its square gives n steps at once; a stream is its three registers; skips add up.
 use mathlib.Core.Path.{_≡_, refl, sym, ap, _∙_}
-use mathlib.Core.Bool.{Bool, true, false}
-use Prim.Native.Nat.{ℕ, _+_, _-_, _*_, _/_, _%_, _^_, _<_}
+use mathlib.Core.Logic.{_↔_}
+use Prim.Native.Nat.{ℕ, _+_, _-_, _*_, _/_, _%_, _^_, _≤_, _<_}
 use native.Mathlib.Nat.{add-comm}
+use native.Mathlib.Omega.{arith}
 use lib.Bits.{bitAnd, bitXor}
 use lib.Dec.{eqb}
 use borrow.Author.Tests.{eqb-true}
@@ -11,10 +12,11 @@ use Rattle.squares.proofs.Additive.{same-additive, word-shl-additive, shr-addit
 use Rattle.squares.proofs.Theorems.{square-repeat}
 use Rattle.streams.specs.declared.Stream.{Stream}
 use Rattle.streams.specs.declared.Generator.{Generator}
-use Rattle.streams.specs.Streams.{step, advance, recordNumber, after, skipOf}
-use Rattle.streams.specs.Recurrence.{InRange, Sound}
+use Rattle.streams.specs.declared.RecordAnswer.{RecordAnswer}
+use Rattle.streams.specs.Streams.{step, advance, recordNumber, mostCount, skipOf}
+use Rattle.streams.specs.Recurrence.{moved, InRange}
 use Rattle.streams.proofs.Register.{step-lt}
-use Rattle.streams.proofs.Theorems.{alone, sound, sound-accepted, after-add, after-sound}
+use Rattle.streams.proofs.Theorems.{alone, sound, sound-accepted, pairs-accepted, moved-sound, moved-range, moved-add, after-moved}
 
 -- ---- The register (k, q, s)
 
@@ -57,19 +59,46 @@ stream-ahead n u h =
 
 -- ---- Skips of a record
 
--- Skipping m and then n is skipping m + n, on any record, refused or not,
-pub skips-add : (m n : ℕ) (g : Generator) → InRange (g .a) → InRange (g .b) → skipOf (skipOf g m .next) n ≡ skipOf g (m + n)
+-- A skip is accepted just where the streams are fit and the count has room.
+pub skip-accepted : (n : ℕ) (g : Generator) → (skipOf g n .number ≡ 0) ↔ ((recordNumber g ≡ 0) × (g .count + n ≤ mostCount))
 unfolding skipOf
-skips-add m n g ra rb = by-test (eqb (recordNumber g) 0) refl
-  where
-    by-test : (t : Bool) → eqb (recordNumber g) 0 ≡ t → skipOf (skipOf g m .next) n ≡ skipOf g (m + n)
-    by-test true e =
-        let z : recordNumber g ≡ 0 = eqb-true _ _ e in
-        let reached : recordNumber (after m g) ≡ 0 = sound-accepted _ (after-sound m g (sound g ra rb z)) in
-        rw (skipOf, z, skipOf, reached, after-add m n g)
-    by-test false e = rw (skipOf, e, skipOf, e)
+skip-accepted n g = pairs-accepted g n
+
+-- It then leaves both streams and the count n pairs on.
+pub skip-moves : (n : ℕ) (g : Generator) → InRange (g .a) → InRange (g .b) → skipOf g n .number ≡ 0
+    → skipOf g n ≡ record { number = 0; next = moved n g }
+unfolding skipOf
+skip-moves n g ra rb e =
+    let (fits, room) = pairs-accepted g n .0 e in
+    rw (skipOf, e, after-moved n g (sound g ra rb fits) room)
+
+-- Two skips are accepted, one after the other, just where one of their sum is.
+pub skips-accepted : (m n : ℕ) (g : Generator) → InRange (g .a) → InRange (g .b)
+    → ((skipOf g m .number ≡ 0) × (skipOf (skipOf g m .next) n .number ≡ 0)) ↔ (skipOf g (m + n) .number ≡ 0)
+skips-accepted m n g ra rb = (
+  λ h.
+      let (fits, room) = skip-accepted m g .0 (h .0) in
+      let (_, room-after) = skip-accepted n (moved m g) .0 (rw (skip-moves m g ra rb (h .0)) at (h .1)) in
+      skip-accepted (m + n) g .1 (fits, omega arith),
+  λ h.
+      let (fits, room) = skip-accepted (m + n) g .0 h in
+      let first : skipOf g m .number ≡ 0 = skip-accepted m g .1 (fits, omega arith) in
+      let fits-after = sound-accepted _ (moved-sound m g (sound g ra rb fits)) in
+      (first, rw (skip-moves m g ra rb first) (skip-accepted n (moved m g) .1 (fits-after, omega arith))),
+)
+
+-- Skipping m and then n is then skipping m + n,
+pub skips-add : (m n : ℕ) (g : Generator) → InRange (g .a) → InRange (g .b) → skipOf g (m + n) .number ≡ 0
+    → skipOf (skipOf g m .next) n ≡ skipOf g (m + n)
+skips-add m n g ra rb h =
+    let (first, second) = skips-accepted m n g ra rb .1 h in
+    let (ma, mb) = moved-range m g ra rb in
+    rw (skip-moves (m + n) g ra rb h, skip-moves m g ra rb first)
+    (skip-moves n (moved m g) ma mb (rw (skip-moves m g ra rb first) at second)
+    ∙ ap (λ (next : Generator). record { number = 0; next = next }) (moved-add m n g))
 
 -- so it is skipping n and then m.
-pub skips-swap : (m n : ℕ) (g : Generator) → InRange (g .a) → InRange (g .b)
+pub skips-swap : (m n : ℕ) (g : Generator) → InRange (g .a) → InRange (g .b) → skipOf g (m + n) .number ≡ 0
     → skipOf (skipOf g m .next) n ≡ skipOf (skipOf g n .next) m
-skips-swap m n g ra rb = skips-add m n g ra rb ∙ rw (add-comm m n) (sym (skips-add n m g ra rb))
+skips-swap m n g ra rb h =
+    skips-add m n g ra rb h ∙ rw (add-comm m n) (sym (skips-add n m g ra rb (rw (add-comm n m) h)))

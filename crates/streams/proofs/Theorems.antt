@@ -2,9 +2,10 @@
 -- Runs of calls are in `noise`, which has all of them.
 use mathlib.Core.Path.{_≡_, refl, sym, ap, _∙_}
 use mathlib.Core.Bool.{Bool, true, false, cond, _&&_, true≢false}
+use mathlib.Core.List.{[], _∷_}
 use mathlib.Core.Logic.{_↔_, _⊎_, inl, inr}
-use Prim.Native.Nat.{ℕ, zero, suc, _+_, _*_, _/_, _%_, _^_, _<_}
-use native.Mathlib.Nat.{zero-add, suc-add}
+use Prim.Native.Nat.{ℕ, zero, suc, _+_, _*_, _/_, _%_, _^_, _≤_, _<_}
+use native.Mathlib.Nat.{add-zero, zero-add, suc-add, add-assoc}
 use native.Mathlib.Numerals.{add-one}
 use native.Mathlib.Omega.{arith}
 use lib.Bits.{bitXor, xor-lt}
@@ -14,10 +15,11 @@ use Rattle.squares.specs.Squares.{repeat}
 use Rattle.squares.proofs.Theorems.{repeat-add}
 use Rattle.streams.specs.declared.Stream.{Stream}
 use Rattle.streams.specs.declared.Generator.{Generator}
-use Rattle.streams.specs.declared.Drawn.{Drawn}
 use Rattle.streams.specs.declared.Uniforms.{Uniforms}
-use Rattle.streams.specs.Streams.{step, advance, output, fit, fresh, withStreams, recordNumber, seedOf, drawA, drawB, uniformsOf, after}
-use Rattle.streams.specs.Recurrence.{top, sequence, combined, Params, drawAt, moved, InRange, Minima, Sound}
+use Rattle.streams.specs.Streams.{step, advance, output, fit, fresh, recordNumber, mostCount, countNumber, firstCause, seedOf}
+use Rattle.streams.specs.Streams.{pairsNumber, uniformsOf, after}
+use Rattle.streams.specs.Recurrence.{top, sequence, combined, Params, drawAt, moved, seedFrom, InRange, Minima, Sound}
+use Rattle.streams.proofs.Causes.{lone-cause, none-applies, count-room, count-full}
 use Rattle.streams.proofs.Register.{step-lt, history, minimum-kept, one-to-one-reached, top-xor, sequence-starts}
 use Rattle.streams.proofs.Register.{sequence-follows}
 
@@ -181,11 +183,27 @@ sound g ra rb h =
 pub sound-accepted : (g : Generator) → Sound g → recordNumber g ≡ 0
 sound-accepted g h = accepted-minima g .1 (h .minima-a, h .minima-b)
 
--- A record that seeding accepts is the one of its six numbers, and is accepted by every call.
-pub seeded : (a b : Stream) → InRange a → InRange b → seedOf (a .s0) (a .s1) (a .s2) (b .s0) (b .s1) (b .s2) .number ≡ 0
-    → (seedOf (a .s0) (a .s1) (a .s2) (b .s0) (b .s1) (b .s2) .next ≡ fresh a b) × Sound (fresh a b)
+-- A record that seeding accepts is the one of its six numbers, and its streams are fit.
+pub seeded : (a b : Stream) → InRange a → InRange b → seedFrom a b .number ≡ 0
+    → (seedFrom a b .next ≡ fresh a b) × Sound (fresh a b)
 unfolding seedOf
 seeded a b ra rb h = (rw h, sound (fresh a b) ra rb h)
+
+-- Accepted or refused, it has registers of 32 bits and the count 0.
+pub seeded-range : (a b : Stream) → InRange a → InRange b
+    → InRange (seedFrom a b .next .a) × InRange (seedFrom a b .next .b) × (seedFrom a b .next .count ≡ 0)
+unfolding seedOf
+seeded-range a b ra rb = by-test (eqb (recordNumber (fresh a b)) 0)
+  where
+    none : Stream
+    none = record { s0 = 0; s1 = 0; s2 = 0 }
+
+    by-test : (t : Bool)
+        → InRange (cond t (fresh a b) (fresh none none) .a)
+        × InRange (cond t (fresh a b) (fresh none none) .b)
+        × (cond t (fresh a b) (fresh none none) .count ≡ 0)
+    by-test true = (ra, rb, refl)
+    by-test false = (omega arith, omega arith, refl)
 
 -- however far the streams are moved
 repeat-kept : (P : Stream → Type 0) → ((u : Stream) → P u → P (advance u)) → (t : ℕ) (u : Stream) → P u → P (repeat advance t u)
@@ -196,35 +214,93 @@ repeat-kept P keeps (suc t) u h = repeat-kept P keeps t (advance u) (keeps u h)
 abbrev Fit : Stream → Type 0
 Fit u = InRange u × Minima u
 
-pub moved-sound : (m n : ℕ) (g : Generator) → Sound g → Sound (moved m n g)
-moved-sound m n g h =
+pub moved-range : (n : ℕ) (g : Generator) → InRange (g .a) → InRange (g .b) → InRange (moved n g .a) × InRange (moved n g .b)
+moved-range n g ra rb = (repeat-kept InRange advance-range n (g .a) ra, repeat-kept InRange advance-range n (g .b) rb)
+
+pub moved-sound : (n : ℕ) (g : Generator) → Sound g → Sound (moved n g)
+moved-sound n g h =
     let fit-advance : (u : Stream) → Fit u → Fit (advance u) = λ u w. (advance-range u (w .0), advance-minima u (w .0) (w .1)) in
-    let fa : Fit (repeat advance m (g .a)) = repeat-kept Fit fit-advance m (g .a) (h .range-a, h .minima-a) in
+    let fa : Fit (repeat advance n (g .a)) = repeat-kept Fit fit-advance n (g .a) (h .range-a, h .minima-a) in
     let fb : Fit (repeat advance n (g .b)) = repeat-kept Fit fit-advance n (g .b) (h .range-b, h .minima-b) in
     record { range-a = fa .0; range-b = fb .0; minima-a = fa .1; minima-b = fb .1 }
 
--- ---- Each call on an accepted record draws from its own streams, and leaves the other where it is.
+-- n draws after m are m + n draws, of both streams, and so is the count.
+pub moved-add : (m n : ℕ) (g : Generator) → moved n (moved m g) ≡ moved (m + n) g
+moved-add m n g =
+    λ i. record { a = repeat-add advance m n (g .a) i; b = repeat-add advance m n (g .b) i; count = add-assoc (g .count) m n i }
 
-pub draw-a-moves : (g : Generator) → Sound g → drawA g .next ≡ moved 1 0 g
-unfolding drawA repeat
-draw-a-moves g h = rw (sound-accepted g h)
+-- ---- The count
 
-pub draw-b-moves : (g : Generator) → Sound g → drawB g .next ≡ moved 0 1 g
-unfolding drawB repeat
-draw-b-moves g h = rw (sound-accepted g h)
+-- The number of a call on fit streams is its count's alone.
+pub fit-number : (g : Generator) (n : ℕ) → Sound g → pairsNumber g n ≡ countNumber g n
+unfolding pairsNumber
+fit-number g n h = rw (sound-accepted g h) (lone-cause (countNumber g n))
 
-pub numbers-moves : (g : Generator) → Sound g → uniformsOf g .next ≡ moved 1 1 g
+-- A call for n pairs is accepted just where the streams are fit and the count has room for n.
+pub pairs-accepted : (g : Generator) (n : ℕ) → (pairsNumber g n ≡ 0) ↔ ((recordNumber g ≡ 0) × (g .count + n ≤ mostCount))
+unfolding pairsNumber
+pairs-accepted g n = (
+  λ h.
+      let (fits, rest) = none-applies (recordNumber g) (countNumber g n ∷ []) h in
+      (fits, count-room g n .0 (sym (lone-cause (countNumber g n)) ∙ rest)),
+  λ h. rw (h .0, count-room g n .1 (h .1)),
+)
+
+-- 13 just where the streams are fit and the count would pass the most.
+pub number-count : (g : Generator) (n : ℕ) → (pairsNumber g n ≡ 13) ↔ ((recordNumber g ≡ 0) × (mostCount < g .count + n))
+unfolding pairsNumber
+number-count g n = (
+  λ h. record-cases (λ number. firstCause (number ∷ countNumber g n ∷ []) ≡ 13 → (number ≡ 0) × (mostCount < g .count + n)) g
+      (λ e. (refl, count-full g n .0 (sym (lone-cause (countNumber g n)) ∙ e)))
+      (λ e. absurd (omega (arith, e)))
+      (λ e. absurd (omega (arith, e)))
+      h,
+  λ h. rw (h .0, count-full g n .1 (h .1)),
+)
+
+-- ---- The numbers of a pair, accepted
+
+pub uniforms-accepted : (g : Generator) → pairsNumber g 1 ≡ 0
+    → uniformsOf g
+    ≡ record {
+      number = 0;
+      k = output (advance (g .a)) * 65536 + output (advance (g .b)) / 65536;
+      v = output (advance (g .b)) % 65536;
+      next = moved 1 g;
+    }
 unfolding uniformsOf repeat
-numbers-moves g h = rw (sound-accepted g h)
+uniforms-accepted g e = rw (uniformsOf, e)
 
--- n draws after m are m + n draws, of both streams.
-pub moved-add : (m n m′ n′ : ℕ) (g : Generator) → moved m′ n′ (moved m n g) ≡ moved (m + m′) (n + n′) g
-moved-add m n m′ n′ g = λ i. withStreams g (repeat-add advance m m′ (g .a) i) (repeat-add advance n n′ (g .b) i)
+-- The numbers of a pair have 48 and 16 bits, refused or not.
+output-lt : (u : Stream) → InRange u → output u < 2 ^ 32
+unfolding output
+output-lt u h = xor-lt 32 (bitXor (u .s0) (u .s1)) (u .s2) (xor-lt 32 (u .s0) (u .s1) (h .s0-range) (h .s1-range)) (h .s2-range)
+
+pub numbers-bounded : (g : Generator) → Sound g → (uniformsOf g .k < 2 ^ 48) × (uniformsOf g .v < 65536)
+unfolding uniformsOf
+numbers-bounded g h = by-test (eqb (pairsNumber g 1) 0)
+  where
+    a : output (advance (g .a)) < 2 ^ 32
+    a = output-lt (advance (g .a)) (advance-range (g .a) (h .range-a))
+
+    b : output (advance (g .b)) < 2 ^ 32
+    b = output-lt (advance (g .b)) (advance-range (g .b) (h .range-b))
+
+    by-test : (t : Bool)
+        → (cond t (output (advance (g .a)) * 65536 + output (advance (g .b)) / 65536) 0 < 2 ^ 48)
+        × (cond t (output (advance (g .b)) % 65536) 0 < 65536)
+    by-test true = omega (arith, a, b)
+    by-test false = omega arith
 
 -- ---- n pairs on
 
 pub next-sound : (g : Generator) → Sound g → Sound (uniformsOf g .next)
-next-sound g h = rw (numbers-moves g h) (moved-sound 1 1 g h)
+unfolding uniformsOf repeat
+next-sound g h = by-test (eqb (pairsNumber g 1) 0)
+  where
+    by-test : (t : Bool) → Sound (cond t (moved 1 g) g)
+    by-test true = moved-sound 1 g h
+    by-test false = h
 
 pub after-add : (m n : ℕ) (g : Generator) → after (m + n) g ≡ after n (after m g)
 unfolding after
@@ -236,13 +312,15 @@ unfolding after
 after-sound zero g h = h
 after-sound (suc n) g h = after-sound n (uniformsOf g .next) (next-sound g h)
 
--- Each stream is then n draws on.
-pub after-moved : (n : ℕ) (g : Generator) → Sound g → after n g ≡ moved n n g
+-- Where the count has room, each stream and the count are then n draws on.
+pub after-moved : (n : ℕ) (g : Generator) → Sound g → g .count + n ≤ mostCount → after n g ≡ moved n g
 unfolding after repeat
-after-moved zero g h = refl
-after-moved (suc n) g h =
+after-moved zero g h room = rw (add-zero (g .count))
+after-moved (suc n) g h room =
     let one-more : 1 + n ≡ suc n = omega arith in
-    after-moved n (uniformsOf g .next) (next-sound g h) ∙ rw (numbers-moves g h) (rw one-more at (moved-add 1 1 n n g))
+    let first : uniformsOf g .next ≡ moved 1 g
+    = ap (λ (u : Uniforms). u .next) (uniforms-accepted g (pairs-accepted g 1 .1 (sound-accepted g h, omega arith))) in
+    rw first (after-moved n (moved 1 g) (moved-sound 1 g h) (omega arith) ∙ rw one-more at (moved-add 1 n g))
 
 -- ---- Demand 2, of the calls
 
@@ -251,66 +329,13 @@ pub next-draw : (n : ℕ) (u : Stream) → output (advance (repeat advance n u))
 unfolding drawAt repeat
 next-draw n u = ap output (repeat-add advance n 1 u ∙ rw (add-one n))
 
--- m and n draws on, a draw from a is draw m + 1 of stream a, and one from b draw n + 1 of stream b.
-pub draw-a-is : (m n : ℕ) (g : Generator) → Sound g → drawA (moved m n g) .draw ≡ drawAt (g .a) (suc m)
-unfolding drawA
-draw-a-is m n g h = rw (sound-accepted (moved m n g) (moved-sound m n g h)) (next-draw m (g .a))
-
-pub draw-b-is : (m n : ℕ) (g : Generator) → Sound g → drawB (moved m n g) .draw ≡ drawAt (g .b) (suc n)
-unfolding drawB
-draw-b-is m n g h = rw (sound-accepted (moved m n g) (moved-sound m n g h)) (next-draw n (g .b))
-
--- The numbers of a pair are those of a draw from a and then one from b, refused or not; so their bits are L'Ecuyer's too.
-pub record OfDraws (a b : Drawn) (p : Uniforms) : Type 0 where
-  pub number-is : p .number ≡ b .number
-  pub k-is : p .k ≡ a .draw * 65536 + b .draw / 65536
-  pub v-is : p .v ≡ b .draw % 65536
-  pub next-is : p .next ≡ b .next
-
-accepted-after-a : (g : Generator) → Sound g → recordNumber (withStreams g (advance (g .a)) (g .b)) ≡ 0
-unfolding repeat
-accepted-after-a g h = sound-accepted (moved 1 0 g) (moved-sound 1 0 g h)
-
-pub numbers-of-draws : (g : Generator) → InRange (g .a) → InRange (g .b)
-    → OfDraws (drawA g) (drawB (drawA g .next)) (uniformsOf g)
-unfolding drawA drawB uniformsOf
-numbers-of-draws g ra rb = by-test (eqb (recordNumber g) 0) refl
-  where
-    by-test : (t : Bool) → eqb (recordNumber g) 0 ≡ t → OfDraws (drawA g) (drawB (drawA g .next)) (uniformsOf g)
-    by-test true e =
-        let z : recordNumber g ≡ 0 = eqb-true _ _ e in
-        rw (drawA, uniformsOf, z, drawB, accepted-after-a g (sound g ra rb z)) (record { number-is = refl; k-is = refl; v-is = refl; next-is = refl })
-    by-test false e =
-        rw (drawA, uniformsOf, e, drawB, e) (record { number-is = refl; k-is = refl; v-is = refl; next-is = refl })
-
--- The numbers of a pair have 48 and 16 bits.
-output-lt : (u : Stream) → InRange u → output u < 2 ^ 32
-unfolding output
-output-lt u h = xor-lt 32 (bitXor (u .s0) (u .s1)) (u .s2) (xor-lt 32 (u .s0) (u .s1) (h .s0-range) (h .s1-range)) (h .s2-range)
-
-pub uniforms-accepted : (g : Generator) → Sound g
-    → uniformsOf g
-    ≡ record {
-      number = 0;
-      k = output (advance (g .a)) * 65536 + output (advance (g .b)) / 65536;
-      v = output (advance (g .b)) % 65536;
-      next = withStreams g (advance (g .a)) (advance (g .b));
-    }
-unfolding uniformsOf
-uniforms-accepted g h = rw (uniformsOf, sound-accepted g h)
-
--- m and n draws on, the numbers of a pair are those of draw m + 1 of stream a and draw n + 1 of stream b.
-pub numbers-are : (m n : ℕ) (g : Generator) → Sound g
-    → (uniformsOf (moved m n g) .k ≡ drawAt (g .a) (suc m) * 65536 + drawAt (g .b) (suc n) / 65536)
-    × (uniformsOf (moved m n g) .v ≡ drawAt (g .b) (suc n) % 65536)
-numbers-are m n g h =
-    rw (uniforms-accepted (moved m n g) (moved-sound m n g h), next-draw m (g .a), next-draw n (g .b)) (refl, refl)
-
-pub numbers-bounded : (g : Generator) → Sound g → (uniformsOf g .k < 2 ^ 48) × (uniformsOf g .v < 65536)
-numbers-bounded g h =
-    let a : output (advance (g .a)) < 2 ^ 32 = output-lt (advance (g .a)) (advance-range (g .a) (h .range-a)) in
-    let b : output (advance (g .b)) < 2 ^ 32 = output-lt (advance (g .b)) (advance-range (g .b) (h .range-b)) in
-    rw (uniforms-accepted g h) (omega arith)
+-- n pairs on, the numbers of a pair are those of draw n + 1 of stream a and of stream b.
+pub numbers-are : (n : ℕ) (g : Generator) → Sound g → g .count + n < mostCount
+    → (uniformsOf (moved n g) .k ≡ drawAt (g .a) (suc n) * 65536 + drawAt (g .b) (suc n) / 65536)
+    × (uniformsOf (moved n g) .v ≡ drawAt (g .b) (suc n) % 65536)
+numbers-are n g h room =
+    let accepted = pairs-accepted (moved n g) 1 .1 (sound-accepted _ (moved-sound n g h), omega arith) in
+    rw (uniforms-accepted (moved n g) accepted, next-draw n (g .a), next-draw n (g .b)) (refl, refl)
 
 -- ---- The step runs backwards
 

@@ -10,7 +10,8 @@ use lib.Dec.{ltb}
 use Rattle.squares.specs.Squares.{repeat}
 use Rattle.streams.specs.declared.Stream.{Stream}
 use Rattle.streams.specs.declared.Generator.{Generator}
-use Rattle.streams.specs.Streams.{advance, output, withStreams}
+use Rattle.streams.specs.declared.RecordAnswer.{RecordAnswer}
+use Rattle.streams.specs.Streams.{advance, output, onward, seedOf}
 
 -- ---- Sequences of bits
 
@@ -54,9 +55,13 @@ pub record Params (k q s : ℕ) : Type 0 where
 unfoldable pub drawAt : Stream → ℕ → ℕ
 drawAt u t = output (repeat advance t u)
 
--- The record with stream a moved m draws on, and stream b n.
-abbrev pub moved : ℕ → ℕ → Generator → Generator
-moved m n g = withStreams g (repeat advance m (g .a)) (repeat advance n (g .b))
+-- The record with both streams n draws on, and its count.
+abbrev pub moved : ℕ → Generator → Generator
+moved n g = onward g (repeat advance n (g .a)) (repeat advance n (g .b)) n
+
+-- Seeding from the registers of two streams.
+abbrev pub seedFrom : Stream → Stream → RecordAnswer
+seedFrom a b = seedOf (a .s0) (a .s1) (a .s2) (b .s0) (b .s1) (b .s2)
 
 -- ---- Registers of 32 bits, and their minima
 
@@ -71,7 +76,7 @@ pub record Minima (u : Stream) : Type 0 where
   pub s1-least : 8 ≤ u .s1
   pub s2-least : 16 ≤ u .s2
 
--- An accepted record of registers of 32 bits.
+-- A record with fit streams of registers of 32 bits; its count may be any.
 pub record Sound (g : Generator) : Type 0 where
   pub range-a : InRange (g .a)
   pub range-b : InRange (g .b)

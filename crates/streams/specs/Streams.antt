@@ -8,7 +8,6 @@ use lib.Dec.{leb, eqb}
 use Rattle.streams.specs.declared.Stream.{Stream}
 use Rattle.streams.specs.declared.Generator.{Generator}
 use Rattle.streams.specs.declared.RecordAnswer.{RecordAnswer}
-use Rattle.streams.specs.declared.Drawn.{Drawn}
 use Rattle.streams.specs.declared.Uniforms.{Uniforms}
 
 -- ---- One draw ("One draw from a stream")
@@ -27,13 +26,13 @@ output u = bitXor (bitXor (u .s0) (u .s1)) (u .s2)
 
 -- ---- Records
 
--- A record as seeding makes it.
+-- A record as seeding makes it: its count is 0 (document 02, Job 4).
 abbrev pub fresh : Stream → Stream → Generator
-fresh a b = record { a = a; b = b }
+fresh a b = record { a = a; b = b; count = 0 }
 
--- The same record with other streams.
-abbrev pub withStreams : Generator → Stream → Stream → Generator
-withStreams g a b = record { a = a; b = b }
+-- The same record n pairs on, its streams as they then are.
+abbrev pub onward : Generator → Stream → Stream → ℕ → Generator
+onward g a b n = record { a = a; b = b; count = g .count + n }
 
 -- "s0 at least 2, s1 at least 8 and s2 at least 16"
 unfoldable pub fit : Stream → Bool
@@ -43,6 +42,13 @@ fit u = leb 2 (u .s0) && (leb 8 (u .s1) && leb 16 (u .s2))
 -- Job 1).
 unfoldable pub recordNumber : Generator → ℕ
 recordNumber g = cond (fit (g .a)) (cond (fit (g .b)) 0 12) 11
+
+-- 13 for n pairs more: "the count would pass 2^64 - 1" (document 02, Job 4).
+abbrev pub mostCount : ℕ
+mostCount = 2 ^ 64 - 1
+
+unfoldable pub countNumber : Generator → ℕ → ℕ
+countNumber g n = cond (leb (g .count + n) mostCount) 0 13
 
 -- ---- The calls, refusals included
 
@@ -62,35 +68,21 @@ seedOf a0 a1 a2 b0 b1 b2 =
     let none : Stream = record { s0 = 0; s1 = 0; s2 = 0 } in
     record { number = recordNumber g; next = ifAccepted (recordNumber g) g (fresh none none) }
 
--- A draw moves its own stream alone; refused, it gives 0 and the record passed in.
-unfoldable pub drawA : Generator → Drawn
-drawA g =
-    let a′ : Stream = advance (g .a) in
-    record {
-      number = recordNumber g;
-      draw = ifAccepted (recordNumber g) (output a′) 0;
-      next = ifAccepted (recordNumber g) (withStreams g a′ (g .b)) g;
-    }
+-- The number of a call for n pairs: the record's, and then 13.
+unfoldable pub pairsNumber : Generator → ℕ → ℕ
+pairsNumber g n = firstCause (recordNumber g ∷ countNumber g n ∷ [])
 
-unfoldable pub drawB : Generator → Drawn
-drawB g =
-    let b′ : Stream = advance (g .b) in
-    record {
-      number = recordNumber g;
-      draw = ifAccepted (recordNumber g) (output b′) 0;
-      next = ifAccepted (recordNumber g) (withStreams g (g .a) b′) g;
-    }
-
--- The two numbers of a pair, one draw from a and then one from b: k is a × 65536 + floor(b / 65536), v is b mod 65536.
+-- The two numbers of a pair, one draw from a and then one from b: k is a × 65536 + floor(b / 65536), v is b mod 65536. Refused,
+-- 0 0 and the record passed in.
 unfoldable pub uniformsOf : Generator → Uniforms
 uniformsOf g =
     let a′ : Stream = advance (g .a) in
     let b′ : Stream = advance (g .b) in
     record {
-      number = recordNumber g;
-      k = ifAccepted (recordNumber g) (output a′ * 65536 + output b′ / 65536) 0;
-      v = ifAccepted (recordNumber g) (output b′ % 65536) 0;
-      next = ifAccepted (recordNumber g) (withStreams g a′ b′) g;
+      number = pairsNumber g 1;
+      k = ifAccepted (pairsNumber g 1) (output a′ * 65536 + output b′ / 65536) 0;
+      v = ifAccepted (pairsNumber g 1) (output b′ % 65536) 0;
+      next = ifAccepted (pairsNumber g 1) (onward g a′ b′ 1) g;
     }
 
 -- The record n pairs on.
@@ -100,4 +92,4 @@ after (suc n) g = after n (uniformsOf g .next)
 
 -- "The record that n pair draws would leave"; refused, the record passed in.
 unfoldable pub skipOf : Generator → ℕ → RecordAnswer
-skipOf g n = record { number = recordNumber g; next = ifAccepted (recordNumber g) (after n g) g }
+skipOf g n = record { number = pairsNumber g n; next = ifAccepted (pairsNumber g n) (after n g) g }

@@ -1,6 +1,7 @@
-// The two Tausworthe streams of L'Ecuyer (1996): seeding, single draws, the two numbers of a pair, and a skip of many pairs.
+// The two Tausworthe streams of L'Ecuyer (1996): seeding, the two numbers of a pair, and a skip of many pairs.
 // A generator record goes in by value and comes back as it then is, beside the call's number, 0 where it is accepted.
 ghost use mathlib.Core.Path.{_≡_};
+ghost use Prim.Native.Nat.{_+_, _≤_};
 ghost use Rattle.squares.specs.Squares.{squareOf};
 ghost use Rattle.streams.specs.Streams.{
   step,
@@ -8,11 +9,13 @@ ghost use Rattle.streams.specs.Streams.{
   output,
   fit,
   fresh,
-  withStreams,
+  onward,
   recordNumber,
+  mostCount,
+  countNumber,
+  firstCause,
+  pairsNumber,
   seedOf,
-  drawA,
-  drawB,
   uniformsOf,
   skipOf,
 };
@@ -24,20 +27,16 @@ pub struct Stream {
     pub s2: u32,
 }
 
+// The two streams, and how many pairs were drawn or skipped.
 pub struct Generator {
     pub a: Stream,
     pub b: Stream,
+    pub count: u64,
 }
 
 // A number and the record that a call leaves.
 pub struct RecordAnswer {
     pub number: u32,
-    pub next: Generator,
-}
-
-pub struct Drawn {
-    pub number: u32,
-    pub draw: u32,
     pub next: Generator,
 }
 
@@ -117,21 +116,40 @@ fn step_squares() -> StepSquares
     StepSquares { s0, s1, s2 }
 }
 
+// The first of the causes that is not 0, or 0: the number of a call that is tested for them in that order.
+pub fn first_cause(causes: &[u32]) -> u32
+    ensures { λ r. ⌜ r ≡ firstCause (now (causes .entry)) ⌝ }
+{
+    let mut i: usize = 0;
+    while i < causes.len() {
+        let cause = causes[i];
+        if cause != 0 {
+            return cause;
+        }
+        i += 1;
+    }
+    0
+}
+
+const MOST_COUNT: u64 = 0xffff_ffff_ffff_ffff;
+
 impl Generator {
     // A record as seeding makes it.
     fn fresh_record(a: Stream, b: Stream) -> Generator
         ensures { λ r. ⌜ r ≡ fresh a b ⌝ }
     {
-        Generator { a, b }
+        Generator { a, b, count: 0 }
     }
 
-    // The same record with other streams.
-    fn with_streams(self, a: Stream, b: Stream) -> Generator
-        ensures { λ r. ⌜ r ≡ withStreams self a b ⌝ }
+    // The same record n pairs on, its streams as they then are.
+    fn onward(self, a: Stream, b: Stream, n: u64) -> Generator
+        requires { ⌜ self .count + n ≤ mostCount ⌝ }
+        ensures { λ r. ⌜ r ≡ onward self a b n ⌝ }
     {
         let mut next = self;
         next.a = a;
         next.b = b;
+        next.count = self.count + n;
         next
     }
 
@@ -181,55 +199,32 @@ impl Generator {
         }
     }
 
-    // A draw from stream a, which alone moves.
-    pub fn draw_a(self) -> Drawn
-        ensures { λ r. ⌜ r ≡ drawA self ⌝ }
+    // The number of n pairs more: 13 where the count would pass its most.
+    pub fn count_number(self, n: u64) -> u32
+        ensures { λ r. ⌜ r ≡ countNumber self n ⌝ }
     {
-        let number = self.record_number();
-        if number != 0 {
-            return Drawn {
-                number,
-                draw: 0,
-                next: self,
-            };
+        if MOST_COUNT - self.count < n {
+            return 13;
         }
-        let moved = self.a.advanced();
-        let other = self.b;
-        let next = self.with_streams(moved, other);
-        Drawn {
-            number,
-            draw: moved.word(),
-            next,
-        }
+        0
     }
 
-    // A draw from stream b, which alone moves.
-    pub fn draw_b(self) -> Drawn
-        ensures { λ r. ⌜ r ≡ drawB self ⌝ }
+    // The number of a call for n pairs.
+    pub fn pairs_number(self, n: u64) -> u32
+        ensures { λ r. ⌜ r ≡ pairsNumber self n ⌝ }
     {
-        let number = self.record_number();
-        if number != 0 {
-            return Drawn {
-                number,
-                draw: 0,
-                next: self,
-            };
+        let unfit = self.record_number();
+        if unfit != 0 {
+            return unfit;
         }
-        let other = self.a;
-        let moved = self.b.advanced();
-        let next = self.with_streams(other, moved);
-        Drawn {
-            number,
-            draw: moved.word(),
-            next,
-        }
+        self.count_number(n)
     }
 
     // The two numbers of a pair: a draw from a, then one from b, as 48 and 16 bits.
     pub fn uniforms(self) -> Uniforms
         ensures { λ r. ⌜ r ≡ uniformsOf self ⌝ }
     {
-        let number = self.record_number();
+        let number = self.pairs_number(1);
         if number != 0 {
             return Uniforms {
                 number,
@@ -240,7 +235,7 @@ impl Generator {
         }
         let a = self.a.advanced();
         let b = self.b.advanced();
-        let next = self.with_streams(a, b);
+        let next = self.onward(a, b, 1);
         let high = a.word() as u64;
         let low = b.word();
         Uniforms {
@@ -253,7 +248,8 @@ impl Generator {
 
     // Both streams n draws on: each square serves its register of a and of b.
     fn ahead(self, n: u64) -> Generator
-        ensures { λ r. ⌜ r ≡ moved n n self ⌝ }
+        requires { ⌜ self .count + n ≤ mostCount ⌝ }
+        ensures { λ r. ⌜ r ≡ moved n self ⌝ }
     {
         let square = step_squares();
         let a = self.a;
@@ -274,14 +270,14 @@ impl Generator {
             s1: second.y,
             s2: third.y,
         };
-        self.with_streams(moved_a, moved_b)
+        self.onward(moved_a, moved_b, n)
     }
 
     // The record that n pairs would leave.
     pub fn skip(self, n: u64) -> RecordAnswer
         ensures { λ r. ⌜ r ≡ skipOf self n ⌝ }
     {
-        let number = self.record_number();
+        let number = self.pairs_number(n);
         if number != 0 {
             return RecordAnswer { number, next: self };
         }

@@ -1,4 +1,4 @@
--- `jabulghi::jabulghi_block` meets its contract: number, lent block and registers are those of the call below it.
+-- `jabulghi::jabulghi_block` meets its contract: number, lent block and record are those of the call below it.
 use mathlib.Core.Path.{refl}
 use borrow.Author.Needs.{needs}
 use Rattle.jabulghi.proofs.jabulghi_block.Statement.{statement}

@@ -1,4 +1,4 @@
--- `jabulghi::jabulghi_pair` meets its contract: number, lent samples and registers are those of the call below it.
+-- `jabulghi::jabulghi_pair` meets its contract: number, lent samples and record are those of the call below it.
 use mathlib.Core.Path.{refl}
 use borrow.Author.Needs.{needs}
 use mir.Syntax.{w16}

@@ -1,4 +1,4 @@
--- `jabulghi::jabulghi_seed` meets its contract: number and registers are those of the call below it.
+-- `jabulghi::jabulghi_seed` meets its contract: number and record are those of the call below it.
 use mathlib.Core.Path.{ap}
 use borrow.Author.Needs.{needs}
 use Rattle.streams.specs.declared.RecordAnswer.{RecordAnswer}

@@ -1,4 +1,4 @@
--- `jabulghi::jabulghi_skip` meets its contract: number and registers are those of the call below it.
+-- `jabulghi::jabulghi_skip` meets its contract: number and record are those of the call below it.
 use mathlib.Core.Path.{refl}
 use borrow.Author.Needs.{needs}
 use Rattle.jabulghi.proofs.jabulghi_skip.Statement.{statement}

@@ -17,7 +17,7 @@ returns c =
     (rw (← number-is, ne-eqb _ _ (c .if1 .taken)), rw (← number-is, ne-eqb _ _ (c .if1 .taken)))
 
 stretches-requires : tie.Need-stretches-requires
-stretches-requires c κs = block-accepted _ _ (sym (c .before .before .block-number .ensures) ∙ c .before .if1 .left)
+stretches-requires c κs = block-accepted _ _ .0 (sym (c .before .before .block-number .ensures) ∙ c .before .if1 .left)
 
 same-length : tie.Need-same-length
 same-length c = search needs

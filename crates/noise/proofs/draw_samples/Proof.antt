@@ -1,7 +1,7 @@
 -- `draw_samples` leaves the samples of the pairs whose numbers it has drawn.
 use mathlib.Core.Path.{_≡_, sym, _∙_}
 use mathlib.Core.List.{List}
-use Prim.Native.Nat.{ℕ, _*_}
+use Prim.Native.Nat.{ℕ, _+_, _*_, _≤_}
 use native.Mathlib.Omega.{arith}
 use lib.IntN.{ℤ}
 use lib.ListN.{length}
@@ -9,8 +9,9 @@ use borrow.Author.Needs.{needs}
 use Rattle.noise.specs.Noise.{samples}
 use Rattle.noise.specs.Private.{numbers}
 use Rattle.streams.specs.declared.Generator.{Generator}
+use Rattle.streams.specs.Streams.{mostCount}
 use Rattle.streams.specs.Recurrence.{Sound}
-use Rattle.streams.proofs.Theorems.{sound}
+use Rattle.streams.proofs.Theorems.{sound, pairs-accepted}
 use Rattle.sample.specs.Sample.{filled}
 use Rattle.sample.proofs.FillLaws.{filled-whole}
 use Rattle.noise.proofs.Laws.{length-numbers, samples-numbers}
@@ -18,16 +19,16 @@ use Rattle.noise.proofs.draw_samples.Statement.{statement}
 use Rattle.noise.proofs.draw_samples.Tie as tie
 
 start-sound : (c : tie.Start) → Sound (c .args .g)
-start-sound c = sound (c .args .g) (omega arith) (omega arith) (c .pre .0)
+start-sound c = sound (c .args .g) (omega arith) (omega arith) (pairs-accepted _ _ .0 (c .pre .0) .0)
 
 -- the slice has room for just the pairs, so it is filled with their samples
-whole : {zs : List ℕ} {out : List ℤ} (old : List ℤ) (n : ℕ) (g : Generator) → Sound g → zs ≡ numbers n g → length old ≡ 2 * n
-    → out ≡ filled zs old → out ≡ samples n g
-whole old n g h e l f =
-    f ∙ rw e (filled-whole (numbers n g) old (rw (length-numbers n g) l)) ∙ sym (samples-numbers n g h)
+whole : {zs : List ℕ} {out : List ℤ} (old : List ℤ) (n : ℕ) (g : Generator) → Sound g → g .count + n ≤ mostCount → zs ≡ numbers n g
+    → length old ≡ 2 * n → out ≡ filled zs old → out ≡ samples n g
+whole old n g h room e l f =
+    f ∙ rw e (filled-whole (numbers n g) old (rw (length-numbers n g) l)) ∙ sym (samples-numbers n g h room)
 
 draw-numbers-requires : tie.Need-draw-numbers-requires
-draw-numbers-requires c κs = search needs
+draw-numbers-requires c κs = pairs-accepted _ _ .0 (c .before .before .pre .0) .0
 
 fill-requires : tie.Need-fill-requires
 fill-requires c κs = search needs
@@ -44,7 +45,8 @@ returns c =
     let drawn = c .before .before .before .before .before .before .draw-numbers .ensures in
     let n = length (start .args .z .now) in
     let filled-by = c .before .fill .ensures in
-    (drawn .0, whole (start .args .out .now) n (start .args .g) (start-sound start) (drawn .1) (start .pre .1) filled-by)
+    let room = pairs-accepted _ n .0 (start .pre .0) .1 in
+    (drawn .0, whole (start .args .out .now) n (start .args .g) (start-sound start) room (drawn .1) (start .pre .1) filled-by)
 
 pub draw-samples-spec : {M : Type 1} → statement M
 draw-samples-spec =

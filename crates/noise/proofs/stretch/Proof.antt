@@ -1,11 +1,13 @@
 -- `stretch` lends as many numbers as its slice has pairs.
 use mathlib.Core.Path.{_≡_, refl, ap, _∙_}
 use mathlib.Core.List.{List}
-use Prim.Native.Nat.{ℕ, _-_, _/_, _≤_}
+use Prim.Native.Nat.{ℕ, _-_, _*_, _/_, _≤_}
 use native.Mathlib.Omega.{arith}
+use lib.IntN.{ℤ}
 use lib.ListN.{length, take, length-take}
 use borrow.Author.Needs.{needs}
-use Rattle.streams.specs.Streams.{after}
+use Rattle.streams.specs.declared.Generator.{Generator}
+use Rattle.streams.specs.Streams.{pairsNumber, after}
 use Rattle.noise.specs.Noise.{samples}
 use Rattle.noise.proofs.stretch.Statement.{statement}
 use Rattle.noise.proofs.stretch.Tie as tie
@@ -13,6 +15,10 @@ use Rattle.noise.proofs.stretch.Tie as tie
 -- as many numbers are lent as there are pairs
 size : (n : ℕ) (z : List ℕ) → length z ≡ 512 → n ≤ 512 → length (take (n - 0) z) ≡ n
 size n z e h = simp length-take (omega arith)
+
+asked : (g : Generator) (n : ℕ) (z : List ℕ) (out : List ℤ) → length z ≡ 512 → n ≤ 512 → pairsNumber g n ≡ 0 → length out ≡ 2 * n
+    → (pairsNumber g (length (take (n - 0) z)) ≡ 0) × (length out ≡ 2 * length (take (n - 0) z))
+asked g n z out e h p l = rw (size n z e h) (p, l)
 
 sub-draw-samples : tie.Need-sub-draw-samples
 sub-draw-samples c = search needs
@@ -24,7 +30,13 @@ part-z-end : tie.Need-part-z-end
 part-z-end c = search needs
 
 draw-samples-requires : tie.Need-draw-samples-requires
-draw-samples-requires c κs = search needs
+draw-samples-requires c κs =
+    let start = c .before .before in
+    let out = start .args .out .now in
+    let n = length out / 2 in
+    let small : n ≤ 512 = omega (arith, start .pre .2) in
+    let whole : length out ≡ 2 * n = omega (arith, start .pre .1) in
+    asked (start .args .g) n _ out refl small (start .pre .0) whole
 
 same-length : tie.Need-same-length
 same-length c = search needs

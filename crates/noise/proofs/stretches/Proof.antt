@@ -9,9 +9,9 @@ use lib.Seq.{take-append-add, take-at, take-all}
 use borrow.Rule.Slice.PartMut.{putMid, postOf, same-len-mid}
 use Rattle.noise.specs.Noise.{samples}
 use Rattle.streams.specs.declared.Generator.{Generator}
-use Rattle.streams.specs.Streams.{after}
+use Rattle.streams.specs.Streams.{mostCount, pairsNumber, after}
 use Rattle.streams.specs.Recurrence.{Sound}
-use Rattle.streams.proofs.Theorems.{sound, sound-accepted, after-add, after-sound}
+use Rattle.streams.proofs.Theorems.{sound, sound-accepted, pairs-accepted, moved-sound, after-add, after-moved}
 use Rattle.noise.proofs.Laws.{samples-add, length-samples}
 use Rattle.noise.proofs.stretches.Statement.{statement}
 use Rattle.noise.proofs.stretches.Tie as tie
@@ -31,7 +31,12 @@ abbrev μ-loop : tie.MeasureT-loop
 μ-loop out₀ state₀ at₀ n out state at = length out₀ - at
 
 start-sound : (c : tie.Start Inv-loop μ-loop) → Sound (c .args .g)
-start-sound c = sound (c .args .g) (omega arith) (omega arith) (c .pre .0)
+start-sound c = sound (c .args .g) (omega arith) (omega arith) (pairs-accepted _ _ .0 (c .pre .0) .0)
+
+-- the count has room for a part of the pairs
+pairs-of-part : (m n : ℕ) (g : Generator) → Sound g → g .count + (m + n) ≤ mostCount → pairsNumber (after m g) n ≡ 0
+pairs-of-part m n g h room =
+    rw (after-moved m g h (omega arith)) (pairs-accepted _ n .1 (sound-accepted _ (moved-sound m g h), omega arith))
 
 -- the part that is lent
 part-size : (place end : ℕ) (out : List ℤ) → end ≤ length out → length (take (end - place) (drop place out)) ≡ end - place
@@ -102,9 +107,10 @@ stretch-requires c κs =
     let more = c .before .before .loop-test .taken in
     let end-is = c .before .stretch-end .ensures in
     let even₀ = start .pre .1 in
+    let room = pairs-accepted _ _ .0 (start .pre .0) .1 in
     let out = c .before .before .before .loop .out in
     let size = part-size at (c .before .stretch-end .result) out (omega (arith, inv .kept, end-is)) in (
-      rw (inv .now-at) (sound-accepted _ (after-sound (at / 2) (start .args .g) (start-sound start))),
+      rw (inv .now-at, size) (pairs-of-part (at / 2) _ (start .args .g) (start-sound start) (omega (arith, end-is, more, inv .even, even₀, room))),
       rw size (omega (arith, inv .even, end-is, even₀, more)),
       rw size (omega (arith, end-is)),
     )

@@ -1,7 +1,7 @@
 -- `Generator::ahead`: the three squares give n draws of each stream.
 use native.Mathlib.Omega.{arith}
 use borrow.Author.Needs.{needs}
-use Rattle.streams.specs.Streams.{withStreams}
+use Rattle.streams.specs.Streams.{onward}
 use Rattle.streams.proofs.Skip.{stream-ahead}
 use Rattle.streams.proofs.Generator.ahead.Statement.{statement}
 use Rattle.streams.proofs.Generator.ahead.Tie as tie
@@ -18,8 +18,8 @@ powers-requires-2 c κs = search needs
 powers-requires-3 : tie.Need-powers-requires-3
 powers-requires-3 c κs = search needs
 
-with-streams-requires : tie.Need-with-streams-requires
-with-streams-requires c κs = search needs
+onward-requires : tie.Need-onward-requires
+onward-requires c κs = search needs
 
 returns : tie.Need-returns
 returns c =
@@ -29,13 +29,13 @@ returns c =
     let a-ahead = stream-ahead n (g .a) (omega (arith, start .good)) in
     let b-ahead = stream-ahead n (g .b) (omega (arith, start .good)) in
     rw (
-      c .with-streams .ensures,
+      c .onward .ensures,
       c .before .powers3 .ensures,
       c .before .before .powers2 .ensures,
       c .before .before .before .powers .ensures,
       c .before .before .before .before .before .before .before .before .before .step-squares .ensures,
     )
-    (λ i. withStreams g (a-ahead i) (b-ahead i))
+    (λ i. onward g (a-ahead i) (b-ahead i) n)
 
 pub ahead-spec : {M : Type 1} → statement M
 ahead-spec =
@@ -45,5 +45,5 @@ ahead-spec =
     powers-requires
     powers-requires-2
     powers-requires-3
-    with-streams-requires
+    onward-requires
     returns)

@@ -3,29 +3,28 @@ use native.Mathlib.Omega.{arith}
 use borrow.Author.Needs.{needs}
 use borrow.Author.Tests.{ne-eqb}
 use Rattle.streams.specs.Streams.{skipOf}
-use Rattle.streams.proofs.Theorems.{sound, after-moved}
+use Rattle.streams.proofs.Theorems.{sound, pairs-accepted, after-moved}
 use Rattle.streams.proofs.Generator.skip.Statement.{statement}
 use Rattle.streams.proofs.Generator.skip.Tie as tie
 
-record-number-requires : tie.Need-record-number-requires
-record-number-requires c κs = search needs
+pairs-number-requires : tie.Need-pairs-number-requires
+pairs-number-requires c κs = search needs
 
 returns : tie.Need-returns
 unfolding skipOf
-returns c = rw (← c .before .record-number .ensures, ne-eqb _ _ (c .if1 .taken))
+returns c = rw (← c .before .pairs-number .ensures, ne-eqb _ _ (c .if1 .taken))
 
 ahead-requires : tie.Need-ahead-requires
-ahead-requires c κs = search needs
+ahead-requires c κs = pairs-accepted _ _ .0 (rw (c .before .pairs-number .ensures) at (c .if1 .left)) .1
 
 returns-2 : tie.Need-returns-2
 unfolding skipOf
 returns-2 c =
     let start = c .before .before .before in
     let g = start .args .self in
-    let n = start .args .n in
-    let accepted = rw (c .before .before .record-number .ensures) at (c .before .if1 .left) in
-    let reached = after-moved n g (sound g (omega (arith, start .good)) (omega (arith, start .good)) accepted) in
-    rw (c .ahead .ensures, ← reached, ← c .before .before .record-number .ensures, c .before .if1 .left)
+    let (fits, room) = pairs-accepted g (start .args .n) .0 (rw (c .before .before .pairs-number .ensures) at (c .before .if1 .left)) in
+    let reached = after-moved _ g (sound g (omega (arith, start .good)) (omega (arith, start .good)) fits) room in
+    rw (c .ahead .ensures, ← reached, ← c .before .before .pairs-number .ensures, c .before .if1 .left)
 
 pub skip-spec : {M : Type 1} → statement M
-skip-spec = tie.close (tie.spec record-number-requires returns ahead-requires returns-2)
+skip-spec = tie.close (tie.spec pairs-number-requires returns ahead-requires returns-2)

@@ -1,16 +1,18 @@
 -- `Generator::uniforms` is `uniformsOf`: each return rewrites with the record's number.
+use native.Mathlib.Omega.{arith}
 use borrow.Author.Needs.{needs}
 use borrow.Author.Tests.{ne-eqb}
 use Rattle.streams.specs.Streams.{uniformsOf}
+use Rattle.streams.proofs.Theorems.{pairs-accepted}
 use Rattle.streams.proofs.Generator.uniforms.Statement.{statement}
 use Rattle.streams.proofs.Generator.uniforms.Tie as tie
 
-record-number-requires : tie.Need-record-number-requires
-record-number-requires c κs = search needs
+pairs-number-requires : tie.Need-pairs-number-requires
+pairs-number-requires c κs = search needs
 
 returns : tie.Need-returns
 unfolding uniformsOf
-returns c = rw (← c .before .record-number .ensures, ne-eqb _ _ (c .if1 .taken))
+returns c = rw (← c .before .pairs-number .ensures, ne-eqb _ _ (c .if1 .taken))
 
 advanced-requires : tie.Need-advanced-requires
 advanced-requires c κs = search needs
@@ -18,8 +20,10 @@ advanced-requires c κs = search needs
 advanced-requires-2 : tie.Need-advanced-requires-2
 advanced-requires-2 c κs = search needs
 
-with-streams-requires : tie.Need-with-streams-requires
-with-streams-requires c κs = search needs
+onward-requires : tie.Need-onward-requires
+onward-requires c κs =
+    let accepted = rw (c .before .before .before .pairs-number .ensures) at (c .before .before .if1 .left) in
+    omega (arith, pairs-accepted _ 1 .0 accepted .1)
 
 word-requires : tie.Need-word-requires
 word-requires c κs = search needs
@@ -45,10 +49,10 @@ returns-2 c =
     rw (
       c .word2 .ensures,
       c .before .word .ensures,
-      c .before .before .with-streams .ensures,
+      c .before .before .onward .ensures,
       c .before .before .before .advanced2 .ensures,
       c .before .before .before .before .advanced .ensures,
-      ← c .before .before .before .before .before .before .record-number .ensures,
+      ← c .before .before .before .before .before .before .pairs-number .ensures,
       c .before .before .before .before .before .if1 .left,
     )
 
@@ -56,11 +60,11 @@ pub uniforms-spec : {M : Type 1} → statement M
 uniforms-spec =
     tie.close
     (tie.spec
-    record-number-requires
+    pairs-number-requires
     returns
     advanced-requires
     advanced-requires-2
-    with-streams-requires
+    onward-requires
     word-requires
     cast-high
     word-requires-2
