@@ -1,4 +1,4 @@
-// Samples and draws per second of the static library beside plain C, GSL, Boost and the C++ library; skips beside drawing.
+// Samples per second of the static library beside plain C, GSL, Boost and the C++ library; skips beside drawing.
 #include "jabulghi.h"
 #include "plain.h"
 #include <algorithm>
@@ -110,62 +110,52 @@ static void samples() {
     table("samples", rows);
 }
 
-static void draws() {
-    static jabulghi_record ours = seeded();
-    static uint32_t words[LENGTH], expected[LENGTH], plain[6];
-    memcpy(plain, SEEDS, sizeof SEEDS);
-    for (uint32_t &x : expected) {
-        jabulghi_draw_a(&ours, &x);
+#if defined HAVE_GSL || defined HAVE_BOOST
+// The draws of stream a, which are seen in a record: the exclusive-or of its registers after each pair.
+static void check_draws(const char *what, const std::function<uint32_t()> &draw) {
+    jabulghi_record ours = seeded();
+    int16_t two[2];
+    for (size_t j = 0; j < LENGTH; j++) {
+        jabulghi_pair(&ours, two);
+        if (draw() != (ours.a[0] ^ ours.a[1] ^ ours.a[2])) fail(what);
     }
-    auto check = [](const char *what) {
-        if (memcmp(words, expected, sizeof words) != 0) fail(what);
-        printf("the first %zu draws of %s from the same registers are ours\n", LENGTH, what);
-    };
-    std::vector<Row> rows;
-    rows.push_back({"jabulghi_draw_a", [] { for (uint32_t &x : words) jabulghi_draw_a(&ours, &x); }, {}});
-    rows.push_back({"the same steps in plain C", [] { for (uint32_t &x : words) plain_draw_a(plain, &x); }, {}});
-    rows[1].fill();
-    check("plain C");
+    printf("the first %zu draws of %s from the same registers are ours\n", LENGTH, what);
+}
+#endif
+
+static void draws() {
 #ifdef HAVE_GSL
     // the state of gsl_rng_taus is its three registers, each an unsigned long
-    static gsl_rng *rng = gsl_rng_alloc(gsl_rng_taus);
+    gsl_rng *rng = gsl_rng_alloc(gsl_rng_taus);
     unsigned long registers[3] = {SEEDS[0], SEEDS[1], SEEDS[2]};
     if (gsl_rng_size(rng) != sizeof registers) fail("the size of GSL's state");
     memcpy(gsl_rng_state(rng), registers, sizeof registers);
-    rows.push_back({"GSL gsl_rng_taus", [] { for (uint32_t &x : words) x = (uint32_t)gsl_rng_get(rng); }, {}});
-    rows.back().fill();
-    check("GSL's gsl_rng_taus");
+    check_draws("GSL's gsl_rng_taus", [rng] { return (uint32_t)gsl_rng_get(rng); });
 #endif
 #ifdef HAVE_BOOST
-    static boost::random::taus88 taus;
+    boost::random::taus88 taus;
     const uint32_t *from = SEEDS;
     taus.seed(from, SEEDS + 3);
-    rows.push_back({"Boost taus88", [] { for (uint32_t &x : words) x = taus(); }, {}});
-    rows.back().fill();
-    check("Boost's taus88");
+    check_draws("Boost's taus88", [&taus] { return taus(); });
 #endif
-    table("draws", rows);
 }
 
-// n pairs drawn one by one.
-static void draw_pairs(jabulghi_record &record, uint64_t n) {
-    uint32_t word;
-    for (uint64_t j = 0; j < n; j++) {
-        jabulghi_draw_a(&record, &word);
-        jabulghi_draw_b(&record, &word);
-    }
+static bool same_record(const jabulghi_record &x, const jabulghi_record &y) {
+    return memcmp(&x, &y, sizeof x) == 0;
 }
 
 static void check_skips() {
+    static int16_t block[2000];
     jabulghi_record drawn = seeded(), skipped = drawn, twice = drawn;
-    draw_pairs(drawn, 1000);
+    jabulghi_block(&drawn, block, 2000);
     jabulghi_skip(&skipped, 1000);
-    if (memcmp(&drawn, &skipped, sizeof drawn) != 0) fail("the record after a skip and after drawing");
+    if (!same_record(drawn, skipped)) fail("the record after a skip and after drawing");
     skipped = twice;
     jabulghi_skip(&skipped, UINT64_MAX);
     jabulghi_skip(&twice, UINT64_MAX / 2);
     jabulghi_skip(&twice, UINT64_MAX / 2 + 1);
-    if (memcmp(&twice, &skipped, sizeof twice) != 0) fail("the record after one skip and after two");
+    if (!same_record(twice, skipped)) fail("the record after one skip and after two");
+    if (skipped.count != UINT64_MAX || jabulghi_skip(&skipped, 1) != JABULGHI_COUNT_FULL) fail("the count of the most pairs");
 }
 
 // The seconds of a call in each of many short runs of so many calls, least first.
@@ -195,18 +185,20 @@ static void print_time(double seconds) {
 static void skips() {
     check_skips();
     static jabulghi_record ours = seeded();
-    double pair = short_runs(1, [] { draw_pairs(ours, 10000); })[0] / 10000;
+    static int16_t block[LENGTH];
+    double pair = short_runs(SHORT_CALLS, [] { jabulghi_block(&ours, block, LENGTH); })[0] / (LENGTH / 2);
     printf("\n%16s%16s%16s   skips\n", "least", "median", "by drawing");
     for (uint64_t n : {UINT64_MAX, (uint64_t)1000}) {
-        std::vector<double> seconds = short_runs(SHORT_CALLS, [n] { jabulghi_skip(&ours, n); });
+        // from count 0, so that none is refused
+        std::vector<double> seconds = short_runs(SHORT_CALLS, [n] { ours.count = 0; jabulghi_skip(&ours, n); });
         print_time(seconds[0]);
         print_time(seconds[SHORT_RUNS / 2]);
         print_time((double)n * pair);
         printf("   jabulghi_skip of %llu pairs\n", (unsigned long long)n);
     }
-    printf("\nleast and median: of %d runs of %d skips, in processor time. By drawing: a draw from each stream for every pair and no samples,\n",
-           SHORT_RUNS, SHORT_CALLS);
-    printf("%.1f ns a pair, the least of as many runs.\n", pair * 1e9);
+    printf("\nleast and median: of %d runs of %d skips, in processor time. By drawing: blocks of %zu samples, %.1f ns a pair,\n",
+           SHORT_RUNS, SHORT_CALLS, LENGTH, pair * 1e9);
+    printf("the least of as many runs.\n");
 }
 
 int main() {

@@ -31,15 +31,6 @@ static inline int accepted(const uint32_t *r) {
     return r[0] >= 2 && r[1] >= 8 && r[2] >= 16 && r[3] >= 2 && r[4] >= 8 && r[5] >= 16;
 }
 
-uint32_t plain_draw_a(uint32_t *registers, uint32_t *draw) {
-    if (!accepted(registers)) {
-        *draw = 0;
-        return 1;
-    }
-    *draw = step(registers);
-    return 0;
-}
-
 /* From the exponent of k, below 2^53, as a double: x86's bit scan would wait for that of the pair before. */
 static inline int top_bit(uint64_t k) {
     double exact = (double)(int64_t)k;

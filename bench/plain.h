@@ -7,7 +7,6 @@
 extern "C" {
 #endif
 void plain_tables(void);
-uint32_t plain_draw_a(uint32_t *registers, uint32_t *draw);
 /* The square root by the processor's floating point, exact below 2^53, or in whole numbers bit by bit. */
 uint32_t plain_block(uint32_t *registers, int16_t *block, size_t length);
 uint32_t plain_block_bits(uint32_t *registers, int16_t *block, size_t length);

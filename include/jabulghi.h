@@ -12,7 +12,7 @@
 extern "C" {
 #endif
 
-/* Every call returns one of these numbers. Order: 2 before 3; 11 before 12, both before 4; for a job 5, then the first bad line, within it 6, 8, 9, 7, 11, 12;
+/* Every call returns one of these numbers. Order: 2 before 3; 11, 12, 4, 13; for a job 5, then the first bad line, within it 6, 8, 9, 7, 11, 12;
  * last 10. */
 enum {
     JABULGHI_OK = 0,
@@ -26,37 +26,35 @@ enum {
     JABULGHI_TOO_MANY_SHOTS = 9,    /* 501st shot */
     JABULGHI_LISTING_TOO_LONG = 10, /* listing longer than the buffer lent */
     JABULGHI_UNFIT_STREAM_A = 11,   /* a register of stream a below its minimum */
-    JABULGHI_UNFIT_STREAM_B = 12    /* a register of stream b below its minimum, stream a being fit */
+    JABULGHI_UNFIT_STREAM_B = 12,   /* a register of stream b below its minimum, stream a being fit */
+    JABULGHI_COUNT_FULL = 13        /* the count would pass 2^64 - 1 */
 };
 
 /* Every listing fits this many bytes. */
 #define JABULGHI_LISTING_ROOM 20480
 
-/* A generator record that the caller keeps: registers s0, s1, s2 of stream a and of stream b. An accepted record has s0 at least 2,
- * s1 at least 8 and s2 at least 16 in both. A record that was accepted is never refused later. */
-typedef struct { uint32_t a[3], b[3]; } jabulghi_record;
+/* A generator record that the caller keeps: registers s0, s1, s2 of stream a and of stream b, and the count of the pairs that were handed out or
+ * skipped since seeding. An accepted record has s0 at least 2, s1 at least 8 and s2 at least 16 in both. A record that was accepted is refused
+ * later for its count alone. A refused call counts nothing. */
+typedef struct { uint32_t a[3], b[3]; uint64_t count; } jabulghi_record;
 
-/* Seeds a record. Refused (11, 12), the record becomes six zeros. */
+/* Seeds a record, its count 0. Refused (11, 12), the record becomes six zeros and count 0. */
 uint32_t jabulghi_seed(uint32_t a0, uint32_t a1, uint32_t a2, uint32_t b0, uint32_t b1, uint32_t b2, jabulghi_record *record);
-
-/* One draw from stream a, or from stream b: moves its own stream alone. Refused (11, 12), the draw is 0 and the record stays. */
-uint32_t jabulghi_draw_a(jabulghi_record *record, uint32_t *draw);
-uint32_t jabulghi_draw_b(jabulghi_record *record, uint32_t *draw);
 
 /* The two samples of k, read as 1 where it is 0, and v, in units of 2^-11 of a standard deviation. Each is less than nine
  * sixteenths of a unit from its member of the exact Box-Muller pair. Refused (2, 3), the samples are 0 0. samples: 2 elements. */
 uint32_t jabulghi_sample(uint64_t k, uint32_t v, int16_t *samples);
 
-/* One pair from a record: a draw from a, then one from b, and their two samples. Refused (11, 12), the samples are 0 0 and the record
- * stays. samples: 2 elements. */
+/* One pair from a record: a draw from a, then one from b, and their two samples. Refused (11, 12, 13), the samples are 0 0 and the
+ * record stays. samples: 2 elements. */
 uint32_t jabulghi_pair(jabulghi_record *record, int16_t *samples);
 
-/* A block of length elements: the samples of length / 2 pairs, first and second alternating. Refused (11, 12, 4), block and record stay.
- * Length 0 succeeds and moves nothing. */
+/* A block of length elements: the samples of length / 2 pairs, first and second alternating. Refused (11, 12, 4, 13), block and
+ * record stay: all its pairs are counted or none. Length 0 succeeds and moves nothing. */
 uint32_t jabulghi_block(jabulghi_record *record, int16_t *block, size_t length);
 
-/* Moves a record by n pairs, for any n at once: rigs that share one long stream each start at a stretch of their own. Skips add up, in any
- * order; n = 0 leaves the record as it is. Refused (11, 12), the record stays. */
+/* Moves a record by n pairs, for any n at once: rigs that share one long stream each start at a stretch of their own. Skips that are
+ * accepted add up, in any order; n = 0 leaves the record as it is. Refused (11, 12, 13), the record stays. */
 uint32_t jabulghi_skip(jabulghi_record *record, uint64_t n);
 
 /* The listing of a job's text, its line and its length. Accepted, line is 0 and the first length bytes of listing are the listing;

@@ -1,28 +1,23 @@
-/* Every call of include/jabulghi.h from C: one that is accepted and one for each refusal, on document 01's values. */
+/* Every call of include/jabulghi.h from C: one that is accepted and one for each refusal. */
 #include "jabulghi.h"
 #include <inttypes.h>
 #include <stdio.h>
 #include <string.h>
 
-/* A record is six registers with nothing between them: where that fails, the size of an array is negative. */
-typedef char record_is_six_registers[sizeof(jabulghi_record) == 6 * sizeof(uint32_t) ? 1 : -1];
+/* A record is six registers and a count with nothing between them: where that fails, the size of an array is negative. */
+typedef char record_has_32_bytes[sizeof(jabulghi_record) == 32 ? 1 : -1];
 typedef char a_comes_first[offsetof(jabulghi_record, a) == 0 ? 1 : -1];
-typedef char b_comes_after[offsetof(jabulghi_record, b) == 3 * sizeof(uint32_t) ? 1 : -1];
+typedef char b_comes_after[offsetof(jabulghi_record, b) == 12 ? 1 : -1];
+typedef char count_comes_last[offsetof(jabulghi_record, count) == 24 ? 1 : -1];
 
 static void show_record(const jabulghi_record *r) {
     printf(" %" PRIu32 " %" PRIu32 " %" PRIu32 " %" PRIu32 " %" PRIu32 " %" PRIu32, r->a[0], r->a[1], r->a[2], r->b[0], r->b[1], r->b[2]);
-    printf("\n");
+    printf(", count %" PRIu64 "\n", r->count);
 }
 
 static void seed(jabulghi_record *r, uint32_t a0) {
-    uint32_t number = jabulghi_seed(a0, 8, 16, 2, 8, 16, r);
+    uint32_t number = jabulghi_seed(a0, 8, 16, 5, 60, 700, r);
     printf("seed %" PRIu32 ":", number);
-    show_record(r);
-}
-
-static void draw(const char *name, uint32_t call(jabulghi_record *, uint32_t *), jabulghi_record *r) {
-    uint32_t word = 7, number = call(r, &word);
-    printf("draw %s %" PRIu32 ": 0x%08" PRIX32 ", record", name, number, word);
     show_record(r);
 }
 
@@ -83,14 +78,9 @@ static void list_shots(int shots) {
 #define EXAMPLE SEEDS "(sigma 4 10)\n(shot A1 A2 12345 4500)\n(shot A2 A3 9000 65530)\n"
 
 int main(void) {
-    jabulghi_record r = {{7, 7, 7}, {7, 7, 7}}, unfit = {{2, 8, 16}, {2, 8, 15}}, both_unfit = {{2, 7, 16}, {2, 8, 15}};
+    jabulghi_record r = {{7, 7, 7}, {7, 7, 7}, 7}, unfit = {{2, 8, 16}, {2, 8, 15}, UINT64_MAX}, both_unfit = {{2, 7, 16}, {2, 8, 15}, 7};
     seed(&r, 1);
     seed(&r, 2);
-    draw("a", jabulghi_draw_a, &r);
-    draw("a", jabulghi_draw_a, &r);
-    draw("b", jabulghi_draw_b, &r);
-    draw("a", jabulghi_draw_a, &unfit);
-    draw("b", jabulghi_draw_b, &unfit);
     sample(1, 49152);
     sample((uint64_t)1 << 40, 24576);
     sample((uint64_t)1 << 48, 65536);
@@ -103,11 +93,22 @@ int main(void) {
     block(&unfit, 5);
     skip(&r, 0);
     skip(&r, 1);
-    skip(&r, UINT64_MAX);
     skip(&r, 1000);
+    skip(&r, UINT64_MAX);
     skip(&unfit, 0);
     skip(&unfit, UINT64_MAX);
     skip(&both_unfit, 1);
+    skip(&r, UINT64_MAX - r.count - 2);
+    block(&r, 6);
+    block(&r, 2);
+    block(&r, 4);
+    pair(&r);
+    pair(&r);
+    block(&r, 0);
+    block(&r, 5);
+    block(&r, 2);
+    skip(&r, 0);
+    skip(&r, 1);
     list_text(EXAMPLE, JABULGHI_LISTING_ROOM);
     list_text(EXAMPLE, 51);
     list_text(SEEDS "(sigma 4 10)\n", 24);

@@ -1,7 +1,8 @@
 //! What is compared: a case, both sides' answers to it, and the cases that are smaller.
-use crate::library::{self, Drawn, Lent, Paired, Sampled, Seeded};
+use crate::jump;
+use crate::library::{self, lent, Answer, Lent, Sampled, Seeded};
 use crate::sample::Tables;
-use crate::stream::{self, Record, A, B};
+use crate::stream::{self, draw_of, Record, Registers};
 use std::fmt;
 
 pub trait Case: Clone + fmt::Debug {
@@ -30,18 +31,65 @@ pub fn same<C: Case>(tables: &Tables, case: &C) -> C::Answer {
 }
 
 #[derive(Clone, Debug)]
-pub struct Seed(pub Record);
-#[derive(Clone, Debug)]
-pub struct Draw(pub Record, pub usize);
-/// Seeds, and how many draws from each stream.
-#[derive(Clone, Debug)]
-pub struct History(pub Record, pub usize);
+pub struct Seed(pub Registers);
 #[derive(Clone, Debug)]
 pub struct Sample(pub u64, pub u32);
+/// A call on a record.
 #[derive(Clone, Debug)]
-pub struct Pair(pub Record);
+pub struct Called(pub Record, pub Call);
+/// Accepted seeds, and how many pairs from them.
 #[derive(Clone, Debug)]
-pub struct Block(pub Record, pub usize);
+pub struct History(pub Registers, pub usize);
+
+/// The calls that are passed a record: a pair, a block of a length, a skip of n pairs.
+#[derive(Clone, Copy, Debug)]
+pub enum Call {
+    Pair,
+    Block(usize),
+    Skip(u64),
+}
+
+impl Call {
+    /// The pairs that it hands out or skips where it is accepted.
+    pub fn pairs(self) -> u64 {
+        match self {
+            Call::Pair => 1,
+            Call::Block(length) => length as u64 / 2,
+            Call::Skip(n) => n,
+        }
+    }
+
+    pub fn library(self, record: &Record) -> Answer {
+        match self {
+            Call::Pair => library::pair(record),
+            Call::Block(length) => library::block(record, length),
+            Call::Skip(n) => library::skip(record, n),
+        }
+    }
+
+    pub fn other(self, tables: &Tables, record: &Record) -> Answer {
+        let mut out = Lent::marked(if let Call::Block(length) = self { length } else { 0 });
+        let (number, next) = match self {
+            Call::Pair => {
+                let (number, samples, next) = stream::pair(tables, record);
+                out = Lent::holding(&samples);
+                (number, next)
+            }
+            Call::Block(_) => stream::block(tables, record, out.elements_mut()),
+            Call::Skip(n) => jump::skip(record, n),
+        };
+        (number, lent(&next), out)
+    }
+
+    pub fn smaller(self) -> Vec<Call> {
+        match self {
+            Call::Pair => Vec::new(),
+            Call::Block(length) => below(length as u64).into_iter().map(|n| Call::Block(n as usize)).collect(),
+            Call::Skip(n) => below(n).into_iter().map(Call::Skip).collect(),
+        }
+    }
+}
+
 /// Numbers below n: 0, half, one bit less, one less.
 pub fn below(n: u64) -> Vec<u64> {
     let bits = (0..64).rev().map(|bit| n & !(1 << bit));
@@ -50,18 +98,24 @@ pub fn below(n: u64) -> Vec<u64> {
     out
 }
 
-/// Records with one register smaller, an accepted one's own minimum first.
-pub fn records(record: &Record) -> Vec<Record> {
+/// Registers with one smaller, an accepted one's own minimum first.
+pub fn lower(registers: &Registers) -> Vec<Registers> {
     let mut out = Vec::new();
     for (j, least) in [2, 8, 16, 2, 8, 16].into_iter().enumerate() {
-        let lower = [least].into_iter().filter(|&n| n < record[j]);
-        for n in lower.chain(below(record[j].into()).into_iter().map(|n| n as u32)) {
-            let mut next = *record;
+        let lower = [least].into_iter().filter(|&n| n < registers[j]);
+        for n in lower.chain(below(registers[j].into()).into_iter().map(|n| n as u32)) {
+            let mut next = *registers;
             next[j] = n;
             out.push(next);
         }
     }
     out
+}
+
+/// Records with a smaller count or a smaller register.
+pub fn records(record: &Record) -> Vec<Record> {
+    let fewer = below(record.count).into_iter().map(|count| Record { count, ..*record });
+    fewer.chain(lower(&record.registers).into_iter().map(|registers| Record { registers, ..*record })).collect()
 }
 
 impl Case for Seed {
@@ -71,39 +125,37 @@ impl Case for Seed {
     }
     fn other(&self, _: &Tables) -> Seeded {
         let (number, record) = stream::seed(&self.0);
-        (number, Lent::holding(&record))
+        (number, lent(&record))
     }
     fn smaller(&self) -> Vec<Seed> {
-        records(&self.0).into_iter().map(Seed).collect()
+        lower(&self.0).into_iter().map(Seed).collect()
     }
 }
 
-impl Case for Draw {
-    type Answer = Drawn;
-    fn library(&self) -> Drawn {
-        library::draw(&self.0, self.1)
-    }
-    fn other(&self, _: &Tables) -> Drawn {
-        let (number, draw, next) = stream::draw(&self.0, self.1);
-        (number, Lent::holding(&next), Lent::holding(&[draw]))
-    }
-    fn smaller(&self) -> Vec<Draw> {
-        records(&self.0).into_iter().map(|r| Draw(r, self.1)).collect()
-    }
-}
-
+/// The record and the samples of each pair in turn. The other side goes by the recurrence on single bits.
 impl Case for History {
-    type Answer = Vec<[u32; 2]>;
-    fn library(&self) -> Vec<[u32; 2]> {
-        library::draws(&self.0, self.1)
+    type Answer = Vec<Answer>;
+    fn library(&self) -> Vec<Answer> {
+        let mut record = library::record_of(&library::seed(&self.0).1);
+        let mut pair = |_| {
+            let answer = library::pair(&record);
+            record = library::record_of(&answer.1);
+            answer
+        };
+        (0..self.1).map(&mut pair).collect()
     }
-    fn other(&self, _: &Tables) -> Vec<[u32; 2]> {
-        let of = |first: usize| stream::recurrence([self.0[first], self.0[first + 1], self.0[first + 2]], self.1);
-        of(A).into_iter().zip(of(B)).map(|(a, b)| [a, b]).collect()
+    fn other(&self, tables: &Tables) -> Vec<Answer> {
+        let [a0, a1, a2, b0, b1, b2] = self.0;
+        let streams = stream::recurrence([a0, a1, a2], self.1).into_iter().zip(stream::recurrence([b0, b1, b2], self.1));
+        let pair = |(count, (a, b)): (u64, ([u32; 3], [u32; 3]))| {
+            let record = Record { registers: [a[0], a[1], a[2], b[0], b[1], b[2]], count };
+            (0, lent(&record), Lent::holding(&stream::samples(tables, draw_of(a), draw_of(b))))
+        };
+        (1..).zip(streams).map(pair).collect()
     }
     fn smaller(&self) -> Vec<History> {
         let shorter = below(self.1 as u64).into_iter().map(|n| History(self.0, n as usize));
-        let lower = records(&self.0).into_iter().filter(stream::accepted);
+        let lower = lower(&self.0).into_iter().filter(stream::accepted);
         shorter.chain(lower.map(|r| History(r, self.1))).collect()
     }
 }
@@ -123,32 +175,16 @@ impl Case for Sample {
     }
 }
 
-impl Case for Pair {
-    type Answer = Paired;
-    fn library(&self) -> Paired {
-        library::pair(&self.0)
+impl Case for Called {
+    type Answer = Answer;
+    fn library(&self) -> Answer {
+        self.1.library(&self.0)
     }
-    fn other(&self, tables: &Tables) -> Paired {
-        let (number, first, second, next) = stream::pair(tables, &self.0);
-        (number, Lent::holding(&next), Lent::holding(&[first, second]))
+    fn other(&self, tables: &Tables) -> Answer {
+        self.1.other(tables, &self.0)
     }
-    fn smaller(&self) -> Vec<Pair> {
-        records(&self.0).into_iter().map(Pair).collect()
-    }
-}
-
-impl Case for Block {
-    type Answer = Paired;
-    fn library(&self) -> Paired {
-        library::block(&self.0, self.1)
-    }
-    fn other(&self, tables: &Tables) -> Paired {
-        let mut block = Lent::marked(self.1);
-        let (number, next) = stream::block(tables, &self.0, block.elements_mut());
-        (number, Lent::holding(&next), block)
-    }
-    fn smaller(&self) -> Vec<Block> {
-        let shorter = below(self.1 as u64).into_iter().map(|n| Block(self.0, n as usize));
-        shorter.chain(records(&self.0).into_iter().map(|r| Block(r, self.1))).collect()
+    fn smaller(&self) -> Vec<Called> {
+        let less = self.1.smaller().into_iter().map(|call| Called(self.0, call));
+        less.chain(records(&self.0).into_iter().map(|record| Called(record, self.1))).collect()
     }
 }

@@ -1,52 +1,51 @@
 //! The places where something changes, each tried by itself: minima, lengths of blocks, cells of the tables, quarters.
-use crate::cases::{same, Block, Draw, History, Pair, Sample, Seed};
+use crate::cases::{same, Call, Called, History, Sample, Seed};
+use crate::library::record_of;
 use crate::sample::Tables;
-use crate::stream::{Record, A, B};
+use crate::stream::{fresh, Registers};
 
-const LEAST: Record = [2, 8, 16, 2, 8, 16];
+const LEAST: Registers = [2, 8, 16, 2, 8, 16];
 
-/// Every call but a skip (skips.rs) on one record: each draw, a pair, and blocks of even and odd length and of none.
-fn calls(tables: &Tables, record: Record) {
-    same(tables, &Seed(record));
-    same(tables, &Draw(record, A));
-    same(tables, &Draw(record, B));
-    same(tables, &Pair(record));
-    for length in [0, 3, 4, 100] {
-        same(tables, &Block(record, length));
+/// Seeding, a pair, and blocks of even and odd length and of none. Skips are in skips.rs, counts in counts.rs.
+fn calls(tables: &Tables, registers: Registers) {
+    same(tables, &Seed(registers));
+    for call in [Call::Pair, Call::Block(0), Call::Block(3), Call::Block(4), Call::Block(100)] {
+        same(tables, &Called(fresh(registers), call));
     }
 }
 
 /// Registers at their minima, each one below in turn, all zero, all at one extreme.
-pub fn extremes() -> Vec<Record> {
-    let mut records = vec![LEAST, [0; 6], [2097281, 2097280, 2105344, 2, 8, 16]];
+pub fn extremes() -> Vec<Registers> {
+    let mut all = vec![LEAST, [0; 6], [2097281, 2097280, 2105344, 2, 8, 16]];
     for j in 0..6 {
         for lower in [0, LEAST[j] - 1] {
-            let mut record = LEAST;
-            record[j] = lower;
-            records.push(record);
+            let mut registers = LEAST;
+            registers[j] = lower;
+            all.push(registers);
         }
     }
     let extremes = [u32::MAX, 1 << 31, (1 << 31) - 1, 0x5555_5555, 0xAAAA_AAAA, 1 << 16];
-    records.extend(extremes.map(|register| [register; 6]));
-    records.extend([LEAST.map(|least| 2 * least), LEAST.map(|least| least.wrapping_neg()), LEAST.map(|least| 2 * least - 1)]);
-    records
+    all.extend(extremes.map(|register| [register; 6]));
+    all.extend([LEAST.map(|least| 2 * least), LEAST.map(|least| least.wrapping_neg()), LEAST.map(|least| 2 * least - 1)]);
+    all
 }
 
-/// Every call on the extreme records; then long runs of one record.
+/// Seeding, pairs and blocks of the extreme registers; then long runs from one seeding.
 pub fn records(tables: &Tables) -> String {
-    let records = extremes();
-    for &record in &records {
-        calls(tables, record);
+    let extremes = extremes();
+    for &registers in &extremes {
+        calls(tables, registers);
     }
     let length = 60_000;
     same(tables, &History(LEAST, length));
-    let (mut record, pairs) = (LEAST, 2048);
+    let (first, pairs) = (fresh(LEAST), 2048);
+    let mut record = first;
     for _ in 0..pairs {
-        record = same(tables, &Pair(record)).1.elements().try_into().unwrap();
+        record = record_of(&same(tables, &Called(record, Call::Pair)).1);
     }
-    let (_, next, _) = same(tables, &Block(LEAST, 2 * pairs));
-    assert_eq!(next.elements(), record, "the record after {pairs} pairs and after their block");
-    format!("every call but a skip on {} records at the edges, {length} draws and {pairs} pairs of one", records.len())
+    let (_, next, _) = same(tables, &Called(first, Call::Block(2 * pairs)));
+    assert_eq!(record_of(&next), record, "the record after {pairs} pairs and after their block");
+    format!("seeding, pairs and blocks of {} records at the edges, {length} pairs of one", extremes.len())
 }
 
 /// Lengths around the stretches that a block may be drawn in.
@@ -54,7 +53,8 @@ pub fn lengths(tables: &Tables) -> String {
     let mut count = 0;
     for stretch in [0, 64, 128, 256, 512, 1024, 2048, 4096, 8192] {
         for length in stretch..stretch + 8 {
-            same(tables, &Block(LEAST, if stretch == 0 { length } else { length - 4 }));
+            let call = Call::Block(if stretch == 0 { length } else { length - 4 });
+            same(tables, &Called(fresh(LEAST), call));
             count += 1;
         }
     }

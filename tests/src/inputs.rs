@@ -1,11 +1,11 @@
 //! Seeds and pairs of numbers, the places where something changes among them.
 use crate::random::Random;
-use crate::stream::Record;
+use crate::stream::{Record, Registers};
 
 /// Seeds of every kind: mostly accepted, with small and sparse registers among them.
-pub fn seeds(random: &mut Random) -> Record {
-    let mut record = [0; 6];
-    for (j, register) in record.iter_mut().enumerate() {
+pub fn seeds(random: &mut Random) -> Registers {
+    let mut registers = [0; 6];
+    for (j, register) in registers.iter_mut().enumerate() {
         let least = [2, 8, 16][j % 3];
         *register = match random.below(40) {
             0 => random.below(20) as u32,
@@ -15,7 +15,20 @@ pub fn seeds(random: &mut Random) -> Record {
             _ => (random.number(32) as u32).max(least),
         };
     }
-    record
+    registers
+}
+
+/// Seeds of every kind and a count for a call of so many pairs: any, at its most or near it, or such that they just fit or just do not.
+pub fn record(random: &mut Random, pairs: u64) -> Record {
+    let most = u64::MAX;
+    let count = match random.below(8) {
+        0 => most - random.below(4) as u64,
+        1 | 2 => (most - pairs).saturating_sub(1).saturating_add(random.below(3) as u64),
+        3 | 4 => random.number(64),
+        5 => random.below(1000) as u64,
+        _ => 0,
+    };
+    Record { registers: seeds(random), count }
 }
 
 /// k's cells are those of the logarithm tables: k at the start of a cell (h, i), or just beside it, at any scale.

@@ -1,6 +1,6 @@
 //! Document 01, "A job and its listing".
 use crate::sample::Tables;
-use crate::stream::{pair, refusal, Record};
+use crate::stream::{fresh, pair, seed, Registers};
 
 /// The most shots of a job, and the room that its listing never exceeds.
 pub const SHOTS: usize = 500;
@@ -54,7 +54,7 @@ pub fn list(tables: &Tables, text: &[u8], room: usize) -> (u32, u32, Vec<u8>) {
     if text.len() > 60_000 {
         return refused(5, 0);
     }
-    let (mut record, mut sigma) = ([0; 6], (0, 0));
+    let (mut record, mut sigma) = (fresh([0; 6]), (0, 0));
     let mut listing = b"FROM TO MM STEP\n".to_vec();
     let (mut line, mut shots) = (0, 0);
     for ended in text.split_inclusive(|&b| b == b'\n') {
@@ -80,15 +80,16 @@ pub fn list(tables: &Tables, text: &[u8], room: usize) -> (u32, u32, Vec<u8>) {
         }
         match line {
             1 => {
-                record = Record::try_from(numbers.iter().map(|&n| n as u32).collect::<Vec<_>>()).unwrap();
-                let number = refusal(&record);
+                let seeds = Registers::try_from(numbers.iter().map(|&n| n as u32).collect::<Vec<_>>()).unwrap();
+                let (number, seeded) = seed(&seeds);
                 if number != 0 {
                     return refused(number, 1);
                 }
+                record = seeded;
             }
             2 => sigma = (numbers[0] as i64, numbers[1] as i64),
             _ => {
-                let (_, first, second, next) = pair(tables, &record);
+                let (_, [first, second], next) = pair(tables, &record);
                 record = next;
                 shots += 1;
                 let mm = (numbers[0] as i64 + noise(sigma.0, first)).max(0);

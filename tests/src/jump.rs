@@ -1,7 +1,7 @@
 //! Document 02, "skip ahead", without drawing. The bits of a register follow x(m+k) = x(m+q) xor x(m), so moving on by one bit is
 //! multiplying by x modulo the trinomial x^k + x^q + 1 over GF(2), and n draws are the power x^(s n).
 //! A polynomial is a number: its bit j is the factor of x^j.
-use crate::stream::{bits, refusal, Record, Shifts, SHIFTS};
+use crate::stream::{bits, call, Record, Registers, Shifts, SHIFTS};
 
 fn bit(number: u64, place: usize) -> bool {
     number >> place & 1 == 1
@@ -29,21 +29,23 @@ fn power(n: u128, shifts: Shifts) -> u64 {
 
 /// A register n draws on: its bit i from the top is the sum of the bits x(i+j) of the recurrence, for each x^j of the power. None
 /// leave it as it is, for what stands below its top k bits need not follow the recurrence.
-pub fn register_after(register: u32, n: u128, shifts: Shifts) -> u32 {
+pub fn register_after(register: u32, n: u64, shifts: Shifts) -> u32 {
     if n == 0 {
         return register;
     }
     let (k, _, s) = shifts;
-    let power = power(n * s as u128, shifts);
+    let power = power(u128::from(n) * s as u128, shifts);
     let x = bits(register, shifts, 32 + k);
     let sum = |i: usize| (0..k).filter(|&j| bit(power, j)).fold(0, |sum, j| sum ^ x[i + j]);
     (0..32).fold(0, |word, i| word << 1 | sum(i))
 }
 
-/// A skip as a public call: number and the next record. The n of two calls may be given as their sum.
-pub fn skip(record: &Record, n: u128) -> (u32, Record) {
-    match refusal(record) {
-        0 => (0, std::array::from_fn(|j| register_after(record[j], n, SHIFTS[j % 3]))),
-        number => (number, *record),
-    }
+/// Both streams n draws on.
+pub fn ahead(registers: &Registers, n: u64) -> Registers {
+    std::array::from_fn(|j| register_after(registers[j], n, SHIFTS[j % 3]))
+}
+
+/// A skip as a public call: number and the next record.
+pub fn skip(record: &Record, n: u64) -> (u32, Record) {
+    call(record, 0, n, |registers| *registers = ahead(registers, n))
 }

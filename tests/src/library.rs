@@ -1,11 +1,9 @@
-//! The static library's functions as include/jabulghi.h declares them, called on marked memory. A record is its six registers.
-use crate::stream::{Record, A};
+//! The static library's functions as include/jabulghi.h declares them, called on marked memory.
+use crate::stream::{Record, Registers};
 use std::fmt;
 
 extern "C" {
     fn jabulghi_seed(a0: u32, a1: u32, a2: u32, b0: u32, b1: u32, b2: u32, record: *mut u32) -> u32;
-    fn jabulghi_draw_a(record: *mut u32, draw: *mut u32) -> u32;
-    fn jabulghi_draw_b(record: *mut u32, draw: *mut u32) -> u32;
     fn jabulghi_sample(k: u64, v: u32, samples: *mut i16) -> u32;
     fn jabulghi_pair(record: *mut u32, samples: *mut i16) -> u32;
     fn jabulghi_block(record: *mut u32, block: *mut i16, length: usize) -> u32;
@@ -30,7 +28,12 @@ impl Mark for u32 {
     fn mark(place: usize) -> u32 {
         (place as u32 + 1).wrapping_mul(0x9E3779B1)
     }
+    /// Eight words are a record.
+    fn show(elements: &[u32]) -> String {
+        <[u32; 8]>::try_from(elements).map_or(format!("{elements:?}"), |words| format!("{:?}", of_words(words)))
+    }
 }
+
 /// Lent memory, with a marked margin on either side. Two are equal where elements and margins are.
 #[derive(Clone, PartialEq)]
 pub struct Lent<T>(Vec<T>);
@@ -73,27 +76,33 @@ impl<T: Mark> fmt::Debug for Lent<T> {
     }
 }
 
-pub fn record_of(registers: &Lent<u32>) -> Record {
-    registers.elements().try_into().unwrap()
+/// A record's registers, then the low and the high word of its count.
+fn words(record: &Record) -> [u32; 8] {
+    let [a0, a1, a2, b0, b1, b2] = record.registers;
+    [a0, a1, a2, b0, b1, b2, record.count as u32, (record.count >> 32) as u32]
+}
+
+fn of_words([a0, a1, a2, b0, b1, b2, low, high]: [u32; 8]) -> Record {
+    Record { registers: [a0, a1, a2, b0, b1, b2], count: u64::from(high) << 32 | u64::from(low) }
+}
+
+pub fn lent(record: &Record) -> Lent<u32> {
+    Lent::holding(&words(record))
+}
+
+pub fn record_of(words: &Lent<u32>) -> Record {
+    of_words(words.elements().try_into().unwrap())
 }
 
 pub type Seeded = (u32, Lent<u32>);
-pub type Skipped = (u32, Lent<u32>);
-pub type Drawn = (u32, Lent<u32>, Lent<u32>);
 pub type Sampled = (u32, Lent<i16>);
-pub type Paired = (u32, Lent<u32>, Lent<i16>);
+/// Number, record and samples.
+pub type Answer = (u32, Lent<u32>, Lent<i16>);
 
-pub fn seed(s: &Record) -> Seeded {
-    let mut registers = Lent::marked(6);
-    let number = unsafe { jabulghi_seed(s[0], s[1], s[2], s[3], s[4], s[5], registers.pointer()) };
-    (number, registers)
-}
-
-pub fn draw(record: &Record, stream: usize) -> Drawn {
-    let (mut registers, mut draw) = (Lent::holding(record), Lent::marked(1));
-    let call = if stream == A { jabulghi_draw_a } else { jabulghi_draw_b };
-    let number = unsafe { call(registers.pointer(), draw.pointer()) };
-    (number, registers, draw)
+pub fn seed(s: &Registers) -> Seeded {
+    let mut record = Lent::marked(8);
+    let number = unsafe { jabulghi_seed(s[0], s[1], s[2], s[3], s[4], s[5], record.pointer()) };
+    (number, record)
 }
 
 pub fn sample(k: u64, v: u32) -> Sampled {
@@ -102,31 +111,21 @@ pub fn sample(k: u64, v: u32) -> Sampled {
     (number, samples)
 }
 
-pub fn pair(record: &Record) -> Paired {
-    let (mut registers, mut samples) = (Lent::holding(record), Lent::marked(2));
-    let number = unsafe { jabulghi_pair(registers.pointer(), samples.pointer()) };
-    (number, registers, samples)
+pub fn pair(record: &Record) -> Answer {
+    let (mut record, mut samples) = (lent(record), Lent::marked(2));
+    let number = unsafe { jabulghi_pair(record.pointer(), samples.pointer()) };
+    (number, record, samples)
 }
 
-pub fn block(record: &Record, length: usize) -> Paired {
-    let (mut registers, mut block) = (Lent::holding(record), Lent::marked(length));
-    let number = unsafe { jabulghi_block(registers.pointer(), block.pointer(), length) };
-    (number, registers, block)
+pub fn block(record: &Record, length: usize) -> Answer {
+    let (mut record, mut block) = (lent(record), Lent::marked(length));
+    let number = unsafe { jabulghi_block(record.pointer(), block.pointer(), length) };
+    (number, record, block)
 }
 
-pub fn skip(record: &Record, n: u64) -> Skipped {
-    let mut registers = Lent::holding(record);
-    let number = unsafe { jabulghi_skip(registers.pointer(), n) };
-    (number, registers)
-}
-
-/// `count` draws in turn from a and b, from seeding on.
-pub fn draws(seeds: &Record, count: usize) -> Vec<[u32; 2]> {
-    let mut record = record_of(&seed(seeds).1);
-    let mut one = |stream| {
-        let (_, registers, drawn) = draw(&record, stream);
-        record = record_of(&registers);
-        drawn.elements()[0]
-    };
-    (0..count).map(|_| [one(A), one(crate::stream::B)]).collect()
+/// A skip has no samples.
+pub fn skip(record: &Record, n: u64) -> Answer {
+    let mut record = lent(record);
+    let number = unsafe { jabulghi_skip(record.pointer(), n) };
+    (number, record, Lent::holding(&[]))
 }

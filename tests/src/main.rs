@@ -1,8 +1,9 @@
-//! Runs the static library and the listing program beside another implementation of document 01, written from the document alone.
+//! Runs the static library and the listing program beside another implementation of documents 01 and 02, written from them alone.
 //! JABULGHI_SEED gives the generated inputs another seed. With the words `checks FOLDER` it writes what the program crates/checks reads and
 //! has to print.
 mod cases;
 mod checks;
+mod counts;
 mod edges;
 mod fixed;
 mod given;
@@ -19,11 +20,11 @@ mod skips;
 mod stream;
 mod texts;
 
-use cases::{same, Block, Draw, History, Pair, Sample, Seed};
+use cases::{same, Call, Called, History, Sample, Seed};
+use library::record_of;
 use random::Random;
 use sample::Tables;
 use std::time::Instant;
-use stream::{A, B};
 
 fn main() {
     let seed = std::env::var("JABULGHI_SEED").map_or(1996, |s| s.parse().expect("JABULGHI_SEED is a number"));
@@ -36,12 +37,13 @@ fn main() {
     }
     println!("the other implementation gives document 01's readings and example; inputs from seed {seed}");
     type Group = fn(&Tables, &mut Random) -> String;
-    let edges: [fn(&Tables) -> String; 5] = [edges::records, edges::cells, edges::lengths, skips::given, listings::given];
+    let edges: [fn(&Tables) -> String; 6] =
+        [edges::cells, edges::records, edges::lengths, skips::given, counts::given, listings::given];
     for group in edges {
         println!("{}, all equal", group(&tables));
     }
-    let plain: [Group; 5] = [draws, histories, samples, pairs, blocks];
-    let skips: [Group; 4] = [skips::skips, skips::drawn, skips::two, skips::blocks];
+    let plain: [Group; 5] = [seeds, samples, histories, pairs, blocks];
+    let skips: [Group; 5] = [skips::skips, skips::drawn, skips::two, skips::blocks, counts::runs];
     let groups = plain.into_iter().chain(skips).chain([listings::jobs as Group, program::program]);
     for (j, group) in groups.enumerate() {
         let start = Instant::now();
@@ -50,28 +52,25 @@ fn main() {
     }
 }
 
-fn draws(tables: &Tables, random: &mut Random) -> String {
+fn seeds(tables: &Tables, random: &mut Random) -> String {
     let count = 500_000;
     for _ in 0..count {
-        let record = inputs::seeds(random);
-        same(tables, &Seed(record));
-        same(tables, &Draw(record, A));
-        same(tables, &Draw(record, B));
+        same(tables, &Seed(inputs::seeds(random)));
     }
-    format!("{count} records seeded and drawn from")
+    format!("{count} records seeded")
 }
 
 fn histories(tables: &Tables, random: &mut Random) -> String {
     let (count, length) = (400, 2000);
     let mut run = 0;
     while run < count {
-        let record = inputs::seeds(random);
-        if stream::accepted(&record) {
-            same(tables, &History(record, length));
+        let seeds = inputs::seeds(random);
+        if stream::accepted(&seeds) {
+            same(tables, &History(seeds, length));
             run += 1;
         }
     }
-    format!("{count} accepted seeds, {length} draws from each stream against the recurrence on single bits")
+    format!("{count} accepted seeds, {length} pairs from each against the recurrence on single bits")
 }
 
 fn samples(tables: &Tables, random: &mut Random) -> String {
@@ -91,7 +90,7 @@ fn samples(tables: &Tables, random: &mut Random) -> String {
 fn pairs(tables: &Tables, random: &mut Random) -> String {
     let count = 1_000_000;
     for _ in 0..count {
-        same(tables, &Pair(inputs::seeds(random)));
+        same(tables, &Called(inputs::record(random, 1), Call::Pair));
     }
     format!("{count} pairs")
 }
@@ -100,7 +99,8 @@ fn pairs(tables: &Tables, random: &mut Random) -> String {
 fn blocks(tables: &Tables, random: &mut Random) -> String {
     let (mut count, mut samples) = (0, 0);
     while samples < 10_000_000 {
-        let mut record = inputs::seeds(random);
+        let pairs = random.below(4000) as u64;
+        let mut record = inputs::record(random, pairs);
         for _ in 0..20 {
             let length = match random.below(20) {
                 0 => random.below(20_000),
@@ -108,8 +108,8 @@ fn blocks(tables: &Tables, random: &mut Random) -> String {
                 5..=8 => (2 << random.below(12)) + random.below(5) - 2,
                 _ => random.below(70),
             };
-            let (number, registers, _) = same(tables, &Block(record, length));
-            record = registers.elements().try_into().unwrap();
+            let (number, next, _) = same(tables, &Called(record, Call::Block(length)));
+            record = record_of(&next);
             count += 1;
             samples += if number == 0 { length } else { 0 };
         }

@@ -3,7 +3,7 @@
 use crate::job;
 use crate::jump::register_after;
 use crate::sample::Tables;
-use crate::stream::{drawn_on, recurrence, step, A, SHIFTS};
+use crate::stream::{draw_of, recurrence, step, step_both, A, SHIFTS};
 
 const READINGS: [(u64, u32, i16, i16); 10] = [
     (1, 0, 0, 16706),
@@ -30,7 +30,7 @@ pub fn check(tables: &Tables) {
     assert_eq!(tables.sample(0, 65536), (3, 0, 0));
     let mut record = [2, 8, 16, 2, 8, 16];
     assert_eq!([step(&mut record, A), step(&mut record, A)], [0x00202080, 0x02002C80]);
-    assert_eq!(recurrence([2, 8, 16], 2), [0x00202080, 0x02002C80]);
+    assert_eq!(recurrence([2, 8, 16], 2).into_iter().map(draw_of).collect::<Vec<_>>(), [0x00202080, 0x02002C80]);
     assert_eq!(job::list(tables, JOB, job::ROOM), (0, 0, LISTING.to_vec()));
     jumps();
 }
@@ -38,13 +38,17 @@ pub fn check(tables: &Tables) {
 /// Few steps; and where there is one, as many whole periods of 2^k - 1 steps more as fit 64 bits.
 fn jumps() {
     for record in [[2, 8, 16, 3, 15, 31], [u32::MAX; 6], [123456789, 987654321, 192837465, 1 << 31, 1 << 29, 1 << 28]] {
-        for (n, j) in (0..64).flat_map(|n| (0..6).map(move |j| (n, j))) {
-            let shifts = SHIFTS[j % 3];
-            let (period, after) = ((1 << shifts.0) - 1, drawn_on(&record, n)[j]);
-            let rounds = if n == 0 { 0 } else { (u64::MAX - n) / period };
-            for n in [n, n + rounds * period] {
-                assert_eq!(register_after(record[j], n.into(), shifts), after, "register {} after {n} steps", record[j]);
+        let mut after = record;
+        for n in 0..64 {
+            for j in 0..6 {
+                let shifts = SHIFTS[j % 3];
+                let period = (1 << shifts.0) - 1;
+                let rounds = if n == 0 { 0 } else { (u64::MAX - n) / period };
+                for n in [n, n + rounds * period] {
+                    assert_eq!(register_after(record[j], n, shifts), after[j], "register {} after {n} steps", record[j]);
+                }
             }
+            step_both(&mut after);
         }
     }
 }

@@ -1,24 +1,21 @@
 //! Skips: the library's beside drawing where that is possible, and for every n beside the power of x; two skips beside one; a block after
 //! a skip beside the end of a longer one.
-use crate::cases::{below, records, same, Block, Case};
+use crate::cases::{below, records, same, Call, Called, Case};
 use crate::edges;
 use crate::inputs;
 use crate::jump;
-use crate::library::{self, record_of, Lent, Paired, Skipped};
+use crate::library::{self, lent, record_of, Answer, Lent};
 use crate::random::Random;
 use crate::sample::Tables;
-use crate::stream::{self, Record};
+use crate::stream::{self, fresh, Record};
 
-/// A record and n, beside the power of x.
-#[derive(Clone, Debug)]
-struct Skip(Record, u64);
 /// A record and n, beside n pairs drawn one by one.
 #[derive(Clone, Debug)]
 struct SkipDrawn(Record, u64);
-/// A record, m and n: m then n, n then m, and m + n where that fits, each beside the power of x for m + n.
+/// A record, m and n: m then n, n then m, and m + n where that fits. The other side skips those that are accepted as one.
 #[derive(Clone, Debug)]
 struct TwoSkips(Record, u64, u64);
-/// An accepted record, m and n: a skip of m and a block of n pairs, beside the last n of m + n pairs.
+/// A record that has room for m + n pairs: a skip of m and a block of n pairs, beside the last n of m + n pairs.
 #[derive(Clone, Debug)]
 struct BlockAfter(Record, usize, usize);
 
@@ -28,47 +25,60 @@ fn smaller(record: &Record, n: u64) -> Vec<(Record, u64)> {
     below(n).into_iter().map(|m| (*record, m)).chain(lower).collect()
 }
 
-impl Case for Skip {
-    type Answer = Skipped;
-    fn library(&self) -> Skipped {
-        library::skip(&self.0, self.1)
-    }
-    fn other(&self, _: &Tables) -> Skipped {
-        let (number, next) = jump::skip(&self.0, self.1.into());
-        (number, Lent::holding(&next))
-    }
-    fn smaller(&self) -> Vec<Skip> {
-        smaller(&self.0, self.1).into_iter().map(|(r, n)| Skip(r, n)).collect()
-    }
+/// The number of a skip.
+fn number(record: &Record, n: u64) -> u32 {
+    stream::call(record, 0, n, |_| ()).0
 }
 
 impl Case for SkipDrawn {
-    type Answer = Skipped;
-    fn library(&self) -> Skipped {
+    type Answer = Answer;
+    fn library(&self) -> Answer {
         library::skip(&self.0, self.1)
     }
-    fn other(&self, _: &Tables) -> Skipped {
-        let number = stream::refusal(&self.0);
-        let pairs = if number == 0 { self.1 } else { 0 };
-        (number, Lent::holding(&stream::drawn_on(&self.0, pairs)))
+    fn other(&self, _: &Tables) -> Answer {
+        let (number, next) = stream::drawn_on(&self.0, self.1);
+        (number, lent(&next), Lent::holding(&[]))
     }
     fn smaller(&self) -> Vec<SkipDrawn> {
         smaller(&self.0, self.1).into_iter().map(|(r, n)| SkipDrawn(r, n)).collect()
     }
 }
 
-impl Case for TwoSkips {
-    type Answer = Vec<Skipped>;
-    fn library(&self) -> Vec<Skipped> {
-        let TwoSkips(record, m, n) = *self;
-        let then = |first, second| library::skip(&record_of(&library::skip(&record, first).1), second);
-        let sum = m.checked_add(n).map(|sum| library::skip(&record, sum));
-        [then(m, n), then(n, m)].into_iter().chain(sum).collect()
+impl TwoSkips {
+    fn orders(&self) -> Vec<Vec<u64>> {
+        let TwoSkips(_, m, n) = *self;
+        [vec![m, n], vec![n, m]].into_iter().chain(m.checked_add(n).map(|sum| vec![sum])).collect()
     }
-    fn other(&self, _: &Tables) -> Vec<Skipped> {
-        let sum = u128::from(self.1) + u128::from(self.2);
-        let (number, next) = jump::skip(&self.0, sum);
-        vec![(number, Lent::holding(&next)); if sum < 1 << 64 { 3 } else { 2 }]
+}
+
+impl Case for TwoSkips {
+    /// The numbers of the skips, and the record at their end.
+    type Answer = Vec<(Vec<u32>, Lent<u32>)>;
+    fn library(&self) -> Self::Answer {
+        let run = |skips: Vec<u64>| {
+            let mut record = lent(&self.0);
+            let mut skip = |n| {
+                let (number, next, _) = library::skip(&record_of(&record), n);
+                record = next;
+                number
+            };
+            (skips.into_iter().map(&mut skip).collect(), record)
+        };
+        self.orders().into_iter().map(run).collect()
+    }
+    fn other(&self, _: &Tables) -> Self::Answer {
+        let Record { registers, count } = self.0;
+        let run = |skips: Vec<u64>| {
+            let mut sum = 0;
+            let mut skip = |n| {
+                let number = number(&Record { registers, count: count + sum }, n);
+                sum += if number == 0 { n } else { 0 };
+                number
+            };
+            let numbers = skips.into_iter().map(&mut skip).collect();
+            (numbers, lent(&Record { registers: jump::ahead(&registers, sum), count: count + sum }))
+        };
+        self.orders().into_iter().map(run).collect()
     }
     fn smaller(&self) -> Vec<TwoSkips> {
         let TwoSkips(record, m, n) = *self;
@@ -78,20 +88,20 @@ impl Case for TwoSkips {
 }
 
 impl Case for BlockAfter {
-    type Answer = Paired;
-    fn library(&self) -> Paired {
-        let (_, registers) = library::skip(&self.0, self.1 as u64);
-        library::block(&record_of(&registers), 2 * self.2)
+    type Answer = Answer;
+    fn library(&self) -> Answer {
+        let (_, next, _) = library::skip(&self.0, self.1 as u64);
+        library::block(&record_of(&next), 2 * self.2)
     }
-    fn other(&self, tables: &Tables) -> Paired {
+    fn other(&self, tables: &Tables) -> Answer {
         let mut block = vec![0; 2 * (self.1 + self.2)];
         let (number, next) = stream::block(tables, &self.0, &mut block);
-        (number, Lent::holding(&next), Lent::holding(&block[2 * self.1..]))
+        (number, lent(&next), Lent::holding(&block[2 * self.1..]))
     }
     fn smaller(&self) -> Vec<BlockAfter> {
         let BlockAfter(record, m, n) = *self;
         let shorter = below(n as u64).into_iter().map(|l| BlockAfter(record, m, l as usize));
-        let fewer = smaller(&record, m as u64).into_iter().filter(|(r, _)| stream::accepted(r));
+        let fewer = smaller(&record, m as u64).into_iter().filter(|(r, _)| stream::accepted(&r.registers));
         shorter.chain(fewer.map(|(r, l)| BlockAfter(r, l as usize, n))).collect()
     }
 }
@@ -100,10 +110,10 @@ impl Case for BlockAfter {
 pub fn given(tables: &Tables) -> String {
     let powers = (0..64).flat_map(|e| [(1 << e) - 1, 1 << e, (1 << e) + 1]);
     let counts: Vec<u64> = powers.chain([1000, 1_000_000, u64::MAX - 1, u64::MAX]).collect();
-    let records = edges::extremes();
+    let records: Vec<Record> = edges::extremes().into_iter().map(fresh).collect();
     for &record in &records {
         for &n in &counts {
-            same(tables, &Skip(record, n));
+            same(tables, &Called(record, Call::Skip(n)));
         }
         for n in [0, 1, 2, 3, 1_000_000] {
             same(tables, &SkipDrawn(record, n));
@@ -114,15 +124,16 @@ pub fn given(tables: &Tables) -> String {
 
 /// Any n beside the power of x.
 pub fn skips(tables: &Tables, random: &mut Random) -> String {
-    let (count, mut numbers) = (40_000, [0; 13]);
+    let (count, mut numbers) = (40_000, [0; 14]);
     for _ in 0..count {
-        let (record, n) = (inputs::seeds(random), inputs::n(random));
-        numbers[same(tables, &Skip(record, n)).0 as usize] += 1;
+        let n = inputs::n(random);
+        numbers[same(tables, &Called(inputs::record(random, n), Call::Skip(n))).0 as usize] += 1;
     }
-    for number in [0, 11, 12] {
+    for number in [0, 11, 12, 13] {
         assert!(numbers[number] >= 20, "only {} skips with number {number}", numbers[number]);
     }
-    format!("{count} skips of up to 2^64 - 1 against the power of x, {} and {} refused", numbers[11], numbers[12])
+    let refused = [11, 12, 13].map(|number| format!("{} with {number}", numbers[number])).join(", ");
+    format!("{count} skips of up to 2^64 - 1 against the power of x; refused {refused}")
 }
 
 /// Many of some thousands, and a few of up to a million.
@@ -131,29 +142,29 @@ pub fn drawn(tables: &Tables, random: &mut Random) -> String {
     for j in 0..short + long {
         let most = if j < short { 5_000 } else { 1_000_000 };
         let n = random.below(most + 1) as u64;
-        same(tables, &SkipDrawn(inputs::seeds(random), n));
+        same(tables, &SkipDrawn(inputs::record(random, n), n));
     }
     format!("{short} skips of up to 5000 and {long} of up to a million against drawing")
 }
 
 pub fn two(tables: &Tables, random: &mut Random) -> String {
-    let (count, mut sums) = (10_000, 0);
+    let (count, mut both) = (10_000, 0);
     for _ in 0..count {
         let (m, n) = (inputs::n(random), inputs::n(random));
-        let answers = same(tables, &TwoSkips(inputs::seeds(random), m, n));
-        sums += usize::from(answers.len() == 3);
+        let record = inputs::record(random, m.saturating_add(n));
+        both += usize::from(same(tables, &TwoSkips(record, m, n))[0].0 == [0, 0]);
     }
-    format!("{count} skips of m then n and of n then m, {sums} of m + n")
+    format!("{count} skips of m then n, of n then m and of m + n, in {both} both accepted")
 }
 
 /// The longer block is the library's own too.
 pub fn blocks(tables: &Tables, random: &mut Random) -> String {
     let (count, mut run) = (2_000, 0);
     while run < count {
-        let record = inputs::seeds(random);
-        if stream::accepted(&record) {
-            let (m, n) = (random.below(1000), random.below(300));
-            same(tables, &Block(record, 2 * (m + n)));
+        let (m, n) = (random.below(1000), random.below(300));
+        let record = inputs::record(random, (m + n) as u64);
+        if number(&record, (m + n) as u64) == 0 {
+            same(tables, &Called(record, Call::Block(2 * (m + n))));
             same(tables, &BlockAfter(record, m, n));
             run += 1;
         }

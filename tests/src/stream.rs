@@ -1,4 +1,4 @@
-//! Document 01, "The two streams".
+//! Document 01, "The two streams"; the numbers and the count of document 02.
 use crate::sample::Tables;
 
 /// What is cleared at the bottom, the two left shifts and the right shift, for each register.
@@ -10,31 +10,58 @@ pub type Shifts = (usize, usize, usize);
 pub const SHIFTS: [Shifts; 3] = [(31, 13, 12), (29, 2, 4), (28, 3, 17)];
 
 /// Streams a and b, registers s0, s1, s2 each.
-pub type Record = [u32; 6];
+pub type Registers = [u32; 6];
 pub const A: usize = 0;
 pub const B: usize = 3;
 
+/// The streams, and the pairs that were drawn or skipped (document 02, Job 4).
+#[derive(Clone, Copy, PartialEq, Debug)]
+pub struct Record {
+    pub registers: Registers,
+    pub count: u64,
+}
+
 /// 11 where stream a has a register below its minimum, else 12 where stream b has, else 0 (document 02, Job 1).
-pub fn refusal(record: &Record) -> u32 {
-    let unfit = |stream: usize| (0..3).any(|j| record[stream + j] < MINIMA[j]);
+pub fn refusal(registers: &Registers) -> u32 {
+    let unfit = |stream: usize| (0..3).any(|j| registers[stream + j] < MINIMA[j]);
     [(A, 11), (B, 12)].into_iter().find(|&(stream, _)| unfit(stream)).map_or(0, |(_, number)| number)
 }
 
-pub fn accepted(record: &Record) -> bool {
-    refusal(record) == 0
+pub fn accepted(registers: &Registers) -> bool {
+    refusal(registers) == 0
 }
 
-pub fn seed(seeds: &Record) -> (u32, Record) {
+pub fn fresh(registers: Registers) -> Record {
+    Record { registers, count: 0 }
+}
+
+pub fn seed(seeds: &Registers) -> (u32, Record) {
     match refusal(seeds) {
-        0 => (0, *seeds),
-        number => (number, [0; 6]),
+        0 => (0, fresh(*seeds)),
+        number => (number, fresh([0; 6])),
+    }
+}
+
+/// A call for n pairs: its number and the next record. It is refused for its streams, then for a cause of its own, then where the
+/// count would pass 2^64 - 1 (document 02, Job 4). Accepted, it moves the registers.
+pub fn call(record: &Record, own: u32, n: u64, moves: impl FnOnce(&mut Registers)) -> (u32, Record) {
+    let refused = |number| (number, *record);
+    match (refusal(&record.registers), own, record.count.checked_add(n)) {
+        (0, 0, Some(count)) => {
+            let mut next = Record { count, ..*record };
+            moves(&mut next.registers);
+            (0, next)
+        }
+        (0, 0, None) => refused(13),
+        (0, own, _) => refused(own),
+        (unfit, ..) => refused(unfit),
     }
 }
 
 /// One draw from the stream whose registers begin at `stream`.
-pub fn step(record: &mut Record, stream: usize) -> u32 {
+pub fn step(registers: &mut Registers, stream: usize) -> u32 {
     let mut draw = 0;
-    for (register, (clear, left, mix, right)) in record[stream..stream + 3].iter_mut().zip(STEPS) {
+    for (register, (clear, left, mix, right)) in registers[stream..stream + 3].iter_mut().zip(STEPS) {
         let s = *register;
         *register = ((s >> clear << clear) << left) ^ (((s << mix) ^ s) >> right);
         draw ^= *register;
@@ -42,56 +69,39 @@ pub fn step(record: &mut Record, stream: usize) -> u32 {
     draw
 }
 
-/// A draw as a public call: number, draw and the next record.
-pub fn draw(record: &Record, stream: usize) -> (u32, u32, Record) {
-    let mut next = *record;
-    if !accepted(record) {
-        return (refusal(record), 0, next);
-    }
-    let number = step(&mut next, stream);
-    (0, number, next)
-}
-
-/// The pair's two samples.
-fn step_pair(tables: &Tables, record: &mut Record) -> (i16, i16) {
-    let a = u64::from(step(record, A));
-    let b = step(record, B);
-    let (number, first, second) = tables.sample(a * 65536 + u64::from(b / 65536), b % 65536);
+/// The two samples of a draw from each stream.
+pub fn samples(tables: &Tables, a: u32, b: u32) -> [i16; 2] {
+    let (number, first, second) = tables.sample(u64::from(a) * 65536 + u64::from(b / 65536), b % 65536);
     assert_eq!(number, 0);
-    (first, second)
+    [first, second]
 }
 
-pub fn pair(tables: &Tables, record: &Record) -> (u32, i16, i16, Record) {
-    let mut next = *record;
-    if !accepted(record) {
-        return (refusal(record), 0, 0, next);
-    }
-    let (first, second) = step_pair(tables, &mut next);
-    (0, first, second, next)
+fn step_pair(tables: &Tables, registers: &mut Registers) -> [i16; 2] {
+    let a = step(registers, A);
+    samples(tables, a, step(registers, B))
+}
+
+pub fn pair(tables: &Tables, record: &Record) -> (u32, [i16; 2], Record) {
+    let mut two = [0, 0];
+    let (number, next) = call(record, 0, 1, |registers| two = step_pair(tables, registers));
+    (number, two, next)
 }
 
 pub fn block(tables: &Tables, record: &Record, out: &mut [i16]) -> (u32, Record) {
-    let mut next = *record;
-    if !accepted(record) {
-        return (refusal(record), next);
-    }
-    if out.len() % 2 == 1 {
-        return (4, next);
-    }
-    for two in out.chunks_mut(2) {
-        (two[0], two[1]) = step_pair(tables, &mut next);
-    }
-    (0, next)
+    let odd = if out.len() % 2 == 1 { 4 } else { 0 };
+    call(record, odd, out.len() as u64 / 2, |registers| {
+        out.chunks_mut(2).for_each(|two| two.copy_from_slice(&step_pair(tables, registers)));
+    })
 }
 
-/// The record after n pairs, drawn one by one.
-pub fn drawn_on(record: &Record, n: u64) -> Record {
-    let mut next = *record;
-    for _ in 0..n {
-        step(&mut next, A);
-        step(&mut next, B);
-    }
-    next
+/// A skip, by drawing.
+pub fn drawn_on(record: &Record, n: u64) -> (u32, Record) {
+    call(record, 0, n, |registers| (0..n).for_each(|_| step_both(registers)))
+}
+
+pub fn step_both(registers: &mut Registers) {
+    step(registers, A);
+    step(registers, B);
 }
 
 /// The first `length` bits of the recurrence that starts with a register's top k bits.
@@ -104,15 +114,20 @@ pub fn bits(register: u32, (k, q, _): Shifts, length: usize) -> Vec<u32> {
     x
 }
 
-/// The first `count` draws of a stream by the recurrence: draw t takes 32 bits of each register's from s t on.
-pub fn recurrence(registers: [u32; 3], count: usize) -> Vec<u32> {
-    let mut draws = vec![0; count];
-    for (register, shifts) in registers.into_iter().zip(SHIFTS) {
+/// A stream's registers after each of the first `count` draws, by the recurrence: after draw t each has the 32 bits from s t on.
+pub fn recurrence(registers: [u32; 3], count: usize) -> Vec<[u32; 3]> {
+    let mut after = vec![[0; 3]; count];
+    for (j, shifts) in SHIFTS.into_iter().enumerate() {
         let s = shifts.2;
-        let x = bits(register, shifts, s * count + 32);
-        for (t, draw) in draws.iter_mut().enumerate() {
-            *draw ^= x[s * (t + 1)..][..32].iter().fold(0, |word, bit| word << 1 | bit);
+        let x = bits(registers[j], shifts, s * count + 32);
+        for (t, stream) in after.iter_mut().enumerate() {
+            stream[j] = x[s * (t + 1)..][..32].iter().fold(0, |word, bit| word << 1 | bit);
         }
     }
-    draws
+    after
+}
+
+/// The draw that leaves these registers.
+pub fn draw_of(stream: [u32; 3]) -> u32 {
+    stream.into_iter().fold(0, |draw, register| draw ^ register)
 }
