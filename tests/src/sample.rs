@@ -1,4 +1,4 @@
-//! Document 01, "Radius" and "Angle and sample", step by step in wide whole numbers.
+//! Document 01, "Radius" and "Angle and sample", with the half step of document 02, Job 5, step by step in wide whole numbers.
 use crate::fixed::{cosine_and_sine, ln};
 
 /// The tables, each entry the nearest whole number to its value times 2^40 or 2^30.
@@ -37,14 +37,14 @@ impl Tables {
 
     /// F, the radius times 2^20, of a k from 0 to 2^48 - 1.
     fn radius(&self, k: u64) -> i128 {
-        let k = i128::from(if k == 0 { 1 } else { k });
-        let e = (0..48).rfind(|&bit| k >= 1 << bit).unwrap();
-        let m = k << (47 - e);
-        let (h, d) = (m >> 39, m & ((1 << 39) - 1));
-        let i = d / (h << 23);
-        let r = d - i * (h << 23);
-        let s = (r << 17) / (h * (65536 + i));
-        let q = (48 - e) * self.k - self.a[h as usize - 256] - self.b[i as usize] - s;
+        let n = 2 * i128::from(k) + 1;
+        let e = (0..49).rfind(|&bit| n >= 1 << bit).unwrap();
+        let m = n << (48 - e);
+        let (h, d) = (m >> 40, m & ((1 << 40) - 1));
+        let i = d / (h << 24);
+        let r = d - i * (h << 24);
+        let s = (r << 16) / (h * (65536 + i));
+        let q = (49 - e) * self.k - self.a[h as usize - 256] - self.b[i as usize] - s;
         root(2 * q.max(0))
     }
 

@@ -11,7 +11,7 @@ use Rattle.exact.specs.Pair.{Enclosure, members, times, firstProduct, se
 use Rattle.exact.proofs.MemberLaws.{Meet, Proper, members-proper, members-overlap, members-narrow}
 
 -- The product has a point: its low end is at most its high end.
-pub product-ends : {b m : ℕ} (g : RadiusEnclosure b m) (n v : ℕ) →
+pub product-ends : {z : Fraction} (g : RadiusEnclosure z) (n v : ℕ) →
     (firstProduct g n v .low ≤ᶠ firstProduct g n v .high) × (secondProduct g n v .low ≤ᶠ secondProduct g n v .high)
 product-ends g n v =
     let (s, c) = members-proper n v in
@@ -21,7 +21,7 @@ product-ends g n v =
     )
 
 -- Any two enclosures of the exact pair meet, whatever their radii and fraction bits.
-times-meet : {b m : ℕ} (g g' : RadiusEnclosure b m) (e e' : Enclosure) → Meet e e' → Meet (times g e) (times g' e')
+times-meet : {z : Fraction} (g g' : RadiusEnclosure z) (e e' : Enclosure) → Meet e e' → Meet (times g e) (times g' e')
 times-meet g g' e e' h =
     let (r, r') = radius-enclosures-overlap g g' in
     record {
@@ -30,7 +30,7 @@ times-meet g g' e e' h =
       high = *ᶠ-mono (g' .low) (g .high) (e' .low) (e .high) r' (h .high);
     }
 
-pub products-overlap : {b m : ℕ} (g g' : RadiusEnclosure b m) (n n' v : ℕ) →
+pub products-overlap : {z : Fraction} (g g' : RadiusEnclosure z) (n n' v : ℕ) →
     Meet (firstProduct g n v) (firstProduct g' n' v) × Meet (secondProduct g n v) (secondProduct g' n' v)
 products-overlap g g' n n' v =
     let (s, c) = members-overlap n n' v in
@@ -84,7 +84,7 @@ unfolding fourthOf
 two-fourths ε x pos = omega (arith, mul-pos (mul-pos pos (mul-pos (ε .positive) (ε .positive))) (mul-pos (x .positive) (x .positive)))
 
 -- the product with a member that is narrower than the share of ε
-narrow-product : {b m : ℕ} (g : RadiusEnclosure b m) (e : Enclosure) (ε X : Fraction) → zero < ε .top → g .high <ᶠ g .low +ᶠ fourthOf ε → g .low ≤ᶠ X →
+narrow-product : {z : Fraction} (g : RadiusEnclosure z) (e : Enclosure) (ε X : Fraction) → zero < ε .top → g .high <ᶠ g .low +ᶠ fourthOf ε → g .low ≤ᶠ X →
     e .high <ᶠ e .low +ᶠ share ε X → Proper e → times g e .high <ᶠ times g e .low +ᶠ ε
 narrow-product g e ε X pos narrow most small p =
     ≤ᶠ-<ᶠ-trans (g .high *ᶠ e .high) (g .low *ᶠ e .low +ᶠ fourthOf ε +ᶠ fourthOf ε) (g .low *ᶠ e .low +ᶠ ε)
@@ -94,18 +94,18 @@ narrow-product g e ε X pos narrow most small p =
 
 -- For every first number and every fraction above 0 there are a start and a width such that for every n from the start on, every v and
 -- every enclosure of the radius narrower than the width, of which there is one, both products are narrower than the fraction.
-pub pair-narrow : (b m : ℕ) (ε : Fraction) → m ≤ 2 ^ b → zero < ε .top →
-    (start : ℕ) × (width : Fraction) × ((g : RadiusEnclosure b m) × (g .high <ᶠ g .low +ᶠ width))
-    × ((g : RadiusEnclosure b m) → g .high <ᶠ g .low +ᶠ width → (n v : ℕ) → start ≤ n →
+pub pair-narrow : (z ε : Fraction) → whole 1 ≤ᶠ z → zero < ε .top →
+    (start : ℕ) × (width : Fraction) × ((g : RadiusEnclosure z) × (g .high <ᶠ g .low +ᶠ width))
+    × ((g : RadiusEnclosure z) → g .high <ᶠ g .low +ᶠ width → (n v : ℕ) → start ≤ n →
     (firstProduct g n v .high <ᶠ firstProduct g n v .low +ᶠ ε) × (secondProduct g n v .high <ᶠ secondProduct g n v .low +ᶠ ε))
 unfolding fourthOf share
-pair-narrow b m ε le pos =
-    let (some, _) = radius-narrow b m (whole 1) le (omega arith) in
+pair-narrow z ε le pos =
+    let (some, _) = radius-narrow z (whole 1) le (omega arith) in
     let X = some .high in
     let (start, small) = members-narrow (share ε X) (omega (arith, mul-pos pos (X .positive))) in (
       start,
       fourthOf ε,
-      radius-narrow b m (fourthOf ε) le pos,
+      radius-narrow z (fourthOf ε) le pos,
       λ g narrow n v big.
           let (sine, cosine) = small n v big in
           let (proper, proper') = members-proper n v in

@@ -13,31 +13,31 @@ use Rattle.exact.specs.Series.{AtMostLn, AtLeastLn}
 use Rattle.exact.proofs.SeriesLaws.{scaledTop, scaledBottom, scaledBottom-pos}
 use Rattle.exact.proofs.LogarithmLaws.{logarithm-cuts-meet, ln-at-most-mono, ln-at-least-mono}
 use Rattle.exact.proofs.LogarithmLaws.{ln-at-least-scaled, ln-one-at-most, tail}
-use Rattle.exact.specs.Radius.{inverse, AtMostRadius, AtLeastRadius, RadiusEnclosure}
+use Rattle.exact.specs.Radius.{AtMostRadius, AtLeastRadius, RadiusEnclosure}
 
 -- A lower cut of the radius is at most every upper cut.
-pub radius-cuts-meet : (b m : ℕ) (g g' : Fraction) → AtMostRadius b m g → AtLeastRadius b m g' → g ≤ᶠ g'
+pub radius-cuts-meet : (z g g' : Fraction) → AtMostRadius z g → AtLeastRadius z g' → g ≤ᶠ g'
 unfolding AtMostRadius AtLeastRadius
-radius-cuts-meet b m g g' h h' =
-    half-square-cancel g g' (logarithm-cuts-meet (halved (square g)) (halved (square g')) (inverse b m) h h')
+radius-cuts-meet z g g' h h' =
+    half-square-cancel g g' (logarithm-cuts-meet (halved (square g)) (halved (square g')) z h h')
 
 -- Any two enclosures of a radius overlap; one is never empty.
-pub radius-enclosures-overlap : {b m : ℕ} (e e' : RadiusEnclosure b m) → (e .low ≤ᶠ e' .high) × (e' .low ≤ᶠ e .high)
-radius-enclosures-overlap {b} {m} e e' = (
-  radius-cuts-meet b m (e .low) (e' .high) (e .atMost) (e' .atLeast),
-  radius-cuts-meet b m (e' .low) (e .high) (e' .atMost) (e .atLeast),
+pub radius-enclosures-overlap : {z : Fraction} (e e' : RadiusEnclosure z) → (e .low ≤ᶠ e' .high) × (e' .low ≤ᶠ e .high)
+radius-enclosures-overlap {z} e e' = (
+  radius-cuts-meet z (e .low) (e' .high) (e .atMost) (e' .atLeast),
+  radius-cuts-meet z (e' .low) (e .high) (e' .atMost) (e .atLeast),
 )
 
 -- What is below a lower cut is one, and what is above an upper cut; so a fraction may be put for an equal one.
-pub radius-at-most-mono : (b m : ℕ) (g g' : Fraction) → g' ≤ᶠ g → AtMostRadius b m g → AtMostRadius b m g'
+pub radius-at-most-mono : (z g g' : Fraction) → g' ≤ᶠ g → AtMostRadius z g → AtMostRadius z g'
 unfolding AtMostRadius
-radius-at-most-mono b m g g' h =
-    ln-at-most-mono (halved (square g)) (halved (square g')) (inverse b m) (inverse b m) (half-square-mono g' g h) (le-refl _)
+radius-at-most-mono z g g' h =
+    ln-at-most-mono (halved (square g)) (halved (square g')) z z (half-square-mono g' g h) (le-refl _)
 
-pub radius-at-least-mono : (b m : ℕ) (g g' : Fraction) → g ≤ᶠ g' → AtLeastRadius b m g → AtLeastRadius b m g'
+pub radius-at-least-mono : (z g g' : Fraction) → g ≤ᶠ g' → AtLeastRadius z g → AtLeastRadius z g'
 unfolding AtLeastRadius
-radius-at-least-mono b m g g' h =
-    ln-at-least-mono (halved (square g)) (halved (square g')) (inverse b m) (inverse b m) (half-square-mono g g' h) (le-refl _)
+radius-at-least-mono z g g' h =
+    ln-at-least-mono (halved (square g)) (halved (square g')) z z (half-square-mono g g' h) (le-refl _)
 
 -- A partial sum of p' / q is above that of p / q by p' / q - p / q or more.
 gap-step :
@@ -201,10 +201,9 @@ narrow-root z ε above pos =
           narrow = narrow;
         }
 
--- For every m up to 2 ^ b, zero counting as 1, and every fraction above 0 there is a narrower enclosure of the radius.
-pub radius-narrow :
-    (b m : ℕ) (ε : Fraction) → m ≤ 2 ^ b → zero < ε .top → (e : RadiusEnclosure b m) × (e .high <ᶠ e .low +ᶠ ε)
+-- For every first number above 0 and at most 1, and every fraction above 0, there is a narrower enclosure of the radius.
+pub radius-narrow : (z ε : Fraction) → whole 1 ≤ᶠ z → zero < ε .top → (e : RadiusEnclosure z) × (e .high <ᶠ e .low +ᶠ ε)
 unfolding AtMostRadius AtLeastRadius
-radius-narrow b m ε le pos =
-    let root : NarrowRoot (inverse b m) ε = narrow-root (inverse b m) ε (omega (arith, pow-pos b)) pos in
+radius-narrow z ε le pos =
+    let root : NarrowRoot z ε = narrow-root z ε (omega arith) pos in
     (record { low = root .low; high = root .high; atMost = root .atMost; atLeast = root .atLeast }, root .narrow)

@@ -37,13 +37,13 @@ members n v =
     turn negate (v / 16384) (sineOf n r, cosineOf n r)
 
 -- "The exact pair is two products: the exact radius times the sine of the exact rotation for v, then times its cosine"
-abbrev pub times : {b m : ℕ} → RadiusEnclosure b m → Enclosure → Enclosure
+abbrev pub times : {z : Fraction} → RadiusEnclosure z → Enclosure → Enclosure
 times g e = record { negative = e .negative; low = g .low *ᶠ e .low; high = g .high *ᶠ e .high }
 
-abbrev pub firstProduct : {b m : ℕ} → RadiusEnclosure b m → ℕ → ℕ → Enclosure
+abbrev pub firstProduct : {z : Fraction} → RadiusEnclosure z → ℕ → ℕ → Enclosure
 firstProduct g n v = times g (members n v .0)
 
-abbrev pub secondProduct : {b m : ℕ} → RadiusEnclosure b m → ℕ → ℕ → Enclosure
+abbrev pub secondProduct : {z : Fraction} → RadiusEnclosure z → ℕ → ℕ → Enclosure
 secondProduct g n v = times g (members n v .1)
 
 -- a whole number as a difference of two that are not negative: above - below
@@ -69,10 +69,10 @@ along false s = s
 unfoldable pub CloseTo : Fraction → ℕ → ℤ → Enclosure → Type 0
 CloseTo limit f s e = (x : Fraction) → e .low ≤ᶠ x → x ≤ᶠ e .high → Within limit f (along (e .negative) s) x
 
--- demand 3, for a first number m over 2 ^ b and a second number v: "the first sample is less than [limit] of a unit from every point of some
+-- demand 3, for a first number 1 over z and a second number v: "the first sample is less than [limit] of a unit from every point of some
 -- enclosure of the first product, and the second likewise from the second"
-pub record Close (limit : Fraction) (f b m v : ℕ) (s t : ℤ) : Type 0 where
-  pub radius : RadiusEnclosure b m
+pub record Close (limit : Fraction) (f : ℕ) (z : Fraction) (v : ℕ) (s t : ℤ) : Type 0 where
+  pub radius : RadiusEnclosure z
   pub bits : ℕ
   pub first : CloseTo limit f s (firstProduct radius bits v)
   pub second : CloseTo limit f t (secondProduct radius bits v)

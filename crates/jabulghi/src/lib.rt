@@ -75,7 +75,7 @@ pub extern "C" fn jabulghi_seed(
 pub extern "C" fn jabulghi_sample(k: u64, v: u32, samples: &mut [i16; 2]) -> u32
     ensures { λ r. ⌜ r ≡ samplesOf k v .number ⌝ }
     ensures { λ _. ⌜ now (samples .exit) ≡ samplesOf k v .first ∷ samplesOf k v .second ∷ [] ⌝ }
-    ensures close { λ _. ⌜ (k < 2 ^ 48 → v < 65536 → Close nineSixteenths 11 48 k v (samplesOf k v .first) (samplesOf k v .second)) ⌝ }
+    ensures close { λ _. ⌜ (k < 2 ^ numberBits → v < 65536 → Close nineSixteenths fractionBits (inverse k) v (samplesOf k v .first) (samplesOf k v .second)) ⌝ }
 {
     let s = sample::sample(k, v);
     *samples = [s.first, s.second];

@@ -16,7 +16,7 @@ use Rattle.streams.specs.Recurrence.{Sound, moved}
 use Rattle.streams.proofs.Theorems.{sound-accepted, pairs-accepted, moved-sound, moved-add, after-sound, after-moved, numbers-bounded}
 use Rattle.streams.proofs.Skip.{skip-accepted, skip-moves}
 use Rattle.streams.proofs.Theorems.{readings as draw-readings}
-use Rattle.radius.specs.Steps.{width}
+use Rattle.radius.specs.Steps.{inverse}
 use Rattle.sample.specs.Steps.{fractionBits}
 use Rattle.sample.specs.Sample.{nineSixteenths, samplesOf}
 use Rattle.sample.specs.Readings.{Reading, readings, readings-hold}
@@ -101,13 +101,13 @@ skip-block m n g long short h el es e =
 
 -- ---- Every sample is that of its pair, of bounded size, and close
 
--- No sample of a pair, refused or not, has a size above 16706.
-pub pair-sizes : (g : Generator) → (natAbs (pairOf g .first) ≤ 16706) × (natAbs (pairOf g .second) ≤ 16706)
+-- No sample of a pair, refused or not, has a size above 16879.
+pub pair-sizes : (g : Generator) → (natAbs (pairOf g .first) ≤ 16879) × (natAbs (pairOf g .second) ≤ 16879)
 unfolding pairOf
 pair-sizes g = by-test (eqb (uniformsOf g .number) 0)
   where
     small : ℤ → Type 0
-    small z = natAbs z ≤ 16706
+    small z = natAbs z ≤ 16879
 
     by-test : (t : Bool)
         → small (cond t (samplesOf (uniformsOf g .k) (uniformsOf g .v) .first) (pos 0))
@@ -134,7 +134,7 @@ samples-second (suc n) (suc i) g d h =
 
 -- Demand 3, of an accepted pair: each sample is less than nine sixteenths of a unit from its member of the exact pair of its two numbers.
 pub pair-close : (g : Generator) → Sound g → pairOf g .number ≡ 0
-    → Close nineSixteenths fractionBits width (uniformsOf g .k) (uniformsOf g .v) (pairOf g .first) (pairOf g .second)
+    → Close nineSixteenths fractionBits (inverse (uniformsOf g .k)) (uniformsOf g .v) (pairOf g .first) (pairOf g .second)
 pair-close g h e =
     let (hk, hv) = numbers-bounded g h in
     rw (pair-is g h (rw (pair-number g) at e)) (samples-close (uniformsOf g .k) (uniformsOf g .v) hk hv)
@@ -147,7 +147,7 @@ pair-accepted n g h room =
 
 -- Demand 3, of an accepted block: so is every sample of it from that of the pair in its place.
 pub block-close : (g : Generator) (old : List ℤ) (i : ℕ) (d : ℤ) → Sound g → blockNumber g (length old) ≡ 0 → i < length old / 2
-    → Close nineSixteenths fractionBits width (uniformsOf (after i g) .k) (uniformsOf (after i g) .v)
+    → Close nineSixteenths fractionBits (inverse (uniformsOf (after i g) .k)) (uniformsOf (after i g) .v)
     (getD (blockHolds g old) (2 * i) d) (getD (blockHolds g old) (2 * i + 1) d)
 block-close g old i d h e l =
     let (fits, room) = pairs-accepted g (length old / 2) .0 (block-accepted g (length old) .0 e .0) in

@@ -1,4 +1,4 @@
--- Document 01, 'Twelve readings to check', in one table: 1 to 10 are (k, v) to samples, 11 and 12 the first two draws of the registers 2, 8, 16.
+-- Document 01, 'Twelve readings to check', with the half step of document 02, in one table: 1 to 10 are (k, v) to samples, 11 and 12 the first two draws of the registers 2, 8, 16.
 use mathlib.Core.Path.{_≡_}
 use mathlib.Core.List.{List, [], _∷_, _++_, map}
 use Prim.Native.Nat.{ℕ}

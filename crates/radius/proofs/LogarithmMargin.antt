@@ -1,7 +1,7 @@
 -- How far Q is from the exact logarithm, and F from the exact radius, as facts on whole numbers.
 use mathlib.Core.Path.{_≡_, refl, ap, sym, _∙_}
 use mathlib.Core.Logic.{_⊎_, inl, inr}
-use Prim.Native.Nat.{ℕ, zero, suc, _+_, _-_, _*_, _^_, _≤_, _<_, max}
+use Prim.Native.Nat.{ℕ, zero, suc, _+_, _-_, _*_, _^_, _≤_, _<_}
 use native.Mathlib.Decide.{decLe}
 use native.Mathlib.Nat.{le-refl, eq-zero-or-pos, lt-of-not-le, mul-le-mul-right, le-of-mul-le-mul-left, pow-zero, pow-succ'}
 use native.Mathlib.Omega.{arith}
@@ -22,7 +22,7 @@ use Rattle.exact.proofs.LogarithmLaws.{
   lowerLn,
   power,
 }
-use Rattle.exact.specs.Radius.{inverse, AtMostRadius, AtLeastRadius}
+use Rattle.exact.specs.Radius.{AtMostRadius, AtLeastRadius}
 
 -- ---- The laws of the logarithm for numbers over 2 ^ f
 
@@ -71,11 +71,11 @@ module _ (f : ℕ) where
       ln-at-least-mono (whole t *ᶠ dyadic f x) (dyadic f (t * x)) (power (whole 2) t) (whole (2 ^ t)) (omega arith) (rw (e, g) (le-refl _))
       (ln-multiple-at-least (dyadic f x) (whole 2) t h)
 
--- ---- The steps from a first number n over 2 ^ b to Q
+-- ---- The steps from a first number m over 2 ^ b to Q
 
 -- Document 01's numbers, with t for b - e and H for h × 2^(b-25) × (65536 + i), so that H + r is M and S is floor(2^40 × r / H). K, A and B are
 -- what the tables promise at 2^40.
-pub record Numbers (b n : ℕ) : Type 0 where
+pub record Numbers (b m : ℕ) : Type 0 where
   pub t : ℕ
   pub h : ℕ
   pub i : ℕ
@@ -87,9 +87,10 @@ pub record Numbers (b n : ℕ) : Type 0 where
   pub B : ℕ
   pub Q : ℕ
   pub few : t ≤ b
+  pub above : 0 < m
   pub some : 0 < H
-  -- (2^b / n) × (h/256) × (1 + i/65536) × (1 + r/H) = 2^t
-  pub powers : 2 ^ b * (h * (65536 + i) * (H + r)) ≡ 2 ^ t * (max 1 n * (2 ^ 8 * 2 ^ 16 * H))
+  -- (2^b / m) × (h/256) × (1 + i/65536) × (1 + r/H) = 2^t
+  pub powers : 2 ^ b * (h * (65536 + i) * (H + r)) ≡ 2 ^ t * (m * (2 ^ 8 * 2 ^ 16 * H))
   pub rest : 65536 * r < H
   pub correction-low : S * H ≤ r * 2 ^ 40
   pub correction-high : r * 2 ^ 40 < (S + 1) * H
@@ -128,7 +129,11 @@ sums-low t K A B S d h p q =
     let e : 2 * K ≡ 2 * K - 1 + 1 = omega arith in
     omega (arith, ap (λ (x : ℕ). t * x) e)
 
-module _ {b n : ℕ} (s : Numbers b n) where
+module _ {b m : ℕ} (s : Numbers b m) where
+  -- 1 over the first number
+  abbrev pub over : Fraction
+  over = record { top = 2 ^ b; bottom = m; positive = s .above }
+
   x : Fraction
   x = record { top = s .r; bottom = s .H; positive = s .some }
 
@@ -146,15 +151,15 @@ module _ {b n : ℕ} (s : Numbers b n) where
       ln-at-least-mono x (dyadic 41 (2 * (s .S + 1))) (whole 1 +ᶠ x) (whole 1 +ᶠ x) (omega (arith, s .correction-high)) (le-refl _)
       (ln-one-plus-at-least x)
 
-  -- h/256 × (1 + i/65536) × (1 + r/H), which with 2^b / n gives 2^t
+  -- h/256 × (1 + i/65536) × (1 + r/H), which with 2^b / m gives 2^t
   parts : Fraction
   parts = dyadic 8 (s .h) *ᶠ dyadic 16 (65536 + s .i) *ᶠ (whole 1 +ᶠ x)
 
-  same-low : whole (2 ^ (s .t)) ≤ᶠ inverse b n *ᶠ parts
+  same-low : whole (2 ^ (s .t)) ≤ᶠ over *ᶠ parts
   unfolding parts x
   same-low = omega (arith, s .powers)
 
-  same-high : inverse b n *ᶠ parts ≤ᶠ whole (2 ^ (s .t))
+  same-high : over *ᶠ parts ≤ᶠ whole (2 ^ (s .t))
   unfolding parts x
   same-high = omega (arith, s .powers)
 
@@ -171,36 +176,36 @@ module _ {b n : ℕ} (s : Numbers b n) where
       (add-at-least 41 _ _ (dyadic 8 (s .h)) (dyadic 16 (65536 + s .i)) (s .coarse-high) (s .fine-high)) correction-at-least
 
   -- Q at 2^40 is at most 129 + b below the exact logarithm
-  logarithm-at-least : AtLeastLn (dyadic 40 (s .Q + 129 + b)) (inverse b n)
+  logarithm-at-least : AtLeastLn (dyadic 40 (s .Q + 129 + b)) (over)
   logarithm-at-least =
-      ln-at-least-mono (dyadic 41 (2 * (s .Q + 129 + b))) (dyadic 40 (s .Q + 129 + b)) (inverse b n) (inverse b n) (omega arith) (le-refl _)
-      (subtract-at-least 41 (2 * (s .Q + 129 + b)) _ (s .t * (2 * s .K + 1)) (inverse b n) parts (whole (2 ^ (s .t)))
+      ln-at-least-mono (dyadic 41 (2 * (s .Q + 129 + b))) (dyadic 40 (s .Q + 129 + b)) (over) (over) (omega arith) (le-refl _)
+      (subtract-at-least 41 (2 * (s .Q + 129 + b)) _ (s .t * (2 * s .K + 1)) (over) parts (whole (2 ^ (s .t)))
       (sums-high (s .t) b (s .K) (s .A) (s .B) (s .S) (s .Q) (s .few) (s .difference-high))
       same-high (times-at-least 41 (s .t) (2 * s .K + 1) (s .two-high)) parts-at-most)
 
   -- and at most 32 above it, where it is above 0
-  logarithm-at-most : b ≤ 60 → 0 < s .K → (d : ℕ) → d + 32 + s .A + s .B + s .S ≤ s .t * s .K → AtMostLn (dyadic 40 d) (inverse b n)
+  logarithm-at-most : b ≤ 60 → 0 < s .K → (d : ℕ) → d + 32 + s .A + s .B + s .S ≤ s .t * s .K → AtMostLn (dyadic 40 d) (over)
   logarithm-at-most narrow positive d q =
-      ln-at-most-mono (dyadic 41 (2 * d)) (dyadic 40 d) (inverse b n) (inverse b n) (omega arith) (le-refl _)
-      (subtract-at-most 41 (2 * d) _ (s .t * (2 * s .K - 1)) (inverse b n) parts (whole (2 ^ (s .t)))
+      ln-at-most-mono (dyadic 41 (2 * d)) (dyadic 40 d) (over) (over) (omega arith) (le-refl _)
+      (subtract-at-most 41 (2 * d) _ (s .t * (2 * s .K - 1)) (over) parts (whole (2 ^ (s .t)))
       (sums-low (s .t) (s .K) (s .A) (s .B) (s .S) d (omega (arith, s .few)) positive q)
       same-low (times-at-most 41 (s .t) (2 * s .K - 1) (s .two-low)) parts-at-least)
 
   -- F, the whole part of the root of 2 Q, is at 2^20 at most 20 below the exact radius
-  pub radius-at-least : b ≤ 71 → (F : ℕ) → 2 * s .Q < (F + 1) * (F + 1) → AtLeastRadius b n (dyadic 20 (F + 20))
+  pub radius-at-least : b ≤ 71 → (F : ℕ) → 2 * s .Q < (F + 1) * (F + 1) → AtLeastRadius over (dyadic 20 (F + 20))
   unfolding AtLeastRadius
   radius-at-least narrow F root =
-      ln-at-least-mono (dyadic 40 (s .Q + 129 + b)) (halved (square (dyadic 20 (F + 20)))) (inverse b n) (inverse b n)
+      ln-at-least-mono (dyadic 40 (s .Q + 129 + b)) (halved (square (dyadic 20 (F + 20)))) (over) (over)
       (from (omega (arith, root))) (le-refl _) logarithm-at-least
     where
       from : 2 * (s .Q + 129 + b) ≤ (F + 20) * (F + 20) → dyadic 40 (s .Q + 129 + b) ≤ᶠ halved (square (dyadic 20 (F + 20)))
       from h = omega (arith, h)
 
   -- and at most 8 above it: from 8 on, Q is above 0
-  large-radius : b ≤ 60 → s .Q + s .A + s .B + s .S ≤ s .t * s .K → (g : ℕ) → (g + 8) * (g + 8) ≤ 2 * s .Q → AtMostRadius b n (dyadic 20 g)
+  large-radius : b ≤ 60 → s .Q + s .A + s .B + s .S ≤ s .t * s .K → (g : ℕ) → (g + 8) * (g + 8) ≤ 2 * s .Q → AtMostRadius over (dyadic 20 g)
   unfolding AtMostRadius
   large-radius narrow q g root =
-      ln-at-most-mono (dyadic 40 (s .Q - 32)) (halved (square (dyadic 20 g))) (inverse b n) (inverse b n)
+      ln-at-most-mono (dyadic 40 (s .Q - 32)) (halved (square (dyadic 20 g))) (over) (over)
       (from (s .Q - 32) (omega (arith, root))) (le-refl _)
       (logarithm-at-most narrow (positive (s .K) (eq-zero-or-pos (s .K)) q) (s .Q - 32) (omega (arith, root)))
     where
@@ -214,16 +219,16 @@ module _ {b n : ℕ} (s : Numbers b n) where
       from : (d : ℕ) → g * g ≤ 2 * d → halved (square (dyadic 20 g)) ≤ᶠ dyadic 40 d
       from d h = omega (arith, h)
 
-  small-radius : max 1 n ≤ 2 ^ b → AtMostRadius b n (dyadic 20 0)
+  small-radius : m ≤ 2 ^ b → AtMostRadius over (dyadic 20 0)
   unfolding AtMostRadius
   small-radius whole-range =
-      ln-at-most-mono (halved (square (dyadic 20 0))) (halved (square (dyadic 20 0))) (whole 1) (inverse b n) (le-refl _) (omega arith)
+      ln-at-most-mono (halved (square (dyadic 20 0))) (halved (square (dyadic 20 0))) (whole 1) (over) (le-refl _) (omega arith)
       (ln-one-at-most (halved (square (dyadic 20 0))) refl)
 
-  pub radius-at-most : b ≤ 60 → max 1 n ≤ 2 ^ b → (F : ℕ) → F * F ≤ 2 * s .Q → AtMostRadius b n (dyadic 20 (F - 8))
+  pub radius-at-most : b ≤ 60 → m ≤ 2 ^ b → (F : ℕ) → F * F ≤ 2 * s .Q → AtMostRadius over (dyadic 20 (F - 8))
   radius-at-most narrow whole-range F root = cases (decLe F 8)
     where
-      cases : Dec (F ≤ 8) → AtMostRadius b n (dyadic 20 (F - 8))
+      cases : Dec (F ≤ 8) → AtMostRadius over (dyadic 20 (F - 8))
       cases (yes h) =
           let e : F - 8 ≡ 0 = omega arith in
           rw e (small-radius whole-range)

@@ -1,15 +1,15 @@
 -- The steps of document 01 from a first number to F, against the exact radius, for any tables with the promise of `tables`.
 use mathlib.Core.Path.{_≡_, refl, ap, sym, _∙_}
-use Prim.Native.Nat.{ℕ, _+_, _-_, _*_, _/_, _%_, _^_, _≤_, _<_, max}
+use Prim.Native.Nat.{ℕ, _+_, _-_, _*_, _/_, _%_, _^_, _≤_, _<_}
 use native.Mathlib.Nat.{mul-pos, mul-lt-mul-of-pos-right, div-add-mod, mod-lt}
 use native.Mathlib.Omega.{arith}
 use lib.Pow.{pow-pos, pow-add}
-use Rattle.exact.specs.Fraction.{whole, dyadic}
+use Rattle.exact.specs.Fraction.{Fraction, whole, dyadic}
 use Rattle.exact.specs.Radius.{AtMostRadius, AtLeastRadius}
 use Rattle.tables.specs.Promise.{NearestLn}
 use Rattle.tables.specs.Tables.{logCoarse, logFine, lnTwo, entryOf}
 use Rattle.tables.proofs.Promise.{promise}
-use Rattle.radius.specs.Steps.{width, radiusOf}
+use Rattle.radius.specs.Steps.{numberBits, width, inverse, radiusOf}
 use Rattle.radius.specs.Steps.{numerator, topBit, mantissa, coarseIndex, rest, fineIndex, remainder, correction, logarithm, radius}
 use Rattle.radius.proofs.StepLaws.{top-below, mantissa-split, coarse-range, fine-range, rest-split, whole-root}
 use Rattle.radius.proofs.LogarithmMargin.{Numbers, radius-at-most, radius-at-least}
@@ -82,18 +82,14 @@ pub record Logs (A B : ℕ → ℕ) (K : ℕ) : Type 0 where
   pub coarse : (h : ℕ) → 256 ≤ h → h < 512 → NearestLn 40 (dyadic 8 h) (A h)
   pub fine : (i : ℕ) → i < 256 → NearestLn 40 (dyadic 16 (65536 + i)) (B i)
 
--- F for a first number n over 2 ^ b, with tables A, B and K
-module _ (A B : ℕ → ℕ) (K b n : ℕ) (wide : 25 ≤ b) (narrow : b ≤ 60) (below : max 1 n < 2 ^ b) (logs : Logs A B K) where
+-- F for a first number m over 2 ^ b, with tables A, B and K
+module _ (A B : ℕ → ℕ) (K b m : ℕ) (wide : 25 ≤ b) (narrow : b ≤ 60) (positive : 0 < m) (below : m < 2 ^ b) (logs : Logs A B K) where
   narrower : b ≤ 64
   narrower = omega arith
 
-  positive : 0 < max 1 n
-  positive = omega arith
-
-  numbers : Numbers b n
+  numbers : Numbers b m
   unfolding mantissa
   numbers =
-      let m = max 1 n in
       let h = coarse-range b m wide narrower positive below in
       let i = fine-range b m wide narrower positive below in
       let s = corrections b m wide narrower positive below in
@@ -109,6 +105,7 @@ module _ (A B : ℕ → ℕ) (K b n : ℕ) (wide : 25 ≤ b) (narrow : b ≤ 60)
         B = B (fineIndex b m);
         Q = (b - topBit m) * K - A (coarseIndex b m) - B (fineIndex b m) - correction b m;
         few = omega arith;
+        above = positive;
         some = mul-pos (some-product b m wide narrower positive below) (omega arith);
         powers =
             whole-power (2 ^ b) (2 ^ (b - topBit m)) (2 ^ (b - 1 - topBit m)) (2 ^ (b - 25)) (coarseIndex b m) (fineIndex b m) (remainder b m) m (mantissa b m)
@@ -126,22 +123,26 @@ module _ (A B : ℕ → ℕ) (K b n : ℕ) (wide : 25 ≤ b) (narrow : b ≤ 60)
         fine-high = logs .fine (fineIndex b m) i .high;
       }
 
+  -- 1 over the first number
+  abbrev pub over-first : Fraction
+  over-first = record { top = 2 ^ b; bottom = m; positive = positive }
+
   -- F at 2^20 is at most 8 above and at most 20 below the exact radius
-  pub enclosure-low : AtMostRadius b n (dyadic 20 (radius A B K b (numerator n) - 8))
+  pub enclosure-low : AtMostRadius over-first (dyadic 20 (radius A B K b m - 8))
   unfolding logarithm radius numbers
   enclosure-low = radius-at-most numbers narrow (omega arith) _ (whole-root _ .0)
 
-  pub enclosure-high : AtLeastRadius b n (dyadic 20 (radius A B K b (numerator n) + 20))
+  pub enclosure-high : AtLeastRadius over-first (dyadic 20 (radius A B K b m + 20))
   unfolding logarithm radius numbers
   enclosure-high = radius-at-least numbers (omega arith) _ (whole-root _ .1)
 
--- at the tables, from nothing of them but their promise
-pub radius-margin : (k : ℕ) → k < 2 ^ width →
-    AtMostRadius width k (dyadic 20 (radiusOf k - 8)) × AtLeastRadius width k (dyadic 20 (radiusOf k + 20))
+-- at the tables, from nothing of them but their promise: (2k + 1) over 2^49
+pub radius-margin : (k : ℕ) → k < 2 ^ numberBits →
+    AtMostRadius (inverse k) (dyadic 20 (radiusOf k - 8)) × AtLeastRadius (inverse k) (dyadic 20 (radiusOf k + 20))
 unfolding radiusOf
 radius-margin k h = (
-  enclosure-low (entryOf logCoarse 256) (entryOf logFine 0) lnTwo width k (omega arith) (omega arith) (omega arith) logs,
-  enclosure-high (entryOf logCoarse 256) (entryOf logFine 0) lnTwo width k (omega arith) (omega arith) (omega arith) logs,
+  enclosure-low (entryOf logCoarse 256) (entryOf logFine 0) lnTwo width (numerator k) (omega arith) (omega arith) (omega arith) (omega arith) logs,
+  enclosure-high (entryOf logCoarse 256) (entryOf logFine 0) lnTwo width (numerator k) (omega arith) (omega arith) (omega arith) (omega arith) logs,
 )
   where
     logs : Logs (entryOf logCoarse 256) (entryOf logFine 0) lnTwo

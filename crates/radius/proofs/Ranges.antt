@@ -10,7 +10,7 @@ use Rattle.radius.proofs.StepLaws.{logarithm-range, whole-root}
 pub ln-two-range : lnTwo < 2 ^ 40
 ln-two-range = omega (arith, bounds .ln-two)
 
--- F² ≤ 2Q ≤ 96 K
+-- F² ≤ 2Q ≤ 98 K
 pub radius-range : (A B : ℕ → ℕ) (m : ℕ) → radius A B lnTwo width m < radiusLimit
 unfolding radius
 radius-range A B m =

@@ -1,16 +1,20 @@
 -- Laws of the steps: the ranges that document 01 states, over the numerator m and the width b, and the root's law.
 use mathlib.Core.Path.{_≡_, sym, ap, _∙_, subst}
-use Prim.Native.Nat.{ℕ, _+_, _-_, _*_, _/_, _^_, _≤_, _<_}
+use Prim.Native.Nat.{ℕ, suc, _+_, _-_, _*_, _/_, _^_, _≤_, _<_}
 use native.Mathlib.Nat.{le-refl, sub-zero, le-antisymm, mul-le-mul, le-trans, lt-of-lt-of-le}
 use native.Mathlib.Nat.{lt-of-not-le, not-le-of-lt, mul-le-mul-right, mul-lt-mul-of-pos-right, mod-lt, div-add-mod'}
-use native.Mathlib.Nat.{div-lt-iff-lt-mul, le-div-iff-mul-le, mod-eq-sub-div-mul}
+use native.Mathlib.Nat.{div-lt-iff-lt-mul, pow-suc, le-div-iff-mul-le, mod-eq-sub-div-mul}
 use native.Mathlib.Numerals.{add-one}
 use native.Mathlib.Omega.{arith}
-use lib.Count.{leadingZeros, leading-top}
+use lib.Count.{leadingZeros, leading-top, leading-length, leading-unique}
 use lib.Pow.{pow-pos, pow-mono, pow-add}
 use Rattle.exact.proofs.RootLaws.{root-digits-root, lt-of-square-lt}
-use Rattle.radius.specs.Steps.{topBit, mantissa, coarseIndex, rest, fineIndex, remainder, correction, logarithm}
+use Rattle.radius.specs.Steps.{numerator, topBit, mantissa, coarseIndex, rest, fineIndex, remainder, correction, logarithm}
 use Rattle.radius.specs.Steps.{wholeRoot}
+
+-- no two first numbers have the same numerator: the cells are told apart
+pub numerators-apart : (k k' : ℕ) → numerator k ≡ numerator k' → k ≡ k'
+numerators-apart k k' e = omega (arith, e)
 
 -- ---- e, for a number of at most 64 bits: 2^e ≤ m < 2^(e+1)
 
@@ -25,6 +29,16 @@ top-bit m p h =
 pub top-bit-below : (b m : ℕ) → 0 < m → m < 2 ^ 64 → m < 2 ^ b → topBit m < b
 top-bit-below b m p h k =
     lt-of-not-le λ (g : b ≤ topBit m). not-le-of-lt k (le-trans (pow-mono g) (top-bit m p h .0))
+
+-- for 2k + 1 it comes from the leading zeros of k, 0 included
+pub top-bit-odd : (k : ℕ) → k < 2 ^ 63 → topBit (numerator k) ≡ 64 - leadingZeros 64 k
+unfolding topBit
+top-bit-odd k h =
+    let (e, sum, high, low) = leading-length 64 k (omega arith) in
+    let few : e < 64 = lt-of-not-le λ (g : 64 ≤ e). let f : ⊥ = omega (arith, pow-mono {i = 64} {j = e} g, low) in f in
+    let power = pow-suc 2 e in
+    let zeros = leading-unique 64 (numerator k) (63 - e) (suc e) (omega arith) (omega (arith, power, high)) (omega (arith, power, low)) in
+    omega (arith, zeros, sum, few)
 
 -- ---- the steps of a number m of at most b bits, b from 25 to 64
 

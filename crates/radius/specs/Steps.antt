@@ -1,17 +1,26 @@
--- The whole-number steps from k to F (document 01, 'Radius'), in the document's order, over a numerator m and a width b. A and B
--- are any tables, each a function of the document's own index, and K is any number.
-use Prim.Native.Nat.{ℕ, _+_, _-_, _*_, _/_, _%_, _^_, max}
+-- The whole-number steps from k to F (document 01, 'Radius', with the half step of document 02, Job 5), in the document's order, over a
+-- numerator m and a width b. A and B are any tables, each a function of the document's own index, and K is any number.
+use Prim.Native.Nat.{ℕ, _+_, _-_, _*_, _/_, _%_, _^_}
+use native.Mathlib.Omega.{arith}
 use lib.Count.{leadingZeros}
+use Rattle.exact.specs.Fraction.{Fraction}
 use Rattle.exact.specs.Rotation.{rootDigits}
 use Rattle.tables.specs.Tables.{logCoarse, logFine, lnTwo, entryOf}
 
--- "The 48-bit number k": the width b that is used
-abbrev pub width : ℕ
-width = 48
+-- "The 48-bit number k"
+abbrev pub numberBits : ℕ
+numberBits = 48
 
--- "Where k is 0 it is read as 1."
+-- "The first number becomes (2k + 1) over 2^49": the middle of the cell of k. Its numerator, and the width b that is used.
 abbrev pub numerator : ℕ → ℕ
-numerator k = max 1 k
+numerator k = 2 * k + 1
+
+abbrev pub width : ℕ
+width = 49
+
+-- 1 over the first number of k
+abbrev pub inverse : ℕ → Fraction
+inverse k = record { top = 2 ^ width; bottom = numerator k; positive = omega arith }
 
 -- 1. e, the position of the highest set bit of m, from its leading zeros
 unfoldable pub topBit : ℕ → ℕ
@@ -57,6 +66,6 @@ radius A B K b m = wholeRoot (2 * logarithm A B K b m)
 unfoldable pub radiusOf : ℕ → ℕ
 radiusOf k = radius (entryOf logCoarse 256) (entryOf logFine 0) lnTwo width (numerator k)
 
--- F is below this (the law `radius-range`), which is 16706.5 units of 2^-11.
+-- F is below this (the law `radius-range`), which is 16879.5 units of 2^-11.
 abbrev pub radiusLimit : ℕ
-radiusLimit = 8553728
+radiusLimit = 8642304

@@ -1,14 +1,16 @@
-// F, the radius at 2^20 of a first number k (document 01, 'Radius').
+// F, the radius at 2^20 of a first number k (document 01, 'Radius'; the half step of document 02, Job 5).
 ghost use mathlib.Core.Path.{_≡_};
 ghost use Prim.Native.Nat.{_+_, _-_, _*_, _%_, _^_, _≤_, _<_};
 ghost use Rattle.tables.specs.Tables.{entryOf, lnTwo};
-ghost use Rattle.radius.specs.Steps.{width, numerator, topBit, mantissa, coarseIndex, fineIndex, correction, logarithm};
+ghost use Rattle.radius.specs.Steps.{numberBits, width, numerator, topBit, mantissa, coarseIndex, fineIndex, correction, logarithm};
 ghost use Rattle.radius.specs.Steps.{wholeRoot, radius};
 
-// The width of k in bits, the first number beyond it, and the powers of 2 in steps 2, 3 and 4.
-const WIDTH: u32 = 48;
+// The bits of k and the first number beyond them; the width of the numerator 2k + 1, and the powers of 2 in steps 2, 3 and 4.
+const NUMBER_BITS: u32 = 48;
 
-pub const LIMIT: u64 = 1 << WIDTH;
+pub const LIMIT: u64 = 1 << NUMBER_BITS;
+
+const WIDTH: u32 = 49;
 
 const TOP: u32 = WIDTH - 1;
 
@@ -18,20 +20,30 @@ const FINE: u64 = 1 << (WIDTH - 25);
 
 const FRACTION: u64 = 1 << (65 - WIDTH);
 
-// e, the position of the highest set bit.
-fn top_bit(m: u64) -> u32
-    requires { ⌜ 0 < m ⌝ }
-    ensures { λ r. ⌜ (r ≡ topBit m) × (2 ^ r ≤ m) × (m < 2 ^ (r + 1)) ⌝ }
+// The number under the logarithm.
+fn numerator(k: u64) -> u64
+    requires { ⌜ k < 2 ^ numberBits ⌝ }
+    ensures { λ r. ⌜ r ≡ numerator k ⌝ }
 {
-    63 - u64::leading_zeros(m)
+    2 * k + 1
 }
 
-// M, the number moved up to the whole width.
-fn mantissa(m: u64) -> u64
-    requires { ⌜ (0 < m) × (m < 2 ^ width) ⌝ }
-    ensures { λ r. ⌜ r ≡ mantissa width m ⌝ }
+// e, the position of the highest set bit of 2k + 1, by the leading zeros of k: one more than those of 2k + 1 for every k, 0 included.
+// (Of 2k + 1 the compiler sees that it is not 0, and then takes the leading zeros by an instruction that waits for the pair before;
+// a block took 1.6 times as long.)
+fn top_bit(k: u64) -> u32
+    requires { ⌜ k < 2 ^ numberBits ⌝ }
+    ensures { λ r. ⌜ (r ≡ topBit (numerator k)) × (2 ^ r ≤ numerator k) × (numerator k < 2 ^ (r + 1)) ⌝ }
 {
-    m << (TOP - top_bit(m))
+    64 - u64::leading_zeros(k)
+}
+
+// M, the numerator moved up to the whole width.
+fn mantissa(k: u64) -> u64
+    requires { ⌜ k < 2 ^ numberBits ⌝ }
+    ensures { λ r. ⌜ r ≡ mantissa width (numerator k) ⌝ }
+{
+    numerator(k) << (TOP - top_bit(k))
 }
 
 // h, i and S: the cell of a number in the logarithm tables, and what lies beyond it.
@@ -41,11 +53,11 @@ struct Cell {
     correction: u64,
 }
 
-fn cell_of(m: u64) -> Cell
-    requires { ⌜ (0 < m) × (m < 2 ^ width) ⌝ }
-    ensures { λ r. ⌜ (r .coarse ≡ coarseIndex width m) × (r .fine ≡ fineIndex width m) × (r .correction ≡ correction width m) ⌝ }
+fn cell_of(k: u64) -> Cell
+    requires { ⌜ k < 2 ^ numberBits ⌝ }
+    ensures { λ r. ⌜ (r .coarse ≡ coarseIndex width (numerator k)) × (r .fine ≡ fineIndex width (numerator k)) × (r .correction ≡ correction width (numerator k)) ⌝ }
 {
-    let scaled = mantissa(m);
+    let scaled = mantissa(k);
     let coarse = scaled / COARSE;
     let rest = scaled % COARSE;
     let step = coarse * FINE;
@@ -66,13 +78,13 @@ fn difference_or_zero(x: u64, y: u64) -> u64
     if x < y { 0 } else { x - y }
 }
 
-// Q, the logarithm of 2^48 / m at 2^40, from the tables A and B and ln 2.
-fn logarithm(coarse: &[u64], fine: &[u64], ln2: u64, m: u64) -> u64
-    requires { ⌜ (0 < m) × (m < 2 ^ width) × (ln2 < 2 ^ 40) ⌝ }
-    ensures { λ r. ⌜ (r ≡ logarithm (entryOf (now (coarse .entry)) 256) (entryOf (now (fine .entry)) 0) ln2 width m) × (r < 2 ^ 46) ⌝ }
+// Q, the logarithm of 2^49 / (2k + 1) at 2^40, from the tables A and B and ln 2.
+fn logarithm(coarse: &[u64], fine: &[u64], ln2: u64, k: u64) -> u64
+    requires { ⌜ (k < 2 ^ numberBits) × (ln2 < 2 ^ 40) ⌝ }
+    ensures { λ r. ⌜ (r ≡ logarithm (entryOf (now (coarse .entry)) 256) (entryOf (now (fine .entry)) 0) ln2 width (numerator k)) × (r < 2 ^ 46) ⌝ }
 {
-    let doublings = (WIDTH - top_bit(m)) as u64;
-    let cell = cell_of(m);
+    let doublings = (WIDTH - top_bit(k)) as u64;
+    let cell = cell_of(k);
     let from_coarse = tables::entry(coarse, 256, cell.coarse as usize);
     let from_fine = tables::entry(fine, 0, cell.fine as usize);
     difference_or_zero(
@@ -133,22 +145,11 @@ fn root(x: u64) -> u64
     raised(x, lowered(x, estimate(x)))
 }
 
-// The number under the logarithm: k = 0 is read as 1. The quotient is 1 for k = 0 alone. (Where the compiler can see that the
-// number is not 0, it takes the leading zeros by an instruction that waits for the pair before, and a pair took 1.6 times as
-// long.)
-fn numerator(k: u64) -> u64
-    requires { ⌜ k < 2 ^ width ⌝ }
-    ensures { λ r. ⌜ r ≡ numerator k ⌝ }
-{
-    k + (LIMIT - k) / LIMIT
-}
-
 // F, the radius at 2^20 of k mod 2^48, from lent tables A and B: any two slices, since an entry that one lacks is 0 and every
 // difference below 0 is 0.
 pub fn radius(coarse: &[u64], fine: &[u64], k: u64) -> u64
-    ensures { λ r. ⌜ r ≡ radius (entryOf (now (coarse .entry)) 256) (entryOf (now (fine .entry)) 0) lnTwo width (numerator (k % 2 ^ width)) ⌝ }
+    ensures { λ r. ⌜ r ≡ radius (entryOf (now (coarse .entry)) 256) (entryOf (now (fine .entry)) 0) lnTwo width (numerator (k % 2 ^ numberBits)) ⌝ }
 {
     let ln2 = tables::ln_two();
-    let m = numerator(k % LIMIT);
-    root(2 * logarithm(coarse, fine, ln2, m))
+    root(2 * logarithm(coarse, fine, ln2, k % LIMIT))
 }

@@ -7,7 +7,7 @@ use borrow.Author.Tests.{lt-leb, le-ltb}
 use Rattle.exact.specs.Fraction.{dyadic}
 use Rattle.exact.specs.Radius.{RadiusEnclosure}
 use Rattle.exact.specs.Pair.{Close, members}
-use Rattle.radius.specs.Steps.{width, radiusOf}
+use Rattle.radius.specs.Steps.{numberBits, inverse, radiusOf}
 use Rattle.radius.proofs.Ranges.{radius-of-range}
 use Rattle.radius.proofs.RadiusMargin.{radius-margin}
 use Rattle.angle.specs.Steps.{signedOf}
@@ -17,14 +17,14 @@ use Rattle.sample.specs.Sample.{nineSixteenths, firstOf, secondOf, sampl
 use Rattle.sample.specs.declared.Samples.{Samples}
 use Rattle.sample.proofs.RoundingMargin.{member-close}
 
-pub samples-close : (k v : ℕ) → k < 2 ^ width → v < 65536 → Close nineSixteenths fractionBits width k v (firstOf k v) (secondOf k v)
+pub samples-close : (k v : ℕ) → k < 2 ^ numberBits → v < 65536 → Close nineSixteenths fractionBits (inverse k) v (firstOf k v) (secondOf k v)
 unfolding firstOf secondOf
 samples-close k v hk hv =
     let F = radiusOf k in
     let (low, high) = radius-margin k hk in
     let (first, second) = members-near v in
     let small : F < 2 ^ 24 = omega (arith, radius-of-range k) in
-    let g : RadiusEnclosure width k = record { low = dyadic 20 (F - 8); high = dyadic 20 (F + 20); atMost = low; atLeast = high } in
+    let g : RadiusEnclosure (inverse k) = record { low = dyadic 20 (F - 8); high = dyadic 20 (F + 20); atMost = low; atLeast = high } in
     let close = member-close fractionBits F (omega arith) g nineSixteenths in
     record {
       radius = g;
@@ -35,11 +35,11 @@ samples-close k v hk hv =
 
 -- what the call returns is document 01's answer, and so it is close
 pub answer-close : (k v : ℕ) (r : Samples) → r ≡ samplesOf k v
-    → (r ≡ samplesOf k v) × (k < 2 ^ width → v < 65536 → Close nineSixteenths fractionBits width k v (r .first) (r .second))
+    → (r ≡ samplesOf k v) × (k < 2 ^ numberBits → v < 65536 → Close nineSixteenths fractionBits (inverse k) v (r .first) (r .second))
 unfolding samplesOf
 answer-close k v r e = (e, close)
   where
-    close : k < 2 ^ width → v < 65536 → Close nineSixteenths fractionBits width k v (r .first) (r .second)
+    close : k < 2 ^ numberBits → v < 65536 → Close nineSixteenths fractionBits (inverse k) v (r .first) (r .second)
     close hk hv =
-        let accepted = rw (lt-leb (2 ^ width) k hk, le-ltb 65535 v (le-of-suc-le-suc hv)) at e in
+        let accepted = rw (lt-leb (2 ^ numberBits) k hk, le-ltb 65535 v (le-of-suc-le-suc hv)) at e in
         rw accepted (samples-close k v hk hv)

@@ -38,20 +38,20 @@ size-of f F (pos g) = refl
 size-of f F (negsuc g) = natAbs-neg (pos (size f F (suc g)))
 
 -- the largest size
-pub size-range : (F G : ℕ) → F < radiusLimit → G ≤ 2 ^ 30 → size fractionBits F G ≤ 16706
+pub size-range : (F G : ℕ) → F < radiusLimit → G ≤ 2 ^ 30 → size fractionBits F G ≤ 16879
 unfolding size
 size-range F G h g =
     let product : F * G ≤ (radiusLimit - 1) * 2 ^ 30 = mul-le-mul {n₁ = F} {m₁ = G} {n₂ = radiusLimit - 1} {m₂ = 2 ^ 30} (omega arith) g in
     omega (arith, product)
 
--- no sample's size is above 16706
-small : (k : ℕ) (G : ℤ) → natAbs G ≤ 2 ^ 30 → natAbs (rounded fractionBits (radiusOf k) G) ≤ 16706
+-- no sample's size is above 16879
+small : (k : ℕ) (G : ℤ) → natAbs G ≤ 2 ^ 30 → natAbs (rounded fractionBits (radiusOf k) G) ≤ 16879
 small k G h = rw (size-of fractionBits (radiusOf k) G) (size-range (radiusOf k) (natAbs G) (radius-of-range k) h)
 
-pub first-small : (k v : ℕ) → natAbs (firstOf k v) ≤ 16706
+pub first-small : (k v : ℕ) → natAbs (firstOf k v) ≤ 16879
 unfolding firstOf
 first-small k v = small k (signedOf v .0) (signed-range v .0)
 
-pub second-small : (k v : ℕ) → natAbs (secondOf k v) ≤ 16706
+pub second-small : (k v : ℕ) → natAbs (secondOf k v) ≤ 16879
 unfolding secondOf
 second-small k v = small k (signedOf v .1) (signed-range v .1)

@@ -81,7 +81,7 @@ module _ (f F : ℕ) (few : f ≤ 49) where
   along-rounded b G n e = rounded-along f F few b G ∙ ap (rounded f F) e
 
   -- a sample is close to every point between the radius, F at 2^20 with its margin, times a member with its margin
-  pub member-close : {b m : ℕ} (g : RadiusEnclosure b m) (limit : Fraction) (G : ℤ) (e : Enclosure) → F < 2 ^ 24
+  pub member-close : {z : Fraction} (g : RadiusEnclosure z) (limit : Fraction) (G : ℤ) (e : Enclosure) → F < 2 ^ 24
       → dyadic 20 (F - 8) ≤ᶠ g .low → g .high ≤ᶠ dyadic 20 (F + 20) → Member G e
       → limit .bottom * (2 ^ (49 - f) + 21 * 2 ^ 30) < 2 * 2 ^ (49 - f) * limit .top
       → CloseTo limit f (rounded f F G) (times g e)

@@ -1,4 +1,5 @@
--- Readings 1 to 10 of document 01, 'Twelve readings to check': (k, v) to samples. (11 and 12 are of the streams.)
+-- Readings 1 to 10 of document 01, 'Twelve readings to check', with the half step of document 02, Job 5: (k, v) to samples. (11 and 12
+-- are of the streams.)
 use mathlib.Core.Path.{_≡_, refl}
 use mathlib.Core.List.{List, [], _∷_, map}
 use Prim.Native.Nat.{ℕ, _-_, _^_}
@@ -24,11 +25,11 @@ reading k v a b = record { k = k; v = v; first = a; second = b }
 
 abbrev pub readings : List Reading
 readings =
-    reading 1 0 (pos 0) (pos 16706)
-    ∷ reading 1 16384 (pos 16706) (pos 0)
-    ∷ reading 1 32768 (pos 0) (negℤ (pos 16706))
-    ∷ reading 1 49152 (negℤ (pos 16706)) (pos 0)
-    ∷ reading 0 0 (pos 0) (pos 16706)
+    reading 1 0 (pos 0) (pos 16604)
+    ∷ reading 1 16384 (pos 16604) (pos 0)
+    ∷ reading 1 32768 (pos 0) (negℤ (pos 16604))
+    ∷ reading 1 49152 (negℤ (pos 16604)) (pos 0)
+    ∷ reading 0 0 (pos 0) (pos 16879)
     ∷ reading (2 ^ 47) 0 (pos 0) (pos 2411)
     ∷ reading (2 ^ 47) 8192 (pos 1705) (pos 1705)
     ∷ reading (2 ^ 46) 0 (pos 0) (pos 3410)

@@ -1,5 +1,5 @@
--- What the calls return (document 01, 'Angle and sample' and the table of refusals): the steps at the tables, at 48 bits and 11
--- fraction bits.
+-- What the calls return (document 01, 'Angle and sample' and the table of refusals): the steps at the tables, for k of 48 bits,
+-- at 11 fraction bits.
 use mathlib.Core.Bool.{cond}
 use mathlib.Core.List.{List, [], _∷_}
 use Prim.Native.Nat.{ℕ, _/_, _%_, _^_}
@@ -8,7 +8,7 @@ use lib.Dec.{leb, ltb}
 use lib.IntN.{ℤ, pos}
 use Rattle.exact.specs.Fraction.{Fraction}
 use Rattle.sample.specs.declared.Samples.{Samples}
-use Rattle.radius.specs.Steps.{width, radiusOf}
+use Rattle.radius.specs.Steps.{numberBits, radiusOf}
 use Rattle.angle.specs.Steps.{signedOf}
 use Rattle.sample.specs.Steps.{fractionBits, rounded}
 
@@ -26,7 +26,7 @@ refused n = record { number = n; first = pos 0; second = pos 0 }
 -- The answer for k and v: refused 2 for k of 2^48 or more, else 3 for v above 65535, else 0 and the two samples.
 unfoldable pub samplesOf : ℕ → ℕ → Samples
 samplesOf k v =
-    cond (leb (2 ^ width) k) (refused 2)
+    cond (leb (2 ^ numberBits) k) (refused 2)
     (cond (ltb 65535 v) (refused 3) (record { number = 0; first = firstOf k v; second = secondOf k v }))
 
 -- Demand 3: "I hold you to the nine sixteenths"

@@ -3,7 +3,7 @@ ghost use mathlib.Core.Path.{_≡_};
 ghost use Prim.Native.Nat.{_/_, _^_, _≤_, _<_, min};
 ghost use lib.IntN.{pos, natAbs};
 ghost use Rattle.exact.specs.Pair.{along, Close};
-ghost use Rattle.radius.specs.Steps.{width, radiusOf, radiusLimit};
+ghost use Rattle.radius.specs.Steps.{numberBits, inverse, radiusOf, radiusLimit};
 ghost use Rattle.sample.specs.Steps.{fractionBits, rounded};
 ghost use Rattle.sample.specs.Private.{Logarithms, Rotations};
 ghost use Rattle.sample.specs.Sample.{firstAt, secondAt, samplesOf, nineSixteenths, filled};
@@ -61,11 +61,11 @@ fn pair_of(cc: &[u64], sc: &[u64], cf: &[u64], sf: &[u64], f: u64, z: u64) -> Pa
     }
 }
 
-// The two samples of k and v: document 01's steps (demand 2), and so each less than nine sixteenths of a unit of 2^-11 from its
-// member of the exact pair of the same two numbers (demand 3).
+// The two samples of k and v: document 01's steps with the half step (demand 2), and so each less than nine sixteenths of a unit of
+// 2^-11 from its member of the exact pair of (2k + 1) over 2^49, k from 0, and v over 65536 (demand 3).
 pub fn sample(k: u64, v: u32) -> Samples
     ensures steps { λ r. ⌜ r ≡ samplesOf k v ⌝ }
-    ensures close { λ r. ⌜ (k < 2 ^ width → v < 65536 → Close nineSixteenths fractionBits width k v (r .first) (r .second)) ⌝ }
+    ensures close { λ r. ⌜ (k < 2 ^ numberBits → v < 65536 → Close nineSixteenths fractionBits (inverse k) v (r .first) (r .second)) ⌝ }
 {
     if radius::LIMIT <= k {
         return Samples {

@@ -5,7 +5,7 @@ use Prim.Native.Nat.{_*_, _/_, _%_}
 use native.Mathlib.Nat.{div-mul-le-self}
 use native.Mathlib.Omega.{arith}
 use borrow.Author.Needs.{needs}
-use Rattle.radius.specs.Steps.{width, mantissa, coarseIndex, rest, fineIndex, remainder, correction}
+use Rattle.radius.specs.Steps.{width, numerator, mantissa, coarseIndex, rest, fineIndex, remainder, correction}
 use Rattle.radius.proofs.StepLaws.{coarse-range, fine-range, divisor-pos, divisor-range}
 use Rattle.radius.proofs.cell_of.Statement.{statement}
 use Rattle.radius.proofs.cell_of.Tie as tie
@@ -20,12 +20,12 @@ div-fine : tie.Need-div-fine
 unfolding coarseIndex
 div-fine c =
     let pre = c .before .pre in
-    rw (c .mantissa .ensures) (divisor-pos width (c .before .args .m) (omega arith) (omega arith) (pre .0) (pre .1))
+    rw (c .mantissa .ensures) (divisor-pos width (numerator (c .before .args .k)) (omega arith) (omega arith) (omega arith) (omega (arith, pre)))
 
 mul-remainder : tie.Need-mul-remainder
 mul-remainder c =
     let scaled = c .mantissa .result in
-    omega (arith, div-mul-le-self (scaled % 0x80_0000_0000) (scaled / 0x80_0000_0000 * 0x80_0000))
+    omega (arith, div-mul-le-self (scaled % 0x100_0000_0000) (scaled / 0x100_0000_0000 * 0x100_0000))
 
 sub-remainder : tie.Need-sub-remainder
 sub-remainder c = div-mul-le-self _ _
@@ -37,21 +37,21 @@ add-correction : tie.Need-add-correction
 unfolding coarseIndex rest fineIndex
 add-correction c =
     let pre = c .before .pre in
-    let small = fine-range width (c .before .args .m) (omega arith) (omega arith) (pre .0) (pre .1) in
+    let small = fine-range width (numerator (c .before .args .k)) (omega arith) (omega arith) (omega arith) (omega (arith, pre)) in
     omega (arith, rw (← c .mantissa .ensures) at small)
 
 mul-correction-2 : tie.Need-mul-correction-2
 unfolding coarseIndex rest fineIndex
 mul-correction-2 c =
     let pre = c .before .pre in
-    let small = divisor-range width (c .before .args .m) (omega arith) (omega arith) (pre .0) (pre .1) in
+    let small = divisor-range width (numerator (c .before .args .k)) (omega arith) (omega arith) (omega arith) (omega (arith, pre)) in
     omega (arith, rw (← c .mantissa .ensures) at (small .1))
 
 div-correction : tie.Need-div-correction
 unfolding coarseIndex rest fineIndex
 div-correction c =
     let pre = c .before .pre in
-    let range = coarse-range width (c .before .args .m) (omega arith) (omega arith) (pre .0) (pre .1) in
+    let range = coarse-range width (numerator (c .before .args .k)) (omega arith) (omega arith) (omega arith) (omega (arith, pre)) in
     rw (c .mantissa .ensures) (omega (arith, range .0))
 
 returns : tie.Need-returns

@@ -1,19 +1,22 @@
--- `radius::mantissa` meets its contract: the shift loses no bit, since the result is below 2^48.
+-- `radius::mantissa` meets its contract: the shift loses no bit, since the result is below 2^49.
 use native.Mathlib.Nat.{mod-eq-of-lt}
 use native.Mathlib.Omega.{arith}
 use borrow.Author.Needs.{needs}
-use Rattle.radius.specs.Steps.{width, mantissa}
+use Rattle.radius.specs.Steps.{width, numerator, mantissa}
 use Rattle.radius.proofs.StepLaws.{top-below, mantissa-range}
 use Rattle.radius.proofs.mantissa.Statement.{statement}
 use Rattle.radius.proofs.mantissa.Tie as tie
+
+numerator-requires : tie.Need-numerator-requires
+numerator-requires c κs = search needs
 
 top-bit-requires : tie.Need-top-bit-requires
 top-bit-requires c κs = search needs
 
 sub-result : tie.Need-sub-result
 sub-result c =
-    let pre = c .before .pre in
-    let below = top-below width (c .before .args .m) (omega arith) (omega arith) (pre .0) (pre .1) in
+    let start = c .before .before in
+    let below = top-below width (numerator (start .args .k)) (omega arith) (omega arith) (omega arith) (omega (arith, start .pre)) in
     omega (arith, below, c .top-bit .ensures .0)
 
 cast-result : tie.Need-cast-result
@@ -25,9 +28,9 @@ shl-result c = search needs
 returns : tie.Need-returns
 unfolding mantissa
 returns c =
-    let pre = c .before .pre in
-    let range = mantissa-range width (c .before .args .m) (omega arith) (omega arith) (pre .0) (pre .1) in
-    rw (c .top-bit .ensures .0) (mod-eq-of-lt (omega (arith, range .1)))
+    let start = c .before .before in
+    let range = mantissa-range width (numerator (start .args .k)) (omega arith) (omega arith) (omega arith) (omega (arith, start .pre)) in
+    rw (c .before .numerator .ensures, c .top-bit .ensures .0) (mod-eq-of-lt (omega (arith, range .1)))
 
 pub mantissa-spec : {M : Type 1} → statement M
-mantissa-spec = tie.close (tie.spec top-bit-requires sub-result cast-result shl-result returns)
+mantissa-spec = tie.close (tie.spec numerator-requires top-bit-requires sub-result cast-result shl-result returns)

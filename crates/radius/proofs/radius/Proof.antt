@@ -9,11 +9,8 @@ use Rattle.radius.proofs.radius.Tie as tie
 ln-two-requires : tie.Need-ln-two-requires
 ln-two-requires c κs = search needs
 
-numerator-requires : tie.Need-numerator-requires
-numerator-requires c κs = search needs
-
 logarithm-requires : tie.Need-logarithm-requires
-logarithm-requires c κs = omega (arith, c .numerator .ensures, c .before .ln-two .ensures, ln-two-range)
+logarithm-requires c κs = omega (arith, c .ln-two .ensures, ln-two-range)
 
 mul-root : tie.Need-mul-root
 mul-root c = search needs
@@ -28,4 +25,4 @@ returns c = cc
 pub radius-spec : {M : Type 1} → statement M
 radius-spec =
     tie.close
-    (tie.spec ln-two-requires numerator-requires logarithm-requires mul-root root-requires returns)
+    (tie.spec ln-two-requires logarithm-requires mul-root root-requires returns)

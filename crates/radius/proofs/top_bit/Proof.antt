@@ -1,22 +1,19 @@
--- `radius::top_bit` meets its contract: a number that is not 0 has a set bit, so that its leading zeros are at most 63.
+-- `radius::top_bit` meets its contract: the leading zeros of 2k + 1 are one less than those of k.
 use mathlib.Core.Path.{refl}
 use native.Mathlib.Omega.{arith}
-use lib.Count.{leading-top}
-use Rattle.radius.specs.Steps.{topBit}
-use Rattle.radius.proofs.StepLaws.{top-bit}
+use lib.Count.{leading-le}
+use Rattle.radius.specs.Steps.{numerator}
+use Rattle.radius.proofs.StepLaws.{top-bit, top-bit-odd}
 use Rattle.radius.proofs.top_bit.Statement.{statement}
 use Rattle.radius.proofs.top_bit.Tie as tie
 
 sub-result : tie.Need-sub-result
-sub-result c =
-    let top = leading-top 64 (c .args .m) (c .pre) (c .fits .m .fits) in
-    omega (arith, top .1)
+sub-result c = leading-le 64 (c .args .k)
 
 returns : tie.Need-returns
-unfolding topBit
 returns c =
-    let top = top-bit (c .args .m) (c .pre) (c .fits .m .fits) in
-    (refl, top .0, top .1)
+    let top = top-bit (numerator (c .args .k)) (omega arith) (omega (arith, c .pre)) in
+    rw (← top-bit-odd (c .args .k) (omega (arith, c .pre))) (refl, top .0, top .1)
 
 pub top-bit-spec : {M : Type 1} → statement M
 top-bit-spec = tie.close (tie.spec sub-result returns)

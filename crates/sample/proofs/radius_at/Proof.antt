@@ -4,7 +4,7 @@ use Prim.Native.Nat.{_/_, _%_, _<_, _^_}
 use native.Mathlib.Nat.{mod-eq-of-lt}
 use native.Mathlib.Omega.{arith}
 use borrow.Author.Needs.{needs}
-use Rattle.radius.specs.Steps.{width, radiusOf}
+use Rattle.radius.specs.Steps.{numberBits, radiusOf}
 use Rattle.sample.proofs.radius_at.Statement.{statement}
 use Rattle.sample.proofs.radius_at.Tie as tie
 
@@ -16,7 +16,7 @@ unfolding radiusOf
 returns c =
     let start = c .before .before .before in
     let z : start .args .z < 2 ^ 64 = start .fits .z .fits in
-    let small : start .args .z / 65536 % 2 ^ width ≡ start .args .z / 65536 = mod-eq-of-lt (omega arith) in
+    let small : start .args .z / 65536 % 2 ^ numberBits ≡ start .args .z / 65536 = mod-eq-of-lt (omega arith) in
     c .radius .ensures ∙ rw (start .pre .log-coarse, start .pre .log-fine, small) refl
 
 pub radius-at-spec : {M : Type 1} → statement M

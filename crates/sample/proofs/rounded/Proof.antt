@@ -1,4 +1,4 @@
--- `sample::rounded` meets its contract: the size is at most 16706, so that it and its negative fit 16 bits.
+-- `sample::rounded` meets its contract: the size is at most 16879, so that it and its negative fit 16 bits.
 use Prim.Native.Nat.{ℕ, _+_, _*_, _/_, _≤_, _<_, _^_}
 use native.Mathlib.Nat.{mul-le-mul, le-of-lt}
 use native.Mathlib.Omega.{arith}

@@ -6,7 +6,7 @@ use borrow.Author.Tests.{le-leb, lt-leb, lt-ltb, le-ltb}
 use lib.IntN.{ℤ}
 use mir.Syntax.{w16}
 use mir.Facts.{toZ-ofZ}
-use Rattle.radius.specs.Steps.{width}
+use Rattle.radius.specs.Steps.{numberBits}
 use Rattle.sample.specs.Sample.{firstOf, secondOf, samplesOf}
 use Rattle.sample.proofs.Closeness.{answer-close}
 use borrow.Author.Needs.{needs}
@@ -15,13 +15,13 @@ use Rattle.sample.proofs.sample.Tie as tie
 
 returns : tie.Need-returns
 unfolding samplesOf
-returns c = answer-close _ _ _ (rw (le-leb (2 ^ width) (c .before .args .k) (omega arith)) refl)
+returns c = answer-close _ _ _ (rw (le-leb (2 ^ numberBits) (c .before .args .k) (omega arith)) refl)
 
 returns-2 : tie.Need-returns-2
 unfolding samplesOf
 returns-2 c =
     answer-close _ _ _
-    (rw (lt-leb (2 ^ width) (c .before .before .args .k) (omega arith), lt-ltb 65535 (c .before .before .args .v) (omega arith)) refl)
+    (rw (lt-leb (2 ^ numberBits) (c .before .before .args .k) (omega arith), lt-ltb 65535 (c .before .before .args .v) (omega arith)) refl)
 
 log-coarse-requires : tie.Need-log-coarse-requires
 log-coarse-requires c κs = search needs
@@ -84,7 +84,7 @@ returns-3 c =
     let a = apart k v (tested .if2 .left) in
     let given = c .struct-told .given in
     answer-close _ _ _
-    (rw (lt-leb (2 ^ width) k (tested .before .if1 .left), le-ltb 65535 v (tested .if2 .left))
+    (rw (lt-leb (2 ^ numberBits) k (tested .before .if1 .left), le-ltb 65535 v (tested .if2 .left))
     (ap₂ (λ (x y : ℤ). record { number = 0; first = x; second = y })
     (toZ-ofZ {w = w16} {z = c .before .pair-of .result .first} (record { sfits = given .0 .1 }) ∙ c .before .pair-of .ensures .0 ∙ ap₂ firstOf (a .0) (a .1))
     (toZ-ofZ {w = w16} {z = c .before .pair-of .result .second} (record { sfits = given .1 .0 .1 }) ∙ c .before .pair-of .ensures .1 ∙ ap₂ secondOf (a .0) (a .1))))
