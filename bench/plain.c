@@ -1,4 +1,4 @@
-/* The steps of document 01 in plain C: no contract, no proof, compiled with -O3. */
+/* The steps of document 01, with the half step of document 02, in plain C: no contract, no proof, compiled with -O3. */
 #include "plain.h"
 #include <math.h>
 #include <string.h>
@@ -31,9 +31,9 @@ static inline int accepted(const uint32_t *r) {
     return r[0] >= 2 && r[1] >= 8 && r[2] >= 16 && r[3] >= 2 && r[4] >= 8 && r[5] >= 16;
 }
 
-/* From the exponent of k, below 2^53, as a double: x86's bit scan would wait for that of the pair before. */
-static inline int top_bit(uint64_t k) {
-    double exact = (double)(int64_t)k;
+/* From the exponent of m, below 2^53, as a double: x86's bit scan would wait for that of the pair before. */
+static inline int top_bit(uint64_t m) {
+    double exact = (double)(int64_t)m;
     uint64_t bits;
     memcpy(&bits, &exact, sizeof bits);
     return (int)(bits >> 52) - 1023;
@@ -63,15 +63,13 @@ static inline int16_t sample(uint64_t F, uint64_t G, uint64_t sign) {
 }
 
 static inline void pair(uint64_t k, uint32_t v, int16_t *out, uint64_t (*root)(uint64_t)) {
-    if (k == 0) {
-        k = 1;
-    }
-    int e = top_bit(k);
-    uint64_t M = k << (47 - e);
-    uint64_t h = M >> 39, d = M & (((uint64_t)1 << 39) - 1);
-    uint64_t i = d / (h << 23), r = d - i * (h << 23);
-    uint64_t S = (r << 17) / (h * (65536 + i));
-    int64_t Q = (int64_t)((uint64_t)(48 - e) * K - A[h - 256] - B[i] - S);
+    uint64_t m = 2 * k + 1;
+    int e = top_bit(m);
+    uint64_t M = m << (48 - e);
+    uint64_t h = M >> 40, d = M & (((uint64_t)1 << 40) - 1);
+    uint64_t i = d / (h << 24), r = d - i * (h << 24);
+    uint64_t S = (r << 16) / (h * (65536 + i));
+    int64_t Q = (int64_t)((uint64_t)(49 - e) * K - A[h - 256] - B[i] - S);
     uint64_t F = root(2 * (uint64_t)(Q < 0 ? 0 : Q));
     uint32_t q = v >> 14, w = v & 16383, a = w >> 7, b = w & 127;
     uint64_t cosine = (C[a] * c[b] - D[a] * s[b]) >> 30, sine = (D[a] * c[b] + C[a] * s[b]) >> 30;

@@ -1,16 +1,16 @@
-//! Document 01, "Twelve readings to check" and the example job: the other implementation is held to them first. The power of x is held
-//! to stepping.
+//! Document 01, "Twelve readings to check", with the half step of document 02, and the example job: the other implementation is held to
+//! them first. The power of x is held to stepping.
 use crate::job;
 use crate::jump::register_after;
 use crate::sample::Tables;
 use crate::stream::{draw_of, recurrence, step, step_both, A, SHIFTS};
 
 const READINGS: [(u64, u32, i16, i16); 10] = [
-    (1, 0, 0, 16706),
-    (1, 16384, 16706, 0),
-    (1, 32768, 0, -16706),
-    (1, 49152, -16706, 0),
-    (0, 0, 0, 16706),
+    (1, 0, 0, 16604),
+    (1, 16384, 16604, 0),
+    (1, 32768, 0, -16604),
+    (1, 49152, -16604, 0),
+    (0, 0, 0, 16879),
     (1 << 47, 0, 0, 2411),
     (1 << 47, 8192, 1705, 1705),
     (1 << 46, 0, 0, 3410),

@@ -1,8 +1,7 @@
 -- Laws of the exact pair: every enclosure of a product has a point, any two meet, and they become as narrow as one likes.
-use Prim.Native.Nat.{ℕ, zero, _+_, _*_, _^_, _≤_, _<_}
-use native.Mathlib.Nat.{mul-pos, mul-le-mul-left, mul-lt-mul-of-pos-right}
+use Prim.Native.Nat.{ℕ, zero, _+_, _*_, _≤_, _<_}
+use native.Mathlib.Nat.{mul-pos, mul-le-mul-left}
 use native.Mathlib.Omega.{arith}
-use lib.Pow.{pow-pos}
 use Rattle.exact.specs.Fraction.{Fraction, whole, _+ᶠ_, _*ᶠ_, _≤ᶠ_, _<ᶠ_}
 use Rattle.exact.proofs.FractionLaws.{≤ᶠ-refl, ≤ᶠ-trans, ≤ᶠ-<ᶠ-trans, <ᶠ-weaken, +ᶠ-mono, +ᶠ-mono-le-lt, *ᶠ-mono, _≤ᶠ⟨_⟩_, _∎ᶠ, chained}
 use Rattle.exact.specs.Radius.{RadiusEnclosure}

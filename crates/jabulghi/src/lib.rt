@@ -5,6 +5,8 @@ ghost use Prim.Native.Nat.{_+_, _*_, _<_, _^_};
 ghost use mathlib.Core.List.{[], _∷_};
 ghost use lib.ListN.{length};
 ghost use Rattle.streams.specs.Streams.{seedOf, skipOf};
+ghost use Rattle.radius.specs.Steps.{numberBits, inverse};
+ghost use Rattle.sample.specs.Steps.{fractionBits};
 ghost use Rattle.sample.specs.Sample.{samplesOf, nineSixteenths};
 ghost use Rattle.exact.specs.Pair.{Close};
 ghost use Rattle.noise.specs.Noise.{pairOf, blockOf, blockHolds};

@@ -1,7 +1,7 @@
 -- Laws of the steps: the ranges that document 01 states, over the numerator m and the width b, and the root's law.
-use mathlib.Core.Path.{_≡_, sym, ap, _∙_, subst}
+use mathlib.Core.Path.{_≡_, sym, subst}
 use Prim.Native.Nat.{ℕ, suc, _+_, _-_, _*_, _/_, _^_, _≤_, _<_}
-use native.Mathlib.Nat.{le-refl, sub-zero, le-antisymm, mul-le-mul, le-trans, lt-of-lt-of-le}
+use native.Mathlib.Nat.{le-refl, sub-zero, le-antisymm, le-trans, lt-of-lt-of-le}
 use native.Mathlib.Nat.{lt-of-not-le, not-le-of-lt, mul-le-mul-right, mul-lt-mul-of-pos-right, mod-lt, div-add-mod'}
 use native.Mathlib.Nat.{div-lt-iff-lt-mul, pow-suc, le-div-iff-mul-le, mod-eq-sub-div-mul}
 use native.Mathlib.Numerals.{add-one}
@@ -9,7 +9,7 @@ use native.Mathlib.Omega.{arith}
 use lib.Count.{leadingZeros, leading-top, leading-length, leading-unique}
 use lib.Pow.{pow-pos, pow-mono, pow-add}
 use Rattle.exact.proofs.RootLaws.{root-digits-root, lt-of-square-lt}
-use Rattle.radius.specs.Steps.{numerator, topBit, mantissa, coarseIndex, rest, fineIndex, remainder, correction, logarithm}
+use Rattle.radius.specs.Steps.{numerator, topBit, mantissa, coarseIndex, rest, fineIndex, remainder, logarithm}
 use Rattle.radius.specs.Steps.{wholeRoot}
 
 -- no two first numbers have the same numerator: the cells are told apart
@@ -111,26 +111,6 @@ module _ (b m : ℕ) (wide : 25 ≤ b) (narrow : b ≤ 64) (above : 0 < m) (belo
         subst (λ (x : ℕ). rest b m ≡ rest b m / n * n + x) e (sym (div-add-mod' (rest b m) n)),
         subst (λ (x : ℕ). x < n) e (mod-lt (rest b m) divisor-pos),
       )
-
-  -- the divisor of S
-  pub divisor-range : (0 < coarseIndex b m * (65536 + fineIndex b m)) × (coarseIndex b m * (65536 + fineIndex b m) < 2 ^ 26)
-  divisor-range =
-      let h = coarse-range in
-      let i = fine-range in
-      let product : coarseIndex b m * (65536 + fineIndex b m) ≤ 512 * 65792 =
-      mul-le-mul {n₁ = coarseIndex b m} {m₁ = 65536 + fineIndex b m} {n₂ = 512} {m₂ = 65792} (omega arith) (omega arith) in
-      (omega (arith, h .0), omega (arith, product))
-
-  -- S < 2^24, where b is at most 65
-  pub correction-range : correction b m < 2 ^ 24
-  unfolding correction
-  correction-range =
-      let below-r = mul-lt-mul-of-pos-right (rest-split .1) (pow-pos (65 - b)) in
-      let w : b - 25 + (65 - b) ≡ 40 = omega arith in
-      let p : 2 ^ (b - 25) * 2 ^ (65 - b) ≡ 2 ^ 40 = sym (pow-add 2 (b - 25) (65 - b)) ∙ ap (λ (n : ℕ). 2 ^ n) w in
-      let q = ap (λ (t : ℕ). coarseIndex b m * t) p in
-      div-lt-iff-lt-mul {k = coarseIndex b m * (65536 + fineIndex b m)} {x = remainder b m * 2 ^ (65 - b)} {y = 2 ^ 24} (divisor-range .0) .1
-      (omega (arith, below-r, q))
 
 -- Q ≤ b × K
 pub logarithm-range : (A B : ℕ → ℕ) (K b m : ℕ) → logarithm A B K b m ≤ b * K

@@ -1,6 +1,6 @@
 -- `radius::logarithm` meets its contract: it is step 5 at what its callees return, and 49 times a number below 2^40 fits.
 use mathlib.Core.Path.{_≡_}
-use Prim.Native.Nat.{ℕ, _-_, _^_, _≤_, _<_}
+use Prim.Native.Nat.{ℕ, _-_, _*_, _^_, _≤_, _<_}
 use native.Mathlib.Nat.{mul-le-mul}
 use native.Mathlib.Omega.{arith}
 use Rattle.tables.specs.Tables.{entryOf}
@@ -32,11 +32,13 @@ entry-requires c κs = search needs
 entry-requires-2 : tie.Need-entry-requires-2
 entry-requires-2 c κs = search needs
 
+few : (t e K : ℕ) → t ≤ 64 → K < 2 ^ 40 → (t - e) * K < 2 ^ 64
+few t e K h k =
+    let factor : t - e ≤ 64 = omega arith in
+    omega (arith, mul-le-mul factor k)
+
 mul-difference-or-zero : tie.Need-mul-difference-or-zero
-mul-difference-or-zero c =
-    let pre = c .before .before .before .before .before .before .pre in
-    let factor : width - c .before .before .before .top-bit .result ≤ width = omega arith in
-    omega (arith, mul-le-mul factor (pre .1))
+mul-difference-or-zero c = record { fits = few _ _ _ (omega arith) (c .before .before .before .before .before .before .pre .1) }
 
 difference-or-zero-requires : tie.Need-difference-or-zero-requires
 difference-or-zero-requires c κs = search needs
