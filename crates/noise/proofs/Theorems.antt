@@ -132,7 +132,8 @@ samples-second (suc n) (suc i) g d h =
     let e : 2 * suc i + 1 ≡ suc (suc (2 * i + 1)) = omega arith in
     rw e (samples-second n i (pairOf g .next) d (omega arith))
 
--- Demand 3, of an accepted pair: each sample is less than nine sixteenths of a unit from its member of the exact pair of its two numbers.
+-- Demand 3, of an accepted pair: each sample is less than nine sixteenths of a unit from its member of the exact pair of its two numbers,
+-- (2k + 1) over 2^49 and v over 65536.
 pub pair-close : (g : Generator) → Sound g → pairOf g .number ≡ 0
     → Close nineSixteenths fractionBits (inverse (uniformsOf g .k)) (uniformsOf g .v) (pairOf g .first) (pairOf g .second)
 pair-close g h e =

@@ -1,4 +1,4 @@
--- Demand 3: each sample is less than nine sixteenths of a unit from its member of the exact pair.
+-- Demand 3: each sample is less than nine sixteenths of a unit from its member of the exact pair of (2k + 1) over 2^49 and v over 65536.
 use mathlib.Core.Path.{_≡_}
 use Prim.Native.Nat.{ℕ, _+_, _-_, _^_, _<_}
 use native.Mathlib.Nat.{le-refl, le-of-suc-le-suc}

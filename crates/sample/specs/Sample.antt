@@ -29,7 +29,7 @@ samplesOf k v =
     cond (leb (2 ^ numberBits) k) (refused 2)
     (cond (ltb 65535 v) (refused 3) (record { number = 0; first = firstOf k v; second = secondOf k v }))
 
--- Demand 3: "I hold you to the nine sixteenths"
+-- Demand 3: "I hold you to the nine sixteenths", of the exact pair of (2k + 1) over 2^49, k from 0, and v over 65536
 abbrev pub nineSixteenths : Fraction
 nineSixteenths = record { top = 9; bottom = 16; positive = omega arith }
 
