@@ -1,8 +1,9 @@
 #!/usr/bin/env python3
-"""Recomputes the seven tables of crate `tables` with mpmath at 200 bits and compares them with the source.
+"""Recomputes the seven tables with mpmath at 200 bits and compares them with the sources: crate `tables` (src/logarithms.rt,
+cosines.rt, sines.rt, specs/Values.antt) and the matches of crates `log_coarse`, `log_fine` and `rotations`.
 
-  python3 tools/tables.py           compare src/logarithms.rt, cosines.rt, sines.rt and specs/Values.antt with the recomputed tables
-  python3 tools/tables.py --write   write these files anew (then run `rt fmt`)
+  python3 tools/tables.py           compare the sources with the recomputed tables
+  python3 tools/tables.py --write   write the tables and the arms of the matches anew (then run `rt fmt`)
 
 It needs mpmath (Debian: python3-mpmath). It stands outside the gate: the promise that the gate proves is the crate's own."""
 import pathlib
@@ -12,7 +13,8 @@ import sys
 from mpmath import mp, mpf, cos, floor, log, nint, pi, sin
 
 mp.prec = 200
-CRATE = pathlib.Path(__file__).resolve().parent.parent / "crates" / "tables"
+CRATES = pathlib.Path(__file__).resolve().parent.parent / "crates"
+CRATE = CRATES / "tables"
 LISTS = CRATE / "specs" / "Values.antt"
 
 
@@ -44,6 +46,28 @@ TABLES = [
      [nearest(sin(turn(mpf(b) / 65536)), ROTATION) for b in range(128)]),
 ]
 LN_TWO = nearest(log(mpf(2)), LOG)
+ENTRIES = {const: entries for _, const, _, _, entries in TABLES}
+
+
+def beside(uppers, lowers, width):
+    """Two lists in one: the upper part of each number from the first, the lower, of so many bits, from the second."""
+    assert all(x < 1 << 64 - width for x in uppers) and all(x < 1 << width for x in lowers)
+    return [x << width | y for x, y in zip(uppers, lowers)]
+
+
+def parted(width):
+    """How a number of two parts is written, the lower of so many bits."""
+    return lambda x: f"0x{x >> width:0{(64 - width) // 4}x}_{x % (1 << width):0{width // 4}x}"
+
+
+RECIPROCALS = [-(-(2**31) // h) for h in range(256, 512)]
+# (crate, function, how an entry is written, entries)
+MATCHES = [
+    ("log_coarse", "nth", parted(40), beside(RECIPROCALS, ENTRIES["LOG_COARSE"], 40)),
+    ("log_fine", "nth", str, ENTRIES["LOG_FINE"]),
+    ("rotations", "nth_coarse", parted(32), beside(ENTRIES["COS_COARSE"], ENTRIES["SIN_COARSE"], 32)),
+    ("rotations", "nth_fine", parted(32), beside(ENTRIES["COS_FINE"], ENTRIES["SIN_FINE"], 32)),
+]
 
 
 def rows(words, between, indent, width=120):
@@ -54,6 +78,25 @@ def rows(words, between, indent, width=120):
             line = ""
         line += word + between
     return lines + [indent + line.rstrip()]
+
+
+def arms(crate, function):
+    """A crate's source, in three: up to the arms of the match of a function, the arms that are a number, what follows."""
+    text = (CRATES / crate / "src" / "lib.rt").read_text()
+    start = text.index("match n {\n", text.index(f"fn {function}(")) + len("match n {\n")
+    end = text.index("        _ =>", start)
+    return text[:start], text[start:end], text[end:]
+
+
+def write_arms(crate, function, written, entries):
+    before, _, after = arms(crate, function)
+    lines = [f"        {n} => {written(x)},\n" for n, x in enumerate(entries)]
+    (CRATES / crate / "src" / "lib.rt").write_text(before + "".join(lines) + after)
+
+
+def read_arms(crate, function):
+    found = re.findall(r"(\d+) => (\w+),\n", arms(crate, function)[1])
+    return [int(x, 0) for n, (key, x) in enumerate(found) if int(key) == n]
 
 
 def path(name):
@@ -76,7 +119,7 @@ def lists():
            "-- Assumes nothing.",
            "use Prim.Native.Nat.{ℕ}", "use mathlib.Core.List.{List, [], _∷_}"]
     for _, _, name, comment, entries in TABLES:
-        out += ["", f"-- {comment}", f"unfoldable pub {name} : List ℕ", f"{name} ="]
+        out += ["", f"-- {comment}", f"abbrev pub {name} : List ℕ", f"{name} ="]
         out += rows([f"{x}" for x in entries] + ["[]"], " ∷ ", "    ")
         out[-1] = out[-1].removesuffix(" ∷")
     out += ["", "-- K: ln 2, at 2^40.", "unfoldable pub lnTwoValue : ℕ", f"lnTwoValue = 0x{LN_TWO:X}"]
@@ -90,16 +133,16 @@ def read(text, start, end):
 
 
 def compare():
-    antt, wrong = LISTS.read_text(), 0
+    antt, wrong, found = LISTS.read_text(), 0, []
     for file, const, name, _, entries in TABLES:
-        found = {
-            const: read(path(file).read_text(), f"{const}: [u64; {len(entries)}] = [", "]"),
-            name: read(antt, f"\n{name} =", "[]"),
-        }
-        for where, numbers in found.items():
-            bad = [i for i in range(max(len(numbers), len(entries))) if numbers[i : i + 1] != entries[i : i + 1]]
-            wrong += len(bad)
-            print(f"{where}: {len(numbers)} entries, {len(bad)} differ {bad[:5] or ''}")
+        found.append((const, read(path(file).read_text(), f"{const}: [u64; {len(entries)}] = [", "]"), entries))
+        found.append((name, read(antt, f"\n{name} =", "[]"), entries))
+    for crate, function, _, entries in MATCHES:
+        found.append((f"{crate}::{function}", read_arms(crate, function), entries))
+    for where, numbers, entries in found:
+        bad = [i for i in range(max(len(numbers), len(entries))) if numbers[i : i + 1] != entries[i : i + 1]]
+        wrong += len(bad)
+        print(f"{where}: {len(numbers)} entries, {len(bad)} differ {bad[:5] or ''}")
     found = {"LN_TWO": read(path("logarithms").read_text(), "LN_TWO: u64 =", ";"), "lnTwoValue": read(antt, "\nlnTwoValue =", "\n")}
     for where, numbers in found.items():
         wrong += numbers != [LN_TWO]
@@ -112,6 +155,8 @@ if __name__ == "__main__":
         for name in ("logarithms", "cosines", "sines"):
             path(name).write_text(source(name))
         LISTS.write_text(lists())
+        for match in MATCHES:
+            write_arms(*match)
     elif sys.argv[1:]:
         sys.exit(__doc__)
     sys.exit(1 if compare() else 0)

@@ -1,11 +1,8 @@
 -- The whole-number steps from v to its sine and cosine (document 01, 'Angle and sample'), in the document's order. C, D, c, s are
 -- any tables, each a function of the document's own index.
-use mathlib.Core.Bool.{false, not}
-use mathlib.Core.List.{List}
 use Prim.Native.Nat.{ℕ, _+_, _-_, _*_, _/_, _%_, _^_}
 use lib.IntN.{ℤ, pos, negℤ}
-use Rattle.exact.specs.Pair.{turn, along}
-use Rattle.angle.specs.declared.Signed.{Signed}
+use Rattle.exact.specs.Pair.{turn}
 use Rattle.tables.specs.Tables.{cosCoarse, sinCoarse, cosFine, sinFine, entryOf}
 
 -- q = floor(v / 16384)
@@ -47,17 +44,3 @@ signedOf v = turn negℤ (quarter v) (pos (sineAt (inQuarter v)), pos (cosineAt 
 -- v a quarter turn on, mod 65536
 abbrev pub quarterOn : ℕ → ℕ
 quarterOn v = (v + 16384) % 65536
-
--- A lent table is read mod a power of 2. The tables' entries are at most 2^30.
-unfoldable pub read : ℕ → List ℕ → ℕ → ℕ
-read bits table i = entryOf table 0 i % 2 ^ bits
-
--- A signed number as its size and its sign: a size, the sign changed, and the number.
-abbrev pub plain : ℕ → Signed
-plain n = record { size = n; negative = false }
-
-abbrev pub flipped : Signed → Signed
-flipped g = record { size = g .size; negative = not (g .negative) }
-
-abbrev pub valueOf : Signed → ℤ
-valueOf g = along (g .negative) (pos (g .size))

@@ -84,7 +84,8 @@ pub extern "C" fn jabulghi_sample(k: u64, v: u32, samples: &mut [i16; 2]) -> u32
     s.number
 }
 
-// One pair of samples from a record.
+// One pair of samples from a record. (`noise::pair` written out: its record then stays in registers, and calls one after another
+// overlap.)
 #[no_mangle]
 pub extern "C" fn jabulghi_pair(words: &mut [u32; 8], samples: &mut [i16; 2]) -> u32
     ensures { λ r. ⌜ r ≡ pairOf (generatorOf (now (words .entry))) .number ⌝ }
@@ -92,7 +93,8 @@ pub extern "C" fn jabulghi_pair(words: &mut [u32; 8], samples: &mut [i16; 2]) ->
     ensures { λ _. ⌜ now (words .exit) ≡ wordsOf (pairOf (generatorOf (now (words .entry))) .next) ⌝ }
 {
     let g = unpacked(*words);
-    let pair = noise::pair(g);
+    let drawn = g.uniforms();
+    let pair = noise::sampled(drawn);
     let after_pair = pair.next;
     *samples = [pair.first, pair.second];
     *words = packed(after_pair);

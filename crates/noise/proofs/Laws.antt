@@ -12,10 +12,13 @@ use lib.IntN.{ℤ}
 use lib.ListN.{length}
 use Rattle.streams.specs.declared.Generator.{Generator}
 use Rattle.streams.specs.declared.Uniforms.{Uniforms}
-use Rattle.streams.specs.Streams.{recordNumber, mostCount, countNumber, pairsNumber, uniformsOf, after}
+use Rattle.streams.specs.Streams.{advance, output, recordNumber, mostCount, countNumber, pairsNumber, uniformsOf, after}
 use Rattle.streams.specs.Recurrence.{Sound, moved}
-use Rattle.streams.proofs.Theorems.{sound-accepted, pairs-accepted, uniforms-accepted, next-sound, numbers-bounded}
+use Rattle.streams.proofs.Theorems.{sound-accepted, pairs-accepted, moved-sound, uniforms-accepted, next-sound, numbers-bounded}
 use Rattle.streams.proofs.Causes.{none-applies, count-room}
+use Rattle.squares.specs.Squares.{repeat}
+use Rattle.lanes.specs.Lanes.{words}
+use Rattle.lanes.proofs.Theorems.{word-is-pair}
 use Rattle.sample.specs.Sample.{samplesOf, firstOf, secondOf}
 use Rattle.sample.specs.Sample.{samplesAt}
 use Rattle.noise.specs.Noise.{pairOf, samples, lengthNumber, blockNumber}
@@ -65,10 +68,17 @@ length-samples (suc n) g = let ih = length-samples n (pairOf g .next) in omega a
 
 -- ---- The numbers behind the samples
 
-pub numbers-add : (m n : ℕ) (g : Generator) → numbers (m + n) g ≡ numbers m g ++ numbers n (after m g)
-unfolding after numbers
-numbers-add zero n g = rw (zero-add n)
-numbers-add (suc m) n g = rw (suc-add m n, numbers-add m n (uniformsOf g .next))
+-- They are the words of both streams side by side, where the count has room.
+pub numbers-words : (n : ℕ) (g : Generator) → Sound g → g .count + n ≤ mostCount → numbers n g ≡ words n (g .a) (g .b)
+unfolding numbers words repeat
+numbers-words zero g h room = refl
+numbers-words (suc n) g h room =
+    let accepted : pairsNumber g 1 ≡ 0 = pairs-accepted g 1 .1 (sound-accepted g h, omega arith) in
+    let a = output (advance (g .a)) in
+    let b = output (advance (g .b)) in
+    let number : ℕ = (a * 65536 + b / 65536) * 65536 + b % 65536 in
+    rw (uniforms-accepted g accepted, word-is-pair (advance (g .a)) (advance (g .b)))
+    (ap (λ (l : List ℕ). number ∷ l) (numbers-words n (moved 1 g) (moved-sound 1 g h) (omega arith)))
 
 pub length-numbers : (n : ℕ) (g : Generator) → length (numbers n g) ≡ n
 unfolding numbers

@@ -13,11 +13,9 @@ use Rattle.sample.specs.declared.Samples.{Samples}
 use Rattle.sample.specs.Sample.{samplesOf}
 use Rattle.noise.specs.declared.PairAnswer.{PairAnswer}
 
--- A pair: the samples of the call from k and v on the two numbers drawn, and the next record; refused, 0 0 and the record passed
--- in.
-unfoldable pub pairOf : Generator → PairAnswer
-pairOf g =
-    let drawn : Uniforms = uniformsOf g in
+-- The samples of the call from k and v on two numbers drawn, and the next record; refused, 0 0 and the record passed in.
+abbrev pub sampledOf : Uniforms → PairAnswer
+sampledOf drawn =
     let s : Samples = samplesOf (drawn .k) (drawn .v) in
     record {
       number = drawn .number;
@@ -25,6 +23,10 @@ pairOf g =
       second = ifAccepted (drawn .number) (s .second) (pos 0);
       next = drawn .next;
     }
+
+-- A pair: two numbers drawn, and their samples.
+unfoldable pub pairOf : Generator → PairAnswer
+pairOf g = sampledOf (uniformsOf g)
 
 -- The samples of n pairs, first and second of each alternating.
 unfoldable pub samples : ℕ → Generator → List ℤ

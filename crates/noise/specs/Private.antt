@@ -9,7 +9,7 @@ use Rattle.noise.specs.Noise.{samples}
 
 -- The most samples in a stretch.
 abbrev pub stretchLength : ℕ
-stretchLength = 1024
+stretchLength = 64
 
 -- The numbers 65536 k + v of n pairs.
 unfoldable pub numbers : ℕ → Generator → List ℕ

@@ -2,11 +2,14 @@
 ghost use mathlib.Core.Path.{_≡_};
 ghost use Prim.Native.Nat.{_+_, _*_, _/_, _%_, _≤_, min};
 ghost use lib.ListN.{length};
-ghost use Rattle.streams.specs.Streams.{recordNumber, pairsNumber, after};
-ghost use Rattle.noise.specs.Noise.{pairOf, lengthNumber, blockNumber, blockOf, blockHolds};
+ghost use Rattle.streams.specs.Streams.{pairsNumber, after};
+ghost use Rattle.noise.specs.Noise.{sampledOf, pairOf, lengthNumber, blockNumber, blockOf, blockHolds};
 ghost use Rattle.noise.specs.Private.{stretchLength, numbers, PairsDrawn};
+use lanes::Both;
+use lanes::draw_pairs;
 use streams::Generator;
 use streams::RecordAnswer;
+use streams::Uniforms;
 use streams::first_cause;
 
 pub struct PairAnswer {
@@ -16,11 +19,10 @@ pub struct PairAnswer {
     pub next: Generator,
 }
 
-// The next pair of samples.
-pub fn pair(g: Generator) -> PairAnswer
-    ensures { λ r. ⌜ r ≡ pairOf g ⌝ }
+// The samples of two numbers drawn, and the record after them.
+pub fn sampled(drawn: Uniforms) -> PairAnswer
+    ensures { λ r. ⌜ r ≡ sampledOf drawn ⌝ }
 {
-    let drawn = g.uniforms();
     let next = drawn.next;
     if drawn.number != 0 {
         return PairAnswer {
@@ -39,20 +41,26 @@ pub fn pair(g: Generator) -> PairAnswer
     }
 }
 
-// The numbers 65536 k + v of as many pairs as z has elements, and the record after them.
+// The next pair of samples.
+pub fn pair(g: Generator) -> PairAnswer
+    ensures { λ r. ⌜ r ≡ pairOf g ⌝ }
+{
+    let drawn = g.uniforms();
+    sampled(drawn)
+}
+
+// The numbers 65536 k + v of as many pairs as z has elements, and the record after them: both streams are drawn side by side.
 fn draw_numbers(g: Generator, z: &mut [u64]) -> Generator
-    requires { ⌜ recordNumber g ≡ 0 ⌝ }
+    requires { ⌜ pairsNumber g (length (now z)) ≡ 0 ⌝ }
     ensures { λ r. ⌜ (r ≡ after (length (now (z .entry))) g) × (now (z .exit) ≡ numbers (length (now (z .entry))) g) ⌝ }
 {
-    let mut state = g;
-    let mut i = 0;
-    while i < z.len() {
-        let drawn = state.uniforms();
-        z[i] = drawn.k * 65536 + drawn.v as u64;
-        state = drawn.next;
-        i += 1;
-    }
-    state
+    let a = g.a;
+    let b = g.b;
+    let n = z.len() as u64;
+    let drawn = draw_pairs(Both { a, b }, z);
+    let after_a = drawn.a;
+    let after_b = drawn.b;
+    g.onward(after_a, after_b, n)
 }
 
 // The samples of as many pairs as z has elements, by way of their numbers in z.
@@ -66,9 +74,9 @@ fn draw_samples(g: Generator, z: &mut [u64], out: &mut [i16]) -> Generator
 }
 
 // The most samples in a stretch.
-const STRETCH: usize = 1024;
+const STRETCH: usize = 64;
 
-// A stretch: the tables are loaded once for all of its samples.
+// A stretch: its numbers stand in a local array, which is no longer than that, since it is zeroed at each call.
 fn stretch(g: Generator, out: &mut [i16]) -> Generator
     requires { ⌜ (pairsNumber g (length (now out) / 2) ≡ 0) × (length (now out) % 2 ≡ 0) × (length (now out) ≤ stretchLength) ⌝ }
     ensures { λ r. ⌜ PairsDrawn (length (now (out .entry)) / 2) g r (now (out .exit)) ⌝ }

@@ -1,6 +1,6 @@
 -- The laws of the steps, and how far F is from the exact radius.
-mod Squares
 pub mod StepLaws
+mod Cells
 pub mod Ranges
 mod LogarithmMargin
 pub mod RadiusMargin

@@ -9,9 +9,11 @@ use Rattle.exact.specs.Radius.{AtMostRadius, AtLeastRadius}
 use Rattle.tables.specs.Promise.{NearestLn}
 use Rattle.tables.specs.Tables.{logCoarse, logFine, lnTwo, entryOf}
 use Rattle.tables.proofs.Promise.{promise}
-use Rattle.radius.specs.Steps.{numberBits, width, inverse, radiusOf}
-use Rattle.radius.specs.Steps.{numerator, topBit, mantissa, coarseIndex, rest, fineIndex, remainder, correction, logarithm, radius}
-use Rattle.radius.proofs.StepLaws.{top-below, mantissa-split, coarse-range, fine-range, rest-split, whole-root}
+use Rattle.roots.specs.Root.{wholeRoot}
+use Rattle.roots.proofs.RootLaws.{whole-root}
+use Rattle.radius.specs.Steps.{numberBits, width, inverse, underRoot, radiusOf}
+use Rattle.radius.specs.Steps.{numerator, topBit, mantissa, coarseIndex, rest, fineIndex, remainder, correction, logarithm}
+use Rattle.radius.proofs.StepLaws.{forty, top-below, mantissa-split, coarse-range, fine-range, rest-split}
 use Rattle.radius.proofs.LogarithmMargin.{Numbers, radius-at-most, radius-at-least}
 
 -- r 2^(65-b) over h (65536 + i), with both sides times 2^(b-25)
@@ -44,11 +46,6 @@ module _ (b m : ℕ) (wide : 25 ≤ b) (narrow : b ≤ 64) (above : 0 < m) (belo
       let e : b - 9 ≡ 16 + (b - 25) = omega arith in
       ap (λ (x : ℕ). 2 ^ x) e ∙ pow-add 2 16 (b - 25)
 
-  forty : 2 ^ (b - 25) * 2 ^ (65 - b) ≡ 2 ^ 40
-  forty =
-      let e : b - 25 + (65 - b) ≡ 40 = omega arith in
-      sym (pow-add 2 (b - 25) (65 - b)) ∙ ap (λ (x : ℕ). 2 ^ x) e
-
   some-product : 0 < coarseIndex b m * 2 ^ (b - 25)
   some-product = mul-pos (omega (arith, coarse-range b m wide narrow above below .0)) (pow-pos (b - 25))
 
@@ -60,7 +57,7 @@ module _ (b m : ℕ) (wide : 25 ≤ b) (narrow : b ≤ 64) (above : 0 < m) (belo
       let x = remainder b m * 2 ^ (65 - b) in
       let n = coarseIndex b m * (65536 + fineIndex b m) in
       let some-n : 0 < n = omega (arith, coarse-range b m wide narrow above below .0) in
-      quotient (remainder b m) (2 ^ (65 - b)) (coarseIndex b m) (65536 + fineIndex b m) (2 ^ (b - 25)) (x / n) (x % n) forty (div-add-mod x n) (mod-lt x some-n)
+      quotient (remainder b m) (2 ^ (65 - b)) (coarseIndex b m) (65536 + fineIndex b m) (2 ^ (b - 25)) (x / n) (x % n) (forty b wide (omega arith)) (div-add-mod x n) (mod-lt x some-n)
       (pow-pos (b - 25))
 
   -- M = h × 65536 × 2^(b-25) + i × h × 2^(b-25) + r
@@ -128,18 +125,18 @@ module _ (A B : ℕ → ℕ) (K b m : ℕ) (wide : 25 ≤ b) (narrow : b ≤ 60)
   over-first = record { top = 2 ^ b; bottom = m; positive = positive }
 
   -- F at 2^20 is at most 8 above and at most 20 below the exact radius
-  pub enclosure-low : AtMostRadius over-first (dyadic 20 (radius A B K b m - 8))
-  unfolding logarithm radius numbers
+  pub enclosure-low : AtMostRadius over-first (dyadic 20 (wholeRoot (2 * logarithm A B K b m) - 8))
+  unfolding logarithm numbers
   enclosure-low = radius-at-most numbers narrow (omega arith) _ (whole-root _ .0)
 
-  pub enclosure-high : AtLeastRadius over-first (dyadic 20 (radius A B K b m + 20))
-  unfolding logarithm radius numbers
+  pub enclosure-high : AtLeastRadius over-first (dyadic 20 (wholeRoot (2 * logarithm A B K b m) + 20))
+  unfolding logarithm numbers
   enclosure-high = radius-at-least numbers (omega arith) _ (whole-root _ .1)
 
 -- at the tables, from nothing of them but their promise: (2k + 1) over 2^49
 pub radius-margin : (k : ℕ) → k < 2 ^ numberBits →
     AtMostRadius (inverse k) (dyadic 20 (radiusOf k - 8)) × AtLeastRadius (inverse k) (dyadic 20 (radiusOf k + 20))
-unfolding radiusOf
+unfolding radiusOf underRoot
 radius-margin k h = (
   enclosure-low (entryOf logCoarse 256) (entryOf logFine 0) lnTwo width (numerator k) (omega arith) (omega arith) (omega arith) (omega arith) logs,
   enclosure-high (entryOf logCoarse 256) (entryOf logFine 0) lnTwo width (numerator k) (omega arith) (omega arith) (omega arith) (omega arith) logs,

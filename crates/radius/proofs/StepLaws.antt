@@ -1,16 +1,14 @@
--- Laws of the steps: the ranges that document 01 states, over the numerator m and the width b, and the root's law.
-use mathlib.Core.Path.{_≡_, sym, subst}
+-- Laws of the steps: the ranges that document 01 states, over the numerator m and the width b.
+use mathlib.Core.Path.{_≡_, ap, sym, subst, _∙_}
 use Prim.Native.Nat.{ℕ, suc, _+_, _-_, _*_, _/_, _^_, _≤_, _<_}
-use native.Mathlib.Nat.{le-refl, sub-zero, le-antisymm, le-trans, lt-of-lt-of-le}
+use native.Mathlib.Nat.{sub-zero, le-trans, lt-of-lt-of-le}
 use native.Mathlib.Nat.{lt-of-not-le, not-le-of-lt, mul-le-mul-right, mul-lt-mul-of-pos-right, mod-lt, div-add-mod'}
 use native.Mathlib.Nat.{div-lt-iff-lt-mul, pow-suc, le-div-iff-mul-le, mod-eq-sub-div-mul}
 use native.Mathlib.Numerals.{add-one}
 use native.Mathlib.Omega.{arith}
 use lib.Count.{leadingZeros, leading-top, leading-length, leading-unique}
 use lib.Pow.{pow-pos, pow-mono, pow-add}
-use Rattle.exact.proofs.RootLaws.{root-digits-root, lt-of-square-lt}
-use Rattle.radius.specs.Steps.{numerator, topBit, mantissa, coarseIndex, rest, fineIndex, remainder, logarithm}
-use Rattle.radius.specs.Steps.{wholeRoot}
+use Rattle.radius.specs.Steps.{numerator, topBit, mantissa, coarseIndex, rest, fineIndex, remainder, correction, logarithm}
 
 -- no two first numbers have the same numerator: the cells are told apart
 pub numerators-apart : (k k' : ℕ) → numerator k ≡ numerator k' → k ≡ k'
@@ -48,6 +46,11 @@ module _ (b : ℕ) (wide : 25 ≤ b) where
   power j h =
       let e : b - j ≡ 25 - j + (b - 25) = omega arith in
       rw e (pow-add 2 (25 - j) (b - 25))
+
+  pub forty : b ≤ 65 → 2 ^ (b - 25) * 2 ^ (65 - b) ≡ 2 ^ 40
+  forty narrow =
+      let e : b - 25 + (65 - b) ≡ 40 = omega arith in
+      sym (pow-add 2 (b - 25) (65 - b)) ∙ ap (λ (x : ℕ). 2 ^ x) e
 
 module _ (b m : ℕ) (wide : 25 ≤ b) (narrow : b ≤ 64) (above : 0 < m) (below : m < 2 ^ b) where
   fits : m < 2 ^ 64
@@ -112,25 +115,18 @@ module _ (b m : ℕ) (wide : 25 ≤ b) (narrow : b ≤ 64) (above : 0 < m) (belo
         subst (λ (x : ℕ). x < n) e (mod-lt (rest b m) divisor-pos),
       )
 
+  -- S < 2^24
+  pub correction-range : correction b m < 2 ^ 24
+  unfolding correction
+  correction-range =
+      let n = coarseIndex b m * (65536 + fineIndex b m) in
+      let some : 0 < n = omega (arith, coarse-range .0) in
+      let below = mul-lt-mul-of-pos-right (rest-split .1) (pow-pos (65 - b)) in
+      let unit = ap (λ (x : ℕ). coarseIndex b m * x) (forty b wide (omega arith)) in
+      div-lt-iff-lt-mul {k = n} some .1 (omega (arith, below, unit))
+
 -- Q ≤ b × K
 pub logarithm-range : (A B : ℕ → ℕ) (K b m : ℕ) → logarithm A B K b m ≤ b * K
 unfolding logarithm
 logarithm-range A B K b m =
     let factor : b - topBit m ≤ b = omega arith in omega (arith, mul-le-mul-right K factor)
-
--- ---- the root
-
--- F² ≤ x < (F + 1)²
-pub whole-root : (x : ℕ) → (wholeRoot x * wholeRoot x ≤ x) × (x < (wholeRoot x + 1) * (wholeRoot x + 1))
-unfolding wholeRoot
-whole-root x =
-    let r = root-digits-root x x (le-refl x) in
-    (r .atMost, r .next)
-
--- and no other number has that law
-pub whole-root-unique : (x r : ℕ) → r * r ≤ x → x < (r + 1) * (r + 1) → r ≡ wholeRoot x
-whole-root-unique x r low high =
-    let w = whole-root x in le-antisymm (root-below r (wholeRoot x) low (w .1)) (root-below (wholeRoot x) r (w .0) high)
-  where
-    root-below : (p q : ℕ) → p * p ≤ x → x < (q + 1) * (q + 1) → p ≤ q
-    root-below p q lp hq = omega (arith, lt-of-square-lt p (q + 1) (omega (arith, lp, hq)))

@@ -4,7 +4,7 @@ use Prim.Native.Nat.{ℕ, _+_, _-_, _*_, _/_, _%_, _^_}
 use native.Mathlib.Omega.{arith}
 use lib.Count.{leadingZeros}
 use Rattle.exact.specs.Fraction.{Fraction}
-use Rattle.exact.specs.Rotation.{rootDigits}
+use Rattle.roots.specs.Root.{wholeRoot}
 use Rattle.tables.specs.Tables.{logCoarse, logFine, lnTwo, entryOf}
 
 -- "The 48-bit number k"
@@ -54,18 +54,14 @@ correction b m = remainder b m * 2 ^ (65 - b) / (coarseIndex b m * (65536 + fine
 unfoldable pub logarithm : (A B : ℕ → ℕ) (K b m : ℕ) → ℕ
 logarithm A B K b m = (b - topBit m) * K - A (coarseIndex b m) - B (fineIndex b m) - correction b m
 
--- The whole part of the square root of x. Its law is `whole-root`.
-unfoldable pub wholeRoot : ℕ → ℕ
-wholeRoot x = rootDigits x x
+-- 6. 2Q for k, at the tables
+unfoldable pub underRoot : ℕ → ℕ
+underRoot k = 2 * logarithm (entryOf logCoarse 256) (entryOf logFine 0) lnTwo width (numerator k)
 
 -- 6. F = the whole part of the square root of 2Q
-unfoldable pub radius : (A B : ℕ → ℕ) (K b m : ℕ) → ℕ
-radius A B K b m = wholeRoot (2 * logarithm A B K b m)
-
--- F for k, at the tables
 unfoldable pub radiusOf : ℕ → ℕ
-radiusOf k = radius (entryOf logCoarse 256) (entryOf logFine 0) lnTwo width (numerator k)
+radiusOf k = wholeRoot (underRoot k)
 
--- F is below this (the law `radius-range`), which is 16879.5 units of 2^-11.
+-- F is below this (the law `radius-of-range`), which is 16879.5 units of 2^-11.
 abbrev pub radiusLimit : ℕ
 radiusLimit = 8642304

@@ -1,9 +1,9 @@
-// F, the radius at 2^20 of a first number k (document 01, 'Radius'; the half step of document 02, Job 5).
+// 2Q, the number whose root is F, the radius at 2^20, of a first number k (document 01, 'Radius'; the half step of document 02, Job 5).
 ghost use mathlib.Core.Path.{_≡_};
 ghost use Prim.Native.Nat.{_+_, _-_, _*_, _%_, _^_, _≤_, _<_};
-ghost use Rattle.tables.specs.Tables.{entryOf, lnTwo};
+ghost use Rattle.tables.specs.Tables.{logCoarse, logFine, lnTwo, entryOf};
 ghost use Rattle.radius.specs.Steps.{numberBits, width, numerator, topBit, mantissa, coarseIndex, fineIndex, correction, logarithm};
-ghost use Rattle.radius.specs.Steps.{wholeRoot, radius};
+ghost use Rattle.radius.specs.Steps.{underRoot};
 
 // The bits of k and the first number beyond them; the width of the numerator 2k + 1, and the powers of 2 in steps 2, 3 and 4.
 const NUMBER_BITS: u32 = 48;
@@ -19,6 +19,9 @@ const COARSE: u64 = 1 << (WIDTH - 9);
 const FINE: u64 = 1 << (WIDTH - 25);
 
 const FRACTION: u64 = 1 << (65 - WIDTH);
+
+// The unit of a reciprocal: high / h is high times the reciprocal of h over it.
+const RECIPROCAL: u64 = 1 << 31;
 
 // The number under the logarithm.
 fn numerator(k: u64) -> u64
@@ -53,6 +56,8 @@ struct Cell {
     correction: u64,
 }
 
+// With d = high × 2^24 + low and high = i h + left, i is high / h, by the reciprocal of h; r is left × 2^24 + low, and the divisor of S
+// is 65536 h + high - left. One division is left.
 fn cell_of(k: u64) -> Cell
     requires { ⌜ k < 2 ^ numberBits ⌝ }
     ensures { λ r. ⌜ (r .coarse ≡ coarseIndex width (numerator k)) × (r .fine ≡ fineIndex width (numerator k)) × (r .correction ≡ correction width (numerator k)) ⌝ }
@@ -60,10 +65,11 @@ fn cell_of(k: u64) -> Cell
     let scaled = mantissa(k);
     let coarse = scaled / COARSE;
     let rest = scaled % COARSE;
-    let step = coarse * FINE;
-    let fine = rest / step;
-    let remainder = rest - fine * step;
-    let correction = remainder * FRACTION / (coarse * (65536 + fine));
+    let high = rest / FINE;
+    let low = rest % FINE;
+    let fine = high * log_coarse::reciprocal(coarse) / RECIPROCAL;
+    let left = high - fine * coarse;
+    let correction = (left * FINE + low) * FRACTION / (coarse * 65536 + (high - left));
     Cell {
         coarse,
         fine,
@@ -78,78 +84,23 @@ fn difference_or_zero(x: u64, y: u64) -> u64
     if x < y { 0 } else { x - y }
 }
 
-// Q, the logarithm of 2^49 / (2k + 1) at 2^40, from the tables A and B and ln 2.
-fn logarithm(coarse: &[u64], fine: &[u64], ln2: u64, k: u64) -> u64
-    requires { ⌜ (k < 2 ^ numberBits) × (ln2 < 2 ^ 40) ⌝ }
-    ensures { λ r. ⌜ (r ≡ logarithm (entryOf (now (coarse .entry)) 256) (entryOf (now (fine .entry)) 0) ln2 width (numerator k)) × (r < 2 ^ 46) ⌝ }
+// Q, the logarithm of 2^49 / (2k + 1) at 2^40.
+fn logarithm(k: u64) -> u64
+    requires { ⌜ k < 2 ^ numberBits ⌝ }
+    ensures { λ r. ⌜ (r ≡ logarithm (entryOf logCoarse 256) (entryOf logFine 0) lnTwo width (numerator k)) × (r < 2 ^ 46) ⌝ }
 {
     let doublings = (WIDTH - top_bit(k)) as u64;
+    let ln2 = tables::ln_two();
     let cell = cell_of(k);
-    let from_coarse = tables::entry(coarse, 256, cell.coarse as usize);
-    let from_fine = tables::entry(fine, 0, cell.fine as usize);
     difference_or_zero(
-        difference_or_zero(difference_or_zero(doublings * ln2, from_coarse), from_fine),
-        cell.correction,
+        doublings * ln2,
+        log_coarse::entry(cell.coarse) + log_fine::entry(cell.fine) + cell.correction,
     )
 }
 
-// Newton's step towards the root of x.
-fn newton(x: u64, guess: u64) -> u64
-    requires { ⌜ (2 ^ 28 ≤ guess) × (guess < 2 ^ 36) ⌝ }
-    ensures { λ r. ⌜ (guess ≤ 2 * r + 1) × (r < 2 ^ 36) ⌝ }
+// 2Q, the number under the root, of k mod 2^48.
+pub fn under_root(k: u64) -> u64
+    ensures { λ r. ⌜ r ≡ underRoot (k % 2 ^ numberBits) ⌝ }
 {
-    (guess + x / guess) / 2
-}
-
-// Near the root of x: a line that lies near the roots of the numbers of 63 and 64 bits, and two of Newton's steps, on x moved
-// up to that length. The contract is a bound alone, since `root` corrects whatever this returns.
-fn estimate(x: u64) -> u64
-    ensures { λ r. ⌜ r < 2 ^ 24 ⌝ }
-{
-    let shift = u64::leading_zeros(x) % 64 / 2;
-    let scaled = x << (2 * shift);
-    let line = (0x8000_0000 + scaled / 0x1_0000_0000) * 11 / 16;
-    let near = newton(scaled, newton(scaled, line));
-    (near >> shift) % 0x100_0000
-}
-
-// A number whose square is at most x: the guess or less.
-fn lowered(x: u64, guess: u64) -> u64
-    requires { ⌜ guess < 2 ^ 24 ⌝ }
-    ensures { λ r. ⌜ (r * r ≤ x) × (r < 2 ^ 24) ⌝ }
-{
-    let mut r = guess;
-    while x < r * r {
-        r -= 1;
-    }
-    r
-}
-
-// The whole part of the root, from a number that is not above it.
-fn raised(x: u64, low: u64) -> u64
-    requires { ⌜ (x < 2 ^ 48) × (low * low ≤ x) × (low < 2 ^ 24) ⌝ }
-    ensures { λ r. ⌜ r ≡ wholeRoot x ⌝ }
-{
-    let mut r = low;
-    while (r + 1) * (r + 1) <= x {
-        r += 1;
-    }
-    r
-}
-
-// The whole part of the square root of x.
-fn root(x: u64) -> u64
-    requires { ⌜ x < 2 ^ 48 ⌝ }
-    ensures { λ r. ⌜ r ≡ wholeRoot x ⌝ }
-{
-    raised(x, lowered(x, estimate(x)))
-}
-
-// F, the radius at 2^20 of k mod 2^48, from lent tables A and B: any two slices, since an entry that one lacks is 0 and every
-// difference below 0 is 0.
-pub fn radius(coarse: &[u64], fine: &[u64], k: u64) -> u64
-    ensures { λ r. ⌜ r ≡ radius (entryOf (now (coarse .entry)) 256) (entryOf (now (fine .entry)) 0) lnTwo width (numerator (k % 2 ^ numberBits)) ⌝ }
-{
-    let ln2 = tables::ln_two();
-    root(2 * logarithm(coarse, fine, ln2, k % LIMIT))
+    2 * logarithm(k % LIMIT)
 }

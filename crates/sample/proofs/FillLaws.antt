@@ -1,11 +1,13 @@
--- Laws of a filled slice: its length, the slice that has room for just the pairs, and one pair more.
+-- Laws of a filled slice: its length, the slice that has room for just the pairs, one pair more, and one part more.
 use mathlib.Core.Path.{_≡_, refl, ap}
-use mathlib.Core.List.{List, [], _∷_}
-use Prim.Native.Nat.{ℕ, zero, suc, _+_, _*_, _/_, _≤_, _<_, min}
+use mathlib.Core.List.{List, [], _∷_, _++_}
+use Prim.Native.Nat.{ℕ, zero, suc, _+_, _-_, _*_, _/_, _≤_, _<_, min}
+use native.Mathlib.Nat.{zero-add}
 use native.Mathlib.Numerals.{add-one}
 use native.Mathlib.Omega.{arith}
 use lib.IntN.{ℤ}
-use lib.ListN.{length, take, getD, set}
+use lib.ListN.{length, take, drop, getD, set}
+use borrow.Rule.Slice.PartMut.{putMid}
 use Rattle.sample.specs.Sample.{firstAt, secondAt, samplesAt, filled}
 
 pub length-filled : (zs : List ℕ) (out : List ℤ) → length (filled zs out) ≡ length out
@@ -56,3 +58,37 @@ pub filled-next : (i : ℕ) (zs : List ℕ) (out now : List ℤ) (a b : ℤ) →
     a ≡ firstAt (getD zs i 0) → b ≡ secondAt (getD zs i 0) → i < length zs → 2 * i + 1 < length out →
     set (set now (2 * i) a) (2 * i + 1) b ≡ filled (take (i + 1) zs) out
 filled-next i zs out now a b e first second h g = rw (e, first, second, add-one i) (filled-step i zs out h g)
+
+-- the first m pairs: their samples, and what lies after them
+filled-first : (m : ℕ) (zs : List ℕ) (out : List ℤ) → m ≤ length zs → 2 * m ≤ length out →
+    samplesAt (take m zs) ++ drop (2 * m) out ≡ filled (take m zs) out
+unfolding filled samplesAt
+filled-first zero zs out h g = refl
+filled-first (suc m) [] out h g = absurd (omega arith)
+filled-first (suc m) (z ∷ zs) [] h g = absurd (omega arith)
+filled-first (suc m) (z ∷ zs) (x ∷ []) h g = absurd (omega arith)
+filled-first (suc m) (z ∷ zs) (x ∷ y ∷ out) h g =
+    let e : 2 * suc m ≡ suc (suc (2 * m)) = omega arith in
+    rw e (ap (λ (l : List ℤ). firstAt z ∷ secondAt z ∷ l) (filled-first m zs out (omega arith) (omega arith)))
+
+-- the samples of m pairs more, put in their place
+filled-more : (a m : ℕ) (zs : List ℕ) (out : List ℤ) → a + m ≤ length zs → 2 * (a + m) ≤ length out →
+    putMid (2 * a) (2 * m) (filled (take a zs) out) (samplesAt (take m (drop a zs))) ≡ filled (take (a + m) zs) out
+unfolding filled
+filled-more zero m zs out h g = rw (zero-add m) (filled-first m zs out (omega arith) (omega arith))
+filled-more (suc a) m [] out h g = absurd (omega arith)
+filled-more (suc a) m (z ∷ zs) [] h g = absurd (omega arith)
+filled-more (suc a) m (z ∷ zs) (x ∷ []) h g = absurd (omega arith)
+filled-more (suc a) m (z ∷ zs) (x ∷ y ∷ out) h g =
+    let e : 2 * suc a ≡ suc (suc (2 * a)) = omega arith in
+    let f : suc a + m ≡ suc (a + m) = omega arith in
+    rw (e, f) (ap (λ (l : List ℤ). firstAt z ∷ secondAt z ∷ l) (filled-more a m zs out (omega arith) (omega arith)))
+
+-- the same of a slice that is filled as far as a, and of the samples from a to b
+pub filled-part : (a b : ℕ) (zs : List ℕ) (out now new : List ℤ) → now ≡ filled (take a zs) out →
+    new ≡ samplesAt (take (b - a) (drop a zs)) → a ≤ b → b ≤ length zs → 2 * b ≤ length out →
+    putMid (2 * a) (2 * b - 2 * a) now new ≡ filled (take b zs) out
+filled-part a b zs out now new e part order h g =
+    let size : 2 * b - 2 * a ≡ 2 * (b - a) = omega arith in
+    let whole : a + (b - a) ≡ b = omega arith in
+    rw (e, part, size) (rw whole at (filled-more a (b - a) zs out (omega arith) (omega arith)))

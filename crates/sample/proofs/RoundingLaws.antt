@@ -1,5 +1,5 @@
 -- Laws of the rounding: the sign apart from the size, and the largest size.
-use mathlib.Core.Path.{_≡_, refl, sym}
+use mathlib.Core.Path.{_≡_, refl, sym, ap, _∙_}
 use mathlib.Core.Bool.{Bool, true, false}
 use Prim.Native.Nat.{ℕ, zero, suc, _+_, _-_, _*_, _^_, _≤_, _<_}
 use native.Mathlib.Nat.{mul-zero, zero-add, div-eq-of-lt, mul-le-mul, pow-suc}
@@ -7,7 +7,8 @@ use native.Mathlib.Numerals.{add-one}
 use native.Mathlib.Omega.{arith}
 use lib.IntN.{ℤ, pos, negsuc, negℤ, natAbs, negℤ-negℤ}
 use lib.Pow.{pow-pos}
-use Rattle.exact.specs.Pair.{along}
+use Rattle.exact.specs.Pair.{turn, along}
+use Rattle.exact.proofs.MemberLaws.{turn-keeps}
 use Rattle.radius.specs.Steps.{radiusOf, radiusLimit}
 use Rattle.radius.proofs.Ranges.{radius-of-range}
 use Rattle.angle.specs.Steps.{signedOf}
@@ -32,6 +33,14 @@ rounded-neg f F h (negsuc n) = sym (negℤ-negℤ (pos (size f F (suc n))))
 pub rounded-along : (f F : ℕ) → f ≤ 49 → (b : Bool) (G : ℤ) → along b (rounded f F G) ≡ rounded f F (along b G)
 rounded-along f F h true G = sym (rounded-neg f F h G)
 rounded-along f F h false G = refl
+
+-- sizes that are rounded and then turned are the sine and the cosine turned and then rounded
+pub turned-rounded : (f F q s c : ℕ) → f ≤ 49
+    → (turn negℤ q (pos (size f F s), pos (size f F c)) .0 ≡ rounded f F (turn negℤ q (pos s, pos c) .0))
+    × (turn negℤ q (pos (size f F s), pos (size f F c)) .1 ≡ rounded f F (turn negℤ q (pos s, pos c) .1))
+turned-rounded f F q s c h =
+    turn-keeps negℤ negℤ (λ x y. x ≡ rounded f F y) (λ x y e. ap negℤ e ∙ sym (rounded-neg f F h y)) q
+    (pos (size f F s), pos (size f F c)) (pos s, pos c) refl refl
 
 pub size-of : (f F : ℕ) (G : ℤ) → natAbs (rounded f F G) ≡ size f F (natAbs G)
 size-of f F (pos g) = refl

@@ -7,12 +7,13 @@ use lib.IntN.{ℤ, pos, negℤ}
 use lib.Count.{leadingZeros}
 use Rattle.exact.specs.Rotation.{rootDigits}
 use Rattle.radius.specs.Steps.{topBit, mantissa, coarseIndex, rest, fineIndex, remainder, correction, logarithm}
-use Rattle.radius.specs.Steps.{wholeRoot, radius, radiusOf}
+use Rattle.radius.specs.Steps.{underRoot, radiusOf}
+use Rattle.roots.specs.Root.{wholeRoot}
 use Rattle.angle.specs.Steps.{cosine, sine, cosineAt, sineAt, signedOf}
 use Rattle.sample.specs.Steps.{size}
 use Rattle.sample.specs.Sample.{firstOf, secondOf, samplesOf}
 use Rattle.tables.specs.Tables.{entryOf, logCoarse-is, logFine-is, cosCoarse-is, sinCoarse-is, cosFine-is, sinFine-is, lnTwo-is}
-use Rattle.tables.specs.Values.{logCoarseList, logFineList, cosCoarseList, sinCoarseList, cosFineList, sinFineList, lnTwoValue}
+use Rattle.tables.specs.Values.{lnTwoValue}
 
 pub record Reading : Type 0 where
   pub k : ℕ
@@ -40,7 +41,6 @@ readings =
 -- each is accepted and gives its two samples
 pub readings-hold : map (λ (r : Reading). samplesOf (r .k) (r .v)) readings
     ≡ map (λ (r : Reading). record { number = 0; first = r .first; second = r .second }) readings
-unfolding topBit mantissa coarseIndex rest fineIndex remainder correction logarithm wholeRoot radius cosine sine cosineAt sineAt size
-    radiusOf signedOf firstOf secondOf samplesOf entryOf leadingZeros rootDigits
-    logCoarseList logFineList cosCoarseList sinCoarseList cosFineList sinFineList lnTwoValue
+unfolding topBit mantissa coarseIndex rest fineIndex remainder correction logarithm wholeRoot underRoot cosine sine cosineAt sineAt size
+    radiusOf signedOf firstOf secondOf samplesOf entryOf leadingZeros rootDigits lnTwoValue
 readings-hold = rw (logCoarse-is, logFine-is, cosCoarse-is, sinCoarse-is, cosFine-is, sinFine-is, lnTwo-is) refl

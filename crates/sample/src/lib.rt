@@ -1,12 +1,15 @@
 // Two samples from k and v (document 01, 'Angle and sample').
 ghost use mathlib.Core.Path.{_≡_};
-ghost use Prim.Native.Nat.{_/_, _^_, _≤_, _<_, min};
-ghost use lib.IntN.{pos, natAbs};
-ghost use Rattle.exact.specs.Pair.{along, Close};
-ghost use Rattle.radius.specs.Steps.{numberBits, inverse, radiusOf, radiusLimit};
-ghost use Rattle.sample.specs.Steps.{fractionBits, rounded};
-ghost use Rattle.sample.specs.Private.{Logarithms, Rotations};
-ghost use Rattle.sample.specs.Sample.{firstAt, secondAt, samplesOf, nineSixteenths, filled};
+ghost use mathlib.Core.List.{map};
+ghost use Prim.Native.Nat.{_+_, _*_, _/_, _^_, _≤_, _<_, min};
+ghost use lib.IntN.{natAbs};
+ghost use lib.ListN.{length};
+ghost use Rattle.exact.specs.Pair.{Close};
+ghost use Rattle.radius.specs.Steps.{numberBits, inverse, radiusLimit};
+ghost use Rattle.angle.specs.Steps.{signedOf};
+ghost use Rattle.sample.specs.Steps.{fractionBits, size, rounded};
+ghost use Rattle.sample.specs.Private.{underRootAt, partLength};
+ghost use Rattle.sample.specs.Sample.{samplesOf, samplesAt, nineSixteenths, filled};
 
 // The fraction bits of a sample, its unit in the product of F and a sine or cosine, and half of it.
 const FRACTION_BITS: u32 = 11;
@@ -21,14 +24,12 @@ pub struct Samples {
     pub second: i16,
 }
 
-// A sample: the nearest whole number of units, halves away from zero, of the radius times a number with its sign apart.
-fn rounded(radius: u64, size: u64, negative: bool) -> i16
-    requires { ⌜ (radius < radiusLimit) × (size ≤ 2 ^ 30) ⌝ }
-    ensures { λ r. ⌜ r ≡ rounded fractionBits radius (along negative (pos size)) ⌝ }
+// A sample's size: the nearest whole number of units, halves up, of the radius F times the size of a sine or cosine.
+fn units(f: u64, g: u64) -> u32
+    requires { ⌜ (f < radiusLimit) × (g ≤ 2 ^ 30) ⌝ }
+    ensures { λ r. ⌜ (r ≡ size fractionBits f g) × (r ≤ 16879) ⌝ }
 {
-    let units = (radius * size + HALF) / UNIT;
-    let x = units as i16;
-    if negative { -x } else { x }
+    ((f * g + HALF) / UNIT) as u32
 }
 
 struct Pair {
@@ -36,29 +37,79 @@ struct Pair {
     second: i16,
 }
 
-// F of z = 65536 k + v, from the lent tables A and B.
-fn radius_at(lc: &[u64], lf: &[u64], z: u64) -> u64
-    requires { ⌜ Logarithms (now lc) (now lf) ⌝ }
-    ensures { λ r. ⌜ r ≡ radiusOf (z / 65536) ⌝ }
+// The two samples of a radius F and v: sizes are rounded first, since rounding keeps the sign.
+fn pair_of(f: u64, v: u64) -> Pair
+    requires { ⌜ f < radiusLimit ⌝ }
+    ensures { λ r. ⌜ (r .first ≡ rounded fractionBits f (signedOf v .0)) × (r .second ≡ rounded fractionBits f (signedOf v .1)) ⌝ }
 {
-    radius::radius(lc, lf, z / 65536)
+    let angle = angle::angle_of(v % 16384);
+    let turned = angle::turn(v / 16384, units(f, angle.sine), units(f, angle.cosine));
+    Pair {
+        first: turned.first as i16,
+        second: turned.second as i16,
+    }
 }
 
-// The two samples of z = 65536 k + v, from its F and the lent tables C, D, c and s. (Apart from `radius_at`: each of the two is then
-// short enough for the compiler to put it into the loop below.)
-fn pair_of(cc: &[u64], sc: &[u64], cf: &[u64], sf: &[u64], f: u64, z: u64) -> Pair
-    requires { ⌜ (Rotations (now cc) (now sc) (now cf) (now sf)) × (f ≡ radiusOf (z / 65536)) ⌝ }
-    ensures { λ r. ⌜ (r .first ≡ firstAt z) × (r .second ≡ secondAt z) ⌝ }
+// 2Q of z = 65536 k + v.
+fn under_root_at(z: u64) -> u64
+    ensures { λ r. ⌜ r ≡ underRootAt z ⌝ }
 {
-    let v = z % 65536;
-    let angle = angle::angle_of(cc, sc, cf, sf, v % 16384);
-    let t = angle::turn(v / 16384, angle.sine, angle.cosine);
-    let sine = t.first;
-    let cosine = t.second;
-    Pair {
-        first: rounded(f, sine.size, sine.negative),
-        second: rounded(f, cosine.size, cosine.negative),
+    radius::under_root(z / 65536)
+}
+
+// 2Q of each z.
+fn under_roots(z: &[u64], x: &mut [u64])
+    requires { ⌜ length (now x) ≡ length (now z) ⌝ }
+    ensures { λ r. ⌜ now (x .exit) ≡ map underRootAt (now (z .entry)) ⌝ }
+{
+    let mut i = 0;
+    while i < z.len() {
+        x[i] = under_root_at(z[i]);
+        i += 1;
     }
+}
+
+// The samples of each z, from its 2Q and any guess at the root of that.
+fn sample_each(z: &[u64], x: &[u64], g: &[u64], out: &mut [i16])
+    requires { ⌜ (now x ≡ map underRootAt (now z)) × (length (now g) ≡ length (now z)) × (length (now out) ≡ 2 * length (now z)) ⌝ }
+    ensures { λ r. ⌜ now (out .exit) ≡ samplesAt (now (z .entry)) ⌝ }
+{
+    let mut i = 0;
+    while 2 * i + 1 < out.len() {
+        let f = roots::root(x[i], g[i]);
+        let pair = pair_of(f, z[i] % 65536);
+        let first = pair.first;
+        let second = pair.second;
+        out[2 * i] = first;
+        out[2 * i + 1] = second;
+        i += 1;
+    }
+}
+
+// The samples of each z, by passes over them all: 2Q of each, a guess at the root of each, and the samples. What x and g hold does not
+// matter.
+fn by_passes(z: &[u64], x: &mut [u64], g: &mut [u64], out: &mut [i16])
+    requires { ⌜ (length (now x) ≡ length (now z)) × (length (now g) ≡ length (now z)) × (length (now out) ≡ 2 * length (now z)) ⌝ }
+    ensures { λ r. ⌜ now (out .exit) ≡ samplesAt (now (z .entry)) ⌝ }
+{
+    under_roots(z, x);
+    roots::guesses(x, g);
+    sample_each(z, x, g, out)
+}
+
+// The most pairs in a part.
+const PART: usize = 32;
+
+// The samples of a part. (A single sample goes this way too: the compiler puts the passes into one function where nothing else calls
+// them, and a block is faster by it.)
+fn part(z: &[u64], out: &mut [i16])
+    requires { ⌜ (length (now z) ≤ partLength) × (length (now out) ≡ 2 * length (now z)) ⌝ }
+    ensures { λ r. ⌜ now (out .exit) ≡ samplesAt (now (z .entry)) ⌝ }
+{
+    let mut x = [0u64; PART];
+    let mut g = [0u64; PART];
+    let n = z.len();
+    by_passes(z, &mut x[0..n], &mut g[0..n], out)
 }
 
 // The two samples of k and v: document 01's steps with the half step (demand 2), and so each less than nine sixteenths of a unit of
@@ -81,19 +132,13 @@ pub fn sample(k: u64, v: u32) -> Samples
             second: 0,
         };
     }
-    let lc = tables::log_coarse();
-    let lf = tables::log_fine();
-    let cc = tables::cos_coarse();
-    let sc = tables::sin_coarse();
-    let cf = tables::cos_fine();
-    let sf = tables::sin_fine();
-    let z = k * 65536 + v as u64;
-    let f = radius_at(&lc, &lf, z);
-    let pair = pair_of(&cc, &sc, &cf, &sf, f, z);
+    let z = [k * 65536 + v as u64];
+    let mut pair = [0i16; 2];
+    part(&z, &mut pair);
     Samples {
         number: 0,
-        first: pair.first,
-        second: pair.second,
+        first: pair[0],
+        second: pair[1],
     }
 }
 
@@ -104,31 +149,12 @@ fn pairs(count: usize, room: usize) -> usize
     if count < room / 2 { count } else { room / 2 }
 }
 
-// `fill` with the lent tables A, B, C, D, c and s.
-fn fill_with(
-    lc: &[u64],
-    lf: &[u64],
-    cc: &[u64],
-    sc: &[u64],
-    cf: &[u64],
-    sf: &[u64],
-    z: &[u64],
-    out: &mut [i16],
-)
-    requires { ⌜ (Logarithms (now lc) (now lf)) × (Rotations (now cc) (now sc) (now cf) (now sf)) ⌝ }
-    ensures { λ r. ⌜ now (out .exit) ≡ filled (now (z .entry)) (now (out .entry)) ⌝ }
+// Where the part that begins at a place of n ends.
+fn part_end(at: usize, n: usize) -> usize
+    requires { ⌜ at ≤ n ⌝ }
+    ensures { λ r. ⌜ r ≡ min n (at + partLength) ⌝ }
 {
-    let n = pairs(z.len(), out.len());
-    let mut i = 0;
-    while i < n {
-        let f = radius_at(lc, lf, z[i]);
-        let pair = pair_of(cc, sc, cf, sf, f, z[i]);
-        let first = pair.first;
-        let second = pair.second;
-        out[2 * i] = first;
-        out[2 * i + 1] = second;
-        i += 1;
-    }
+    if n - at < PART { n } else { at + PART }
 }
 
 // The two samples of each z = 65536 k + v, first and second alternating, as far as there is room for both; every other element
@@ -136,13 +162,13 @@ fn fill_with(
 pub fn fill(z: &[u64], out: &mut [i16])
     ensures { λ r. ⌜ now (out .exit) ≡ filled (now (z .entry)) (now (out .entry)) ⌝ }
 {
-    let lc = tables::log_coarse();
-    let lf = tables::log_fine();
-    let cc = tables::cos_coarse();
-    let sc = tables::sin_coarse();
-    let cf = tables::cos_fine();
-    let sf = tables::sin_fine();
-    fill_with(&lc, &lf, &cc, &sc, &cf, &sf, z, out)
+    let n = pairs(z.len(), out.len());
+    let mut at = 0;
+    while at < n {
+        let end = part_end(at, n);
+        part(&z[at..end], &mut out[2 * at..2 * end]);
+        at = end;
+    }
 }
 
 // The size of a sample.

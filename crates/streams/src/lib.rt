@@ -1,7 +1,6 @@
 // The two Tausworthe streams of L'Ecuyer (1996): seeding, the two numbers of a pair, and a skip of many pairs.
 // A generator record goes in by value and comes back as it then is, beside the call's number, 0 where it is accepted.
 ghost use mathlib.Core.Path.{_≡_};
-ghost use Prim.Native.Nat.{_+_, _≤_};
 ghost use Rattle.squares.specs.Squares.{squareOf};
 ghost use Rattle.streams.specs.Streams.{
   step,
@@ -11,9 +10,9 @@ ghost use Rattle.streams.specs.Streams.{
   fresh,
   onward,
   recordNumber,
-  mostCount,
   countNumber,
   firstCause,
+  ifAccepted,
   pairsNumber,
   seedOf,
   uniformsOf,
@@ -141,11 +140,14 @@ impl Generator {
         Generator { a, b, count: 0 }
     }
 
-    // The same record n pairs on, its streams as they then are.
-    fn onward(self, a: Stream, b: Stream, n: u64) -> Generator
-        requires { ⌜ self .count + n ≤ mostCount ⌝ }
-        ensures { λ r. ⌜ r ≡ onward self a b n ⌝ }
+    // The same record n pairs on, its streams as they then are; the record itself where the count has no room for n.
+    pub fn onward(self, a: Stream, b: Stream, n: u64) -> Generator
+        ensures { λ r. ⌜ r ≡ ifAccepted (countNumber self n) (onward self a b n) self ⌝ }
     {
+        let full = self.count_number(n);
+        if full != 0 {
+            return self;
+        }
         let mut next = self;
         next.a = a;
         next.b = b;
@@ -248,8 +250,7 @@ impl Generator {
 
     // Both streams n draws on: each square serves its register of a and of b.
     fn ahead(self, n: u64) -> Generator
-        requires { ⌜ self .count + n ≤ mostCount ⌝ }
-        ensures { λ r. ⌜ r ≡ moved n self ⌝ }
+        ensures { λ r. ⌜ r ≡ ifAccepted (countNumber self n) (moved n self) self ⌝ }
     {
         let square = step_squares();
         let a = self.a;

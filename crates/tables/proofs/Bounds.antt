@@ -9,7 +9,7 @@ use native.Mathlib.Omega.{arith}
 use lib.Dec.{T, leb, leb→le, lit≤}
 use lib.ListN.{length, getD}
 use store.Enc.{and-l, and-r}
-use Rattle.tables.specs.Values.{logCoarseList, logFineList, cosCoarseList, sinCoarseList, cosFineList, sinFineList, lnTwoValue}
+use Rattle.tables.specs.Values.{lnTwoValue}
 use Rattle.tables.specs.Tables.{
   entryOf,
   logCoarse,
@@ -34,7 +34,7 @@ abbrev small : ℕ → ℕ → ℕ → Bool
 small bound i x = leb x bound
 
 logs : (lnTwo ≤ 0xB17217F7D2) × T (every (small lnTwo) 256 logCoarse) × T (every (small lnTwo) 0 logFine)
-unfolding lnTwoValue logCoarseList logFineList
+unfolding lnTwoValue
 logs = rw (lnTwo-is, logCoarse-is, logFine-is) (lit≤ tt, tt, tt)
 
 small-entries :
@@ -42,7 +42,6 @@ small-entries :
     T (every (small (2 ^ 30)) 0 sinCoarse) ×
     T (every (small (2 ^ 30)) 0 cosFine) ×
     T (every (small (2 ^ 30)) 0 sinFine)
-unfolding cosCoarseList sinCoarseList cosFineList sinFineList
 small-entries = rw (cosCoarse-is, sinCoarse-is, cosFine-is, sinFine-is) (tt, tt, tt, tt)
 
 -- A test of two tables of one length, at each index.
@@ -66,7 +65,7 @@ composed : ℕ → ℕ → ℕ → ℕ → Bool
 composed C D c s = leb (D * s) (C * c) && leb (D * c + C * s) (2 ^ 60)
 
 composed-tested : T (along (λ C D. along (composed C D) cosFine sinFine) cosCoarse sinCoarse)
-unfolding along composed cosCoarseList sinCoarseList cosFineList sinFineList
+unfolding along composed
 composed-tested = rw (cosCoarse-is, sinCoarse-is, cosFine-is, sinFine-is) tt
 
 abbrev Composed : ℕ → ℕ → ℕ → ℕ → Type 0
@@ -116,7 +115,7 @@ bounds = record {
 }
 
 pub exact-entries : ExactEntries
-unfolding logCoarseList logFineList cosCoarseList sinCoarseList cosFineList sinFineList entryOf
+unfolding entryOf
 exact-entries = record {
   log-coarse = rw logCoarse-is refl;
   log-fine = rw logFine-is refl;

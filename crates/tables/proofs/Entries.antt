@@ -5,14 +5,13 @@ use mathlib.Core.Bool.{Bool, true, _&&_}
 use mathlib.Core.Logic.{_⊎_, inl, inr}
 use mathlib.Core.List.{List, [], _∷_}
 use Prim.Native.Nat.{ℕ, zero, suc, _+_, _-_, _<_, _≤_}
-use native.Mathlib.Nat.{add-zero, add-suc, suc-add, add-sub-of-le, le-of-suc-le-suc, not-suc-le-zero}
+use native.Mathlib.Nat.{add-zero, add-suc, suc-add, add-sub-of-le, sub-zero, le-of-suc-le-suc, not-suc-le-zero}
 use native.Mathlib.Decide.{decLe, decLt}
 use native.Mathlib.Omega.{arith}
 use lib.Dec.{T, leb, leb→le}
 use lib.ListN.{length, getD, List·getD-eq-default}
 use store.Enc.{and-l, and-r}
 use borrow.Author.Tests.{le-leb, lt-leb}
-use Rattle.tables.specs.Values.{logCoarseList, logFineList, cosCoarseList, sinCoarseList, cosFineList, sinFineList}
 use Rattle.tables.specs.Tables.{entryOf, logCoarse, logFine, cosCoarse, sinCoarse, cosFine, sinFine}
 use Rattle.tables.specs.Tables.{logCoarse-is, logFine-is, cosCoarse-is, sinCoarse-is, cosFine-is, sinFine-is}
 
@@ -28,11 +27,15 @@ pub entry-past : (table : List ℕ) (first index : ℕ) → first + length table
 entry-past table first index h =
     entry-at table first index (omega arith) ∙ List·getD-eq-default table 0 (omega arith)
 
+-- the entry of a table that is opened: from 0 on
+pub entry-from-zero : (table list : List ℕ) → table ≡ list → (index : ℕ) → getD list index 0 ≡ entryOf table 0 index
+entry-from-zero table list e index =
+    rw (← e, entry-at table 0 index (omega arith), sub-zero index)
+
 -- How many entries each table has.
 pub lengths :
     (length logCoarse ≡ 256) × (length logFine ≡ 256) ×
     (length cosCoarse ≡ 128) × (length sinCoarse ≡ 128) × (length cosFine ≡ 128) × (length sinFine ≡ 128)
-unfolding logCoarseList logFineList cosCoarseList sinCoarseList cosFineList sinFineList
 lengths =
     rw (logCoarse-is, logFine-is, cosCoarse-is, sinCoarse-is, cosFine-is, sinFine-is) (refl, refl, refl, refl, refl, refl)
 

@@ -1,4 +1,5 @@
 pub mod Entries
+pub mod Arms
 pub mod Bounds
 pub mod NearestLogarithms
 pub mod NearestRotations

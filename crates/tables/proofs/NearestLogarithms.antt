@@ -15,7 +15,7 @@ use Rattle.exact.proofs.FractionLaws.{≤ᶠ-refl, <ᶠ-≤ᶠ-trans, ≤ᶠ-<�
 use Rattle.exact.specs.Series.{AtMostLn, AtLeastLn, partialSum, term}
 use Rattle.exact.proofs.SeriesLaws.{scaledTop, scaledBottom}
 use Rattle.exact.proofs.LogarithmLaws.{ln-at-least-mono, ln-at-least-scaled, tail}
-use Rattle.tables.specs.Values.{logCoarseList, logFineList, lnTwoValue}
+use Rattle.tables.specs.Values.{lnTwoValue}
 use Rattle.tables.specs.Tables.{entryOf, logCoarse, logFine, lnTwo, logCoarse-is, logFine-is, lnTwo-is}
 use Rattle.tables.specs.Promise.{NearestLn, lower, upper}
 use Rattle.tables.proofs.Entries.{lengths, every, at}
@@ -65,7 +65,7 @@ tested :
     T (test 20 40 (λ h. dyadic 8 h) 256 logCoarse) ×
     T (test 20 40 (λ i. dyadic 16 (65536 + i)) 0 logFine) ×
     T (isNearestLn 20 40 (whole 2) lnTwo)
-unfolding logCoarseList logFineList lnTwoValue test isNearestLn most least scaledTop scaledBottom
+unfolding lnTwoValue test isNearestLn most least scaledTop scaledBottom
 tested = rw (logCoarse-is, logFine-is, lnTwo-is) (tt, tt, tt)
 
 pub log-coarse : (h : ℕ) → 256 ≤ h → h < 512 → NearestLn 40 (dyadic 8 h) (entryOf logCoarse 256 h)

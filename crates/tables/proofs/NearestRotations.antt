@@ -22,7 +22,6 @@ use Rattle.exact.specs.Rotation.{
   coarse,
   fine,
 }
-use Rattle.tables.specs.Values.{cosCoarseList, sinCoarseList, cosFineList, sinFineList}
 use Rattle.tables.specs.Tables.{
   entryOf,
   cosCoarse,
@@ -93,11 +92,11 @@ tested j cosines sines =
     T (test 30 96 (λ r. r .sinLow) (λ r. r .sinHigh) (halvings 96 j 7) sines)
 
 coarse-tested : tested 0 cosCoarse sinCoarse
-unfolding cosCoarseList sinCoarseList test isNearestOf isNearestIn rotationBy bitBy halvings halving half compose rootDown rootUp rootDigits
+unfolding test isNearestOf isNearestIn rotationBy bitBy halvings halving half compose rootDown rootUp rootDigits
 coarse-tested = rw (cosCoarse-is, sinCoarse-is) (tt, tt)
 
 fine-tested : tested 7 cosFine sinFine
-unfolding cosFineList sinFineList test isNearestOf isNearestIn rotationBy bitBy halvings halving half compose rootDown rootUp rootDigits
+unfolding test isNearestOf isNearestIn rotationBy bitBy halvings halving half compose rootDown rootUp rootDigits
 fine-tested = rw (cosFine-is, sinFine-is) (tt, tt)
 
 pub cos-coarse : (a : ℕ) → a < 128 → NearestCos 30 96 (coarse 96 a) (entryOf cosCoarse 0 a)

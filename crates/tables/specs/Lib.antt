@@ -1,3 +1,4 @@
 pub mod Values
 pub mod Tables
 pub mod Promise
+pub mod Arms

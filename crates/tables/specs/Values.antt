@@ -1,9 +1,10 @@
 -- The entries of the tables, each the nearest whole number to its exact value (document 01, 'Radius' and 'Angle and sample').
+-- Assumes nothing.
 use Prim.Native.Nat.{ℕ}
 use mathlib.Core.List.{List, [], _∷_}
 
 -- A: ln(h/256) for h from 256 to 511, at 2^40.
-unfoldable pub logCoarseList : List ℕ
+abbrev pub logCoarseList : List ℕ
 logCoarseList =
     0 ∷ 4286600470 ∷ 8556553905 ∷ 12809989104 ∷ 17047033376 ∷ 21267812562 ∷ 25472451061 ∷ 29661071852 ∷ 33833796510 ∷
     37990745234 ∷ 42132036863 ∷ 46257788900 ∷ 50368117529 ∷ 54463137636 ∷ 58542962829 ∷ 62607705454 ∷ 66657476617 ∷
@@ -39,7 +40,7 @@ logCoarseList =
     746987292473 ∷ 749162390369 ∷ 751333193893 ∷ 753499719969 ∷ 755661985420 ∷ 757820006972 ∷ 759973801251 ∷ []
 
 -- B: ln(1 + i/65536) for i from 0 to 255, at 2^40.
-unfoldable pub logFineList : List ℕ
+abbrev pub logFineList : List ℕ
 logFineList =
     0 ∷ 16777088 ∷ 33553920 ∷ 50330496 ∷ 67106816 ∷ 83882880 ∷ 100658688 ∷ 117434240 ∷ 134209537 ∷ 150984577 ∷ 167759361 ∷
     184533890 ∷ 201308162 ∷ 218082179 ∷ 234855940 ∷ 251629444 ∷ 268402693 ∷ 285175686 ∷ 301948424 ∷ 318720905 ∷ 335493130 ∷
@@ -71,7 +72,7 @@ logFineList =
     4169610701 ∷ 4186324287 ∷ 4203037619 ∷ 4219750697 ∷ 4236463521 ∷ 4253176091 ∷ 4269888408 ∷ []
 
 -- C: the cosine of a/512 of a turn for a from 0 to 127, at 2^30.
-unfoldable pub cosCoarseList : List ℕ
+abbrev pub cosCoarseList : List ℕ
 cosCoarseList =
     1073741824 ∷ 1073660973 ∷ 1073418433 ∷ 1073014240 ∷ 1072448455 ∷ 1071721163 ∷ 1070832474 ∷ 1069782521 ∷ 1068571464 ∷
     1067199483 ∷ 1065666786 ∷ 1063973603 ∷ 1062120190 ∷ 1060106826 ∷ 1057933813 ∷ 1055601479 ∷ 1053110176 ∷ 1050460278 ∷
@@ -89,7 +90,7 @@ cosCoarseList =
     26350943 ∷ 13176464 ∷ []
 
 -- D: the sine of a/512 of a turn for a from 0 to 127, at 2^30.
-unfoldable pub sinCoarseList : List ℕ
+abbrev pub sinCoarseList : List ℕ
 sinCoarseList =
     0 ∷ 13176464 ∷ 26350943 ∷ 39521455 ∷ 52686014 ∷ 65842639 ∷ 78989349 ∷ 92124163 ∷ 105245103 ∷ 118350194 ∷ 131437462 ∷
     144504935 ∷ 157550647 ∷ 170572633 ∷ 183568930 ∷ 196537583 ∷ 209476638 ∷ 222384147 ∷ 235258165 ∷ 248096755 ∷ 260897982 ∷
@@ -107,7 +108,7 @@ sinCoarseList =
     1073660973 ∷ []
 
 -- c: the cosine of b/65536 of a turn for b from 0 to 127, at 2^30.
-unfoldable pub cosFineList : List ℕ
+abbrev pub cosFineList : List ℕ
 cosFineList =
     1073741824 ∷ 1073741819 ∷ 1073741804 ∷ 1073741780 ∷ 1073741745 ∷ 1073741701 ∷ 1073741646 ∷ 1073741582 ∷ 1073741508 ∷
     1073741424 ∷ 1073741331 ∷ 1073741227 ∷ 1073741113 ∷ 1073740990 ∷ 1073740857 ∷ 1073740714 ∷ 1073740561 ∷ 1073740398 ∷
@@ -126,7 +127,7 @@ cosFineList =
     1073663480 ∷ 1073662232 ∷ []
 
 -- s: the sine of b/65536 of a turn for b from 0 to 127, at 2^30.
-unfoldable pub sinFineList : List ℕ
+abbrev pub sinFineList : List ℕ
 sinFineList =
     0 ∷ 102944 ∷ 205887 ∷ 308831 ∷ 411775 ∷ 514719 ∷ 617662 ∷ 720606 ∷ 823550 ∷ 926493 ∷ 1029437 ∷ 1132381 ∷ 1235324 ∷
     1338268 ∷ 1441211 ∷ 1544155 ∷ 1647099 ∷ 1750042 ∷ 1852986 ∷ 1955929 ∷ 2058873 ∷ 2161816 ∷ 2264760 ∷ 2367703 ∷ 2470647 ∷

@@ -28,7 +28,7 @@ whole old n g h room e l f =
     f ∙ rw e (filled-whole (numbers n g) old (rw (length-numbers n g) l)) ∙ sym (samples-numbers n g h room)
 
 draw-numbers-requires : tie.Need-draw-numbers-requires
-draw-numbers-requires c κs = pairs-accepted _ _ .0 (c .before .before .pre .0) .0
+draw-numbers-requires c κs = search needs
 
 fill-requires : tie.Need-fill-requires
 fill-requires c κs = search needs

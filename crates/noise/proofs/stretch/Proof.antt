@@ -13,10 +13,10 @@ use Rattle.noise.proofs.stretch.Statement.{statement}
 use Rattle.noise.proofs.stretch.Tie as tie
 
 -- as many numbers are lent as there are pairs
-size : (n : ℕ) (z : List ℕ) → length z ≡ 512 → n ≤ 512 → length (take (n - 0) z) ≡ n
+size : (n : ℕ) (z : List ℕ) → length z ≡ 32 → n ≤ 32 → length (take (n - 0) z) ≡ n
 size n z e h = simp length-take (omega arith)
 
-asked : (g : Generator) (n : ℕ) (z : List ℕ) (out : List ℤ) → length z ≡ 512 → n ≤ 512 → pairsNumber g n ≡ 0 → length out ≡ 2 * n
+asked : (g : Generator) (n : ℕ) (z : List ℕ) (out : List ℤ) → length z ≡ 32 → n ≤ 32 → pairsNumber g n ≡ 0 → length out ≡ 2 * n
     → (pairsNumber g (length (take (n - 0) z)) ≡ 0) × (length out ≡ 2 * length (take (n - 0) z))
 asked g n z out e h p l = rw (size n z e h) (p, l)
 
@@ -34,7 +34,7 @@ draw-samples-requires c κs =
     let start = c .before .before in
     let out = start .args .out .now in
     let n = length out / 2 in
-    let small : n ≤ 512 = omega (arith, start .pre .2) in
+    let small : n ≤ 32 = omega (arith, start .pre .2) in
     let whole : length out ≡ 2 * n = omega (arith, start .pre .1) in
     asked (start .args .g) n _ out refl small (start .pre .0) whole
 
@@ -45,7 +45,7 @@ returns : tie.Need-returns
 returns c =
     let g = c .before .before .before .before .before .args .g in
     let drawn = c .before .before .draw-samples .ensures in
-    let room : length (c .before .before .before .before .before .args .out .now) / 2 ≤ 512
+    let room : length (c .before .before .before .before .before .args .out .now) / 2 ≤ 32
     = omega (arith, c .before .before .before .before .before .pre .2) in
     (drawn .0 ∙ ap (λ (n : ℕ). after n g) (size _ _ refl room), drawn .1 ∙ ap (λ (n : ℕ). samples n g) (size _ _ refl room))
 

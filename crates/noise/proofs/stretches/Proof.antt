@@ -8,6 +8,7 @@ use lib.ListN.{length, take, drop, length-take, length-drop}
 use lib.Seq.{take-append-add, take-at, take-all}
 use borrow.Rule.Slice.PartMut.{putMid, postOf, same-len-mid}
 use Rattle.noise.specs.Noise.{samples}
+use Rattle.noise.specs.Private.{stretchLength}
 use Rattle.streams.specs.declared.Generator.{Generator}
 use Rattle.streams.specs.Streams.{mostCount, pairsNumber, after}
 use Rattle.streams.specs.Recurrence.{Sound}
@@ -45,7 +46,7 @@ part-size place end out h = simp (length-take, length-drop) (omega arith)
 -- one stretch more
 module _ {out₀ out new : List ℤ} {g state result : Generator} {place end : ℕ}
     (even₀ : length out₀ % 2 ≡ 0) (r : Reached out₀ g out state place) (more : place < length out₀)
-    (e : end ≡ min (length out₀) (place + 1024))
+    (e : end ≡ min (length out₀) (place + stretchLength))
     (written : new ≡ samples (length (take (end - place) (drop place out)) / 2) state)
     (next : result ≡ after (length (take (end - place) (drop place out)) / 2) state) where
   size : length (take (end - place) (drop place out)) ≡ end - place

@@ -1,12 +1,10 @@
 -- `tables::log_fine` meets its contract: the constant's entries are the definition's.
 use mathlib.Core.Path.{sym}
-use Rattle.tables.specs.Values.{logFineList}
 use Rattle.tables.specs.Tables.{logFine-is}
 use Rattle.tables.proofs.log_fine.Statement.{statement}
 use Rattle.tables.proofs.log_fine.Tie as tie
 
 returns : tie.Need-returns
-unfolding logFineList
 returns c = sym logFine-is
 
 pub log-fine-spec : {M : Type 1} → statement M

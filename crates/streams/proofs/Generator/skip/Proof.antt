@@ -3,6 +3,7 @@ use native.Mathlib.Omega.{arith}
 use borrow.Author.Needs.{needs}
 use borrow.Author.Tests.{ne-eqb}
 use Rattle.streams.specs.Streams.{skipOf}
+use Rattle.streams.proofs.Causes.{count-room}
 use Rattle.streams.proofs.Theorems.{sound, pairs-accepted, after-moved}
 use Rattle.streams.proofs.Generator.skip.Statement.{statement}
 use Rattle.streams.proofs.Generator.skip.Tie as tie
@@ -15,7 +16,7 @@ unfolding skipOf
 returns c = rw (← c .before .pairs-number .ensures, ne-eqb _ _ (c .if1 .taken))
 
 ahead-requires : tie.Need-ahead-requires
-ahead-requires c κs = pairs-accepted _ _ .0 (rw (c .before .pairs-number .ensures) at (c .if1 .left)) .1
+ahead-requires c κs = search needs
 
 returns-2 : tie.Need-returns-2
 unfolding skipOf
@@ -24,7 +25,7 @@ returns-2 c =
     let g = start .args .self in
     let (fits, room) = pairs-accepted g (start .args .n) .0 (rw (c .before .before .pairs-number .ensures) at (c .before .if1 .left)) in
     let reached = after-moved _ g (sound g (omega (arith, start .good)) (omega (arith, start .good)) fits) room in
-    rw (c .ahead .ensures, ← reached, ← c .before .before .pairs-number .ensures, c .before .if1 .left)
+    rw (c .ahead .ensures, count-room g (start .args .n) .1 room, ← reached, ← c .before .before .pairs-number .ensures, c .before .if1 .left)
 
 pub skip-spec : {M : Type 1} → statement M
 skip-spec = tie.close (tie.spec pairs-number-requires returns ahead-requires returns-2)

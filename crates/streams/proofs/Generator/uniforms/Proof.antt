@@ -1,8 +1,8 @@
 -- `Generator::uniforms` is `uniformsOf`: each return rewrites with the record's number.
-use native.Mathlib.Omega.{arith}
 use borrow.Author.Needs.{needs}
 use borrow.Author.Tests.{ne-eqb}
 use Rattle.streams.specs.Streams.{uniformsOf}
+use Rattle.streams.proofs.Causes.{count-room}
 use Rattle.streams.proofs.Theorems.{pairs-accepted}
 use Rattle.streams.proofs.Generator.uniforms.Statement.{statement}
 use Rattle.streams.proofs.Generator.uniforms.Tie as tie
@@ -21,9 +21,7 @@ advanced-requires-2 : tie.Need-advanced-requires-2
 advanced-requires-2 c κs = search needs
 
 onward-requires : tie.Need-onward-requires
-onward-requires c κs =
-    let accepted = rw (c .before .before .before .pairs-number .ensures) at (c .before .before .if1 .left) in
-    omega (arith, pairs-accepted _ 1 .0 accepted .1)
+onward-requires c κs = search needs
 
 word-requires : tie.Need-word-requires
 word-requires c κs = search needs
@@ -46,14 +44,19 @@ add-t12 c = search needs
 returns-2 : tie.Need-returns-2
 unfolding uniformsOf
 returns-2 c =
+    let number = c .before .before .before .before .before .before .pairs-number .ensures in
+    let test = c .before .before .before .before .before .if1 .left in
+    let g = c .before .before .before .before .before .before .before .args .self in
+    let room = pairs-accepted g 1 .0 (rw number at test) .1 in
     rw (
       c .word2 .ensures,
       c .before .word .ensures,
       c .before .before .onward .ensures,
+      count-room g 1 .1 room,
       c .before .before .before .advanced2 .ensures,
       c .before .before .before .before .advanced .ensures,
-      ← c .before .before .before .before .before .before .pairs-number .ensures,
-      c .before .before .before .before .before .if1 .left,
+      ← number,
+      test,
     )
 
 pub uniforms-spec : {M : Type 1} → statement M

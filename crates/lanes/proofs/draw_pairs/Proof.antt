@@ -1,0 +1,139 @@
+-- `lanes::draw_pairs` leaves the words of as many pairs as there is room for. The loop has drawn i of them.
+use mathlib.Core.Path.{_≡_, refl, sym, ap, _∙_}
+use mathlib.Core.List.{List}
+use Prim.Native.Nat.{ℕ, _+_, _-_, _≤_, _<_}
+use native.Mathlib.Numerals.{add-one}
+use native.Mathlib.Omega.{arith}
+use lib.ListN.{length, take, set, length-set}
+use lib.Seq.{take-suc-set, take-all}
+use borrow.Author.Needs.{needs}
+use Rattle.squares.specs.Squares.{repeat}
+use Rattle.squares.proofs.Theorems.{repeat-add}
+use Rattle.streams.specs.declared.Stream.{Stream}
+use Rattle.streams.specs.Streams.{advance}
+use Rattle.streams.specs.Recurrence.{InRange}
+use Rattle.lanes.specs.declared.Lanes.{Lanes}
+use Rattle.lanes.specs.Lanes.{lanesOf, upper, lower, wordOf, words}
+use Rattle.lanes.proofs.Theorems.{upper-is, lower-is, lower-range, words-add}
+use Rattle.lanes.proofs.draw_pairs.Statement.{statement}
+use Rattle.lanes.proofs.draw_pairs.Tie as tie
+
+-- i pairs are drawn
+record Reached (z₀ : List ℕ) (start : Lanes) (z : List ℕ) (state : Lanes) (i : ℕ) : Type 0 where
+  within : i ≤ length z
+  kept : length z ≡ length z₀
+  a-at : upper state ≡ repeat advance i (upper start)
+  b-at : lower state ≡ repeat advance i (lower start)
+  done : take i z ≡ words i (upper start) (lower start)
+
+abbrev Inv-loop : tie.InvT-loop
+Inv-loop z₀ state₀ i₀ z state i = Reached z₀ state₀ z state i
+
+abbrev μ-loop : tie.MeasureT-loop
+μ-loop z₀ state₀ i₀ z state i = length z - i
+
+-- one step more is a step of what is reached
+once-more : (i : ℕ) (u v : Stream) → u ≡ repeat advance i v → advance u ≡ repeat advance (i + 1) v
+unfolding repeat
+once-more i u v e = ap advance e ∙ repeat-add advance i 1 v
+
+-- one pair more
+again : {z₀ z : List ℕ} {start state next : Lanes} {i x : ℕ} → Reached z₀ start z state i
+    → next ≡ lanesOf (advance (upper state)) (advance (lower state)) → x ≡ wordOf (upper next) (lower next) → i < length z
+    → Reached z₀ start (set z i x) next (i + 1)
+unfolding words repeat
+again {z₀} {z} {start} {state} {next} {i} {x} r step word h =
+    let a-is : upper next ≡ advance (upper state) = ap upper step ∙ upper-is _ _ (lower-range state) in
+    let b-is : lower next ≡ advance (lower state) = ap lower step ∙ lower-is _ _ (lower-range state) in
+    record {
+      within = simp length-set (omega arith);
+      kept = simp length-set (r .kept);
+      a-at = a-is ∙ once-more i _ _ (r .a-at);
+      b-at = b-is ∙ once-more i _ _ (r .b-at);
+      done = rw (words-add i 1 (upper start) (lower start), add-one i, take-suc-set z i x h, r .done, word, a-is, b-is, r .a-at, r .b-at);
+    }
+
+lanes-requires : tie.Need-lanes-requires Inv-loop μ-loop
+lanes-requires c κs = search needs
+
+loop-holds : tie.Need-loop-holds Inv-loop μ-loop
+unfolding words repeat
+loop-holds c = record { within = omega arith; kept = refl; a-at = refl; b-at = refl; done = refl }
+
+advanced-requires : tie.Need-advanced-requires Inv-loop μ-loop
+advanced-requires c κs = search needs
+
+word-requires : tie.Need-word-requires Inv-loop μ-loop
+word-requires c κs = search needs
+
+mul-z : tie.Need-mul-z Inv-loop μ-loop
+mul-z c = search needs
+
+slice-write-z : tie.Need-slice-write-z Inv-loop μ-loop
+slice-write-z c = search needs
+
+add-i : tie.Need-add-i Inv-loop μ-loop
+add-i c = omega arith
+
+loop-less : tie.Need-loop-less Inv-loop μ-loop
+loop-less c = simp length-set (omega arith)
+
+loop-again : tie.Need-loop-again Inv-loop μ-loop
+loop-again c =
+    again
+    (c .before .before .before .loop .inv)
+    (c .before .advanced .ensures)
+    (c .word .ensures)
+    (c .before .before .loop-test .taken)
+
+both-requires : tie.Need-both-requires Inv-loop μ-loop
+both-requires c κs = search needs
+
+same-length : tie.Need-same-length Inv-loop μ-loop
+same-length c = c .before .before .loop .inv .kept
+
+b-range : (c : tie.Start Inv-loop μ-loop) → InRange (c .args .streams .b)
+b-range c = record { s0-range = omega arith; s1-range = omega arith; s2-range = omega arith }
+
+-- all pairs are drawn: the streams that were laid side by side, as many steps on
+ended : {z₀ z : List ℕ} {start state : Lanes} {i : ℕ} (a b : Stream) → Reached z₀ start z state i → start ≡ lanesOf a b → InRange b
+    → length z ≤ i → (upper state ≡ repeat advance (length z₀) a) × (lower state ≡ repeat advance (length z₀) b) × (z ≡ words (length z₀) a b)
+ended {z₀} {z} {start} {state} {i} a b r e range all =
+    let whole : i ≡ length z₀ = omega (arith, r .within, r .kept) in
+    let a-is : upper start ≡ a = ap upper e ∙ upper-is a b range in
+    let b-is : lower start ≡ b = ap lower e ∙ lower-is a b range in (
+      r .a-at ∙ rw (whole, a-is),
+      r .b-at ∙ rw (whole, b-is),
+      sym (take-all i z all) ∙ r .done ∙ rw (whole, a-is, b-is),
+    )
+
+returns : tie.Need-returns Inv-loop μ-loop
+returns c =
+    let start = c .before .before .before .before .before in
+    let end = ended (start .args .streams .a) (start .args .streams .b)
+    (c .before .before .loop .inv)
+    (c .before .before .before .lanes .ensures)
+    (b-range start)
+    (c .before .loop-test .left) in (
+      λ i. record { a = (c .both .ensures .0 ∙ end .0) i; b = (c .both .ensures .1 ∙ end .1) i },
+      end .2,
+    )
+
+pub draw-pairs-spec : {M : Type 1} → statement M
+draw-pairs-spec =
+    tie.close
+    (tie.spec
+    Inv-loop
+    μ-loop
+    lanes-requires
+    loop-holds
+    advanced-requires
+    word-requires
+    mul-z
+    slice-write-z
+    add-i
+    loop-less
+    loop-again
+    both-requires
+    same-length
+    returns)

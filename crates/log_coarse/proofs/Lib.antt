@@ -1,0 +1,2 @@
+-- A quotient by way of a reciprocal.
+pub mod Quotients
