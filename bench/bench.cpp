@@ -1,7 +1,8 @@
-// Samples per second of the static library beside plain C, GSL, Boost and the C++ library; skips beside drawing.
+// Times of the static library's calls beside plain C and other generators of normal samples. All contestants take turns, a short run each.
 #include "jabulghi.h"
 #include "plain.h"
 #include <algorithm>
+#include <cmath>
 #include <cstdio>
 #include <cstdlib>
 #include <cstring>
@@ -18,52 +19,49 @@
 #include <boost/random/normal_distribution.hpp>
 #include <boost/random/taus88.hpp>
 #endif
+#ifdef HAVE_RAND_DISTR
+extern "C" void rand_distr_block(int16_t *block, size_t length);
+#endif
 
-static const size_t LENGTH = 4096;   // elements of a buffer
-static const int BUFFERS = 256;      // times that a run fills it
-static const int RUNS = 11;
-static const int SHORT_RUNS = 1001, SHORT_CALLS = 20;
+static const size_t LENGTH = 4096; // samples of a buffer
+static const int RUNS = 1001;
 
-struct Row {
-    std::string name;
-    std::function<void()> fill;      // fills a buffer once
-    std::vector<double> seconds;
+static const char ZIGGURAT[] = "GSL `gsl_ran_gaussian_ziggurat` over `gsl_rng_taus`"; // what the others are compared with
+
+static int16_t buffer[LENGTH];
+
+struct Unit {
+    const char *name;
+    double in_a_second;
 };
+static const Unit A_SAMPLE = {"ns a sample", 1e9}, A_PAIR = {"ns a pair", 1e9}, A_CALL = {"µs a call", 1e6};
+
+// One of those that take turns: what its time is of and how many of these a run has; then the seconds of one, least first.
+struct Contestant {
+    std::string name;
+    const Unit &unit;
+    double count;
+    std::function<void()> run;
+    std::vector<double> seconds = {};
+
+    double least() const { return seconds[0]; }
+    double median() const { return seconds[RUNS / 2]; }
+    double ninth_tenth() const { return seconds[RUNS * 9 / 10]; }
+};
+typedef std::vector<Contestant> Contestants;
 
 static void fail(const char *what) {
     printf("DIFFERENT: %s\n", what);
     exit(1);
 }
 
-// Time of this process alone, so that others on the machine weigh less.
-static double processor_seconds() {
+static double seconds_of(clockid_t clock) {
     timespec now;
-    clock_gettime(CLOCK_PROCESS_CPUTIME_ID, &now);
+    clock_gettime(clock, &now);
     return now.tv_sec + now.tv_nsec * 1e-9;
 }
 
-// One run of each row in turn, RUNS times, after one that is not counted; then the medians, the first row being the measure.
-static void table(const char *what, std::vector<Row> &rows) {
-    for (int run = -1; run < RUNS; run++) {
-        for (Row &row : rows) {
-            double start = processor_seconds();
-            for (int j = 0; j < BUFFERS; j++) {
-                row.fill();
-            }
-            if (run >= 0) {
-                row.seconds.push_back(processor_seconds() - start);
-            }
-        }
-    }
-    double ours = 0;
-    printf("\n  ratio   million/s      ns   %s\n", what);
-    for (Row &row : rows) {
-        std::sort(row.seconds.begin(), row.seconds.end());
-        double rate = LENGTH * BUFFERS / row.seconds[RUNS / 2];
-        ours = ours == 0 ? rate : ours;
-        printf("  %5.2f   %9.1f   %5.2f   %s\n", rate / ours, rate / 1e6, 1e9 / rate, row.name.c_str());
-    }
-}
+// ---- what is timed
 
 static const uint32_t SEEDS[6] = {123456789, 987654321, 192837465, 2, 8, 16};
 
@@ -73,57 +71,151 @@ static jabulghi_record seeded() {
     return record;
 }
 
-static void samples() {
-    static int16_t block[LENGTH];
-    static double doubles[LENGTH];
-    static jabulghi_record ours = seeded();
-    static uint32_t plain[6], bits[6];
-    static int16_t expected[LENGTH];
-    for (uint32_t *r : {plain, bits}) {
-        memcpy(r, SEEDS, sizeof SEEDS);
+static jabulghi_record ours = seeded();
+
+// The buffer by blocks of a length.
+static void fill_by(size_t length) {
+    for (size_t at = 0; at < LENGTH; at += length) {
+        jabulghi_block(&ours, buffer + at, length);
     }
-    for (int j = 0; j < 50; j++) {
-        jabulghi_block(&ours, expected, LENGTH);
-        plain_block(plain, block, LENGTH);
-        if (memcmp(block, expected, sizeof block) != 0) fail("samples of plain C");
-        plain_block_bits(bits, block, LENGTH);
-        if (memcmp(block, expected, sizeof block) != 0) fail("samples of plain C, root by bits");
+}
+
+static int16_t rounded(double x) {
+    return (int16_t)lrint(x);
+}
+
+// The same with no call: a sum with 1.5 times 2^52 has the nearest whole number in its last bits.
+[[maybe_unused]] static int16_t rounded_by_sum(double x) {
+    double sum = x + 0x1.8p52;
+    int16_t last;
+    memcpy(&last, &sum, sizeof last);
+    return last;
+}
+
+// The buffer from normal samples, rounded to units of 2^-11 of a standard deviation.
+template <class Normal, class Rounded> static void fill_from(Normal normal, Rounded rounded) {
+    for (int16_t &sample : buffer) {
+        sample = rounded(normal() * 2048);
     }
-    std::vector<Row> rows;
-    rows.push_back({"jabulghi_block", [] { jabulghi_block(&ours, block, LENGTH); }, {}});
-    rows.push_back({"the same steps in plain C, root by floating point", [] { plain_block(plain, block, LENGTH); }, {}});
-    rows.push_back({"the same steps in plain C, root bit by bit", [] { plain_block_bits(bits, block, LENGTH); }, {}});
+}
+
+static void add_ours(Contestants &all) {
+    for (size_t length : {LENGTH, (size_t)64, (size_t)16, (size_t)2}) {
+        all.push_back({"`jabulghi_block` of " + std::to_string(length), A_SAMPLE, LENGTH, [length] { fill_by(length); }});
+    }
+}
+
+static void add_plain(Contestants &all) {
+    static uint32_t by_double[6], by_bits[6];
+    for (uint32_t *registers : {by_double, by_bits}) {
+        memcpy(registers, SEEDS, sizeof SEEDS);
+    }
+    all.push_back({"the same steps in plain C, root by floating point", A_SAMPLE, LENGTH, [] { plain_block(by_double, buffer, LENGTH); }});
+    all.push_back({"the same steps in plain C, root bit by bit", A_SAMPLE, LENGTH, [] { plain_block_bits(by_bits, buffer, LENGTH); }});
+}
+
+static void add_others(Contestants &all) {
 #ifdef HAVE_GSL
     static gsl_rng *rng = gsl_rng_alloc(gsl_rng_taus);
-    rows.push_back({"GSL gsl_ran_gaussian over gsl_rng_taus", [] { for (double &x : doubles) x = gsl_ran_gaussian(rng, 1); }, {}});
-    rows.push_back({"GSL gsl_ran_gaussian_ziggurat over gsl_rng_taus",
-                    [] { for (double &x : doubles) x = gsl_ran_gaussian_ziggurat(rng, 1); }, {}});
+    static auto ziggurat = [] { return gsl_ran_gaussian_ziggurat(rng, 1); };
+    static auto polar = [] { return gsl_ran_gaussian(rng, 1); };
+    all.push_back({ZIGGURAT, A_SAMPLE, LENGTH, [] { fill_from(ziggurat, rounded); }});
+    all.push_back({"the same, rounded by a sum in place of `lrint`", A_SAMPLE, LENGTH, [] { fill_from(ziggurat, rounded_by_sum); }});
+    all.push_back({"GSL `gsl_ran_gaussian` over `gsl_rng_taus`", A_SAMPLE, LENGTH, [] { fill_from(polar, rounded); }});
 #endif
 #ifdef HAVE_BOOST
     static boost::random::taus88 taus;
     static boost::random::normal_distribution<double> boost_normal;
-    rows.push_back({"Boost normal_distribution over taus88", [] { for (double &x : doubles) x = boost_normal(taus); }, {}});
+    static auto boost_next = [] { return boost_normal(taus); };
+    all.push_back({"Boost `normal_distribution` over `taus88`", A_SAMPLE, LENGTH, [] { fill_from(boost_next, rounded); }});
+    all.push_back({"the same, rounded by a sum", A_SAMPLE, LENGTH, [] { fill_from(boost_next, rounded_by_sum); }});
+#endif
+#ifdef HAVE_RAND_DISTR
+    all.push_back({"Rust `rand_distr::StandardNormal` over `SmallRng`, rounded by a sum", A_SAMPLE, LENGTH,
+                   [] { rand_distr_block(buffer, LENGTH); }});
 #endif
     static std::mt19937 twister;
     static std::normal_distribution<double> normal;
-    rows.push_back({"C++ std::normal_distribution over std::mt19937", [] { for (double &x : doubles) x = normal(twister); }, {}});
-    table("samples", rows);
+    static auto next = [] { return normal(twister); };
+    all.push_back({"C++ `std::normal_distribution` over `std::mt19937`", A_SAMPLE, LENGTH, [] { fill_from(next, rounded); }});
+}
+
+// Single pairs from a record, and from k and v as they are drawn.
+static void add_pairs(Contestants &all) {
+    static std::vector<uint64_t> numbers(LENGTH / 2);
+    std::mt19937_64 twister;
+    for (uint64_t &z : numbers) {
+        z = twister();
+    }
+    all.push_back({"`jabulghi_pair`", A_PAIR, LENGTH / 2.0, [] {
+        for (size_t at = 0; at < LENGTH; at += 2) jabulghi_pair(&ours, buffer + at);
+    }});
+    all.push_back({"`jabulghi_sample`", A_PAIR, LENGTH / 2.0, [] {
+        for (size_t j = 0; j < LENGTH / 2; j++) jabulghi_sample(numbers[j] >> 16, numbers[j] & 65535, buffer + 2 * j);
+    }});
+}
+
+static void add_job(Contestants &all) {
+    static std::string text = "(seeds (a 123456789 987654321 192837465) (b 2 8 16))\n(sigma 4 10)\n";
+    for (int shot = 0; shot < 500; shot++) {
+        text += "(shot A" + std::to_string(shot) + " A" + std::to_string(shot + 1) + " 12345 4500)\n";
+    }
+    static uint8_t listing[JABULGHI_LISTING_ROOM];
+    auto list = [] {
+        uint32_t line;
+        size_t length;
+        return jabulghi_list((const uint8_t *)text.data(), text.size(), listing, sizeof listing, &line, &length);
+    };
+    if (list() != JABULGHI_OK) fail("the job");
+    all.push_back({"`jabulghi_list`, a job of 500 shots", A_CALL, 1, list});
+}
+
+// From count 0, so that none is refused; beside a skip the same pairs drawn.
+static void add_skips(Contestants &all) {
+    const int calls = 10;
+    static jabulghi_record record = seeded();
+    for (uint64_t n : {UINT64_MAX, (uint64_t)1000}) {
+        all.push_back({"`jabulghi_skip` of " + std::to_string(n) + " pairs", A_CALL, calls, [n] {
+            for (int j = 0; j < calls; j++) {
+                record.count = 0;
+                jabulghi_skip(&record, n);
+            }
+        }});
+    }
+    all.push_back({"`jabulghi_block` of 1000 pairs", A_CALL, 1, [] { jabulghi_block(&ours, buffer, 2000); }});
+}
+
+// ---- what has to be equal first
+
+static void check_plain() {
+    jabulghi_record record = seeded();
+    uint32_t by_double[6], by_bits[6];
+    memcpy(by_double, SEEDS, sizeof SEEDS);
+    memcpy(by_bits, SEEDS, sizeof SEEDS);
+    static int16_t expected[LENGTH];
+    for (int j = 0; j < 50; j++) {
+        jabulghi_block(&record, expected, LENGTH);
+        plain_block(by_double, buffer, LENGTH);
+        if (memcmp(buffer, expected, sizeof buffer) != 0) fail("samples of plain C");
+        plain_block_bits(by_bits, buffer, LENGTH);
+        if (memcmp(buffer, expected, sizeof buffer) != 0) fail("samples of plain C, root by bits");
+    }
 }
 
 #if defined HAVE_GSL || defined HAVE_BOOST
 // The draws of stream a, which are seen in a record: the exclusive-or of its registers after each pair.
 static void check_draws(const char *what, const std::function<uint32_t()> &draw) {
-    jabulghi_record ours = seeded();
+    jabulghi_record record = seeded();
     int16_t two[2];
     for (size_t j = 0; j < LENGTH; j++) {
-        jabulghi_pair(&ours, two);
-        if (draw() != (ours.a[0] ^ ours.a[1] ^ ours.a[2])) fail(what);
+        jabulghi_pair(&record, two);
+        if (draw() != (record.a[0] ^ record.a[1] ^ record.a[2])) fail(what);
     }
-    printf("the first %zu draws of %s from the same registers are ours\n", LENGTH, what);
+    printf("The first %zu draws of %s from the same registers are ours.\n", LENGTH, what);
 }
 #endif
 
-static void draws() {
+static void check_others() {
 #ifdef HAVE_GSL
     // the state of gsl_rng_taus is its three registers, each an unsigned long
     gsl_rng *rng = gsl_rng_alloc(gsl_rng_taus);
@@ -158,54 +250,103 @@ static void check_skips() {
     if (skipped.count != UINT64_MAX || jabulghi_skip(&skipped, 1) != JABULGHI_COUNT_FULL) fail("the count of the most pairs");
 }
 
-// The seconds of a call in each of many short runs of so many calls, least first.
-static std::vector<double> short_runs(int calls, const std::function<void()> &call) {
-    std::vector<double> seconds;
-    for (int run = 0; run < SHORT_RUNS; run++) {
-        double start = processor_seconds();
-        for (int j = 0; j < calls; j++) {
-            call();
+// What is timed a sample leaves normal samples in the buffer: their mean square is about 1.
+static void check_spread(const Contestants &all) {
+    for (const Contestant &each : all) {
+        if (&each.unit != &A_SAMPLE) continue;
+        std::fill(buffer, buffer + LENGTH, 0);
+        each.run();
+        double squares = 0;
+        for (int16_t sample : buffer) squares += (double)sample * sample / (2048.0 * 2048);
+        if (fabs(squares / LENGTH - 1) > 0.15) fail(each.name.c_str());
+    }
+}
+
+// ---- turns and the table
+
+// The same work each time, on registers alone, several multiplications at once.
+static void calibrate() {
+    static volatile uint64_t kept = 1;
+    uint64_t x[4] = {kept, kept + 1, kept + 2, kept + 3};
+    for (int j = 0; j < 10000; j++) {
+        for (uint64_t &each : x) each = each * 6364136223846793005u + 1442695040888963407u;
+    }
+    kept = x[0] ^ x[1] ^ x[2] ^ x[3];
+}
+
+// One short run of each in turn, RUNS times after one turn that is not counted.
+static void take_turns(Contestants &all) {
+    for (int turn = -1; turn < RUNS; turn++) {
+        for (Contestant &each : all) {
+            each.run(); // not timed: what it needs is in the cache then
+            double start = seconds_of(CLOCK_MONOTONIC);
+            each.run();
+            double seconds = seconds_of(CLOCK_MONOTONIC) - start;
+            if (turn >= 0) each.seconds.push_back(seconds / each.count);
         }
-        seconds.push_back((processor_seconds() - start) / calls);
     }
-    std::sort(seconds.begin(), seconds.end());
-    return seconds;
-}
-
-static void print_time(double seconds) {
-    const double year = 365.25 * 86400;
-    if (seconds >= year) {
-        printf("  %8.0f years", seconds / year);
-    } else {
-        printf("  %8.2f µs   ", seconds * 1e6);
+    for (Contestant &each : all) {
+        std::sort(each.seconds.begin(), each.seconds.end());
     }
 }
 
-// Each skip beside the time that drawing as many pairs would take.
-static void skips() {
-    check_skips();
-    static jabulghi_record ours = seeded();
-    static int16_t block[LENGTH];
-    double pair = short_runs(SHORT_CALLS, [] { jabulghi_block(&ours, block, LENGTH); })[0] / (LENGTH / 2);
-    printf("\n%16s%16s%16s   skips\n", "least", "median", "by drawing");
-    for (uint64_t n : {UINT64_MAX, (uint64_t)1000}) {
-        // from count 0, so that none is refused
-        std::vector<double> seconds = short_runs(SHORT_CALLS, [n] { ours.count = 0; jabulghi_skip(&ours, n); });
-        print_time(seconds[0]);
-        print_time(seconds[SHORT_RUNS / 2]);
-        print_time((double)n * pair);
-        printf("   jabulghi_skip of %llu pairs\n", (unsigned long long)n);
+static const Contestant *named(const Contestants &all, const std::string &name) {
+    auto found = std::find_if(all.begin(), all.end(), [&](const Contestant &each) { return each.name == name; });
+    return found == all.end() ? nullptr : &*found;
+}
+
+// In Markdown. The ratios, of least times and of medians, are for times a sample where GSL is there.
+static void print_table(const Contestants &all) {
+    const Contestant *gsl = named(all, ZIGGURAT);
+    printf("\n| | | least | median | to GSL's ziggurat, least | median |\n|---|---|---:|---:|---:|---:|\n");
+    for (const Contestant &each : all) {
+        double scale = each.unit.in_a_second;
+        printf("| %s | %s | %.2f | %.2f |", each.name.c_str(), each.unit.name, each.least() * scale, each.median() * scale);
+        if (gsl != nullptr && &each.unit == &A_SAMPLE) {
+            printf(" %.2f | %.2f |\n", each.least() / gsl->least(), each.median() / gsl->median());
+        } else {
+            printf(" | |\n");
+        }
     }
-    printf("\nleast and median: of %d runs of %d skips, in processor time. By drawing: blocks of %zu samples, %.1f ns a pair,\n",
-           SHORT_RUNS, SHORT_CALLS, LENGTH, pair * 1e9);
-    printf("the least of as many runs.\n");
+}
+
+// Quiet: others had no work before the run, took no processor from it, and the fixed loop took nearly the same time in nine of ten runs.
+static void print_quiet(double load, double share, const Contestant &loop) {
+    double spread = loop.ninth_tenth() / loop.least();
+    bool quiet = load < 1 && share > 0.98 && spread < 1.05;
+    printf("The machine was %s: load %.2f before the run; the run had %.0f %% of a processor; nine of ten runs of a fixed loop took at most\n"
+           "%.2f of the least time.\n", quiet ? "quiet" : "NOT QUIET", load, share * 100, spread);
+}
+
+static Contestants contestants() {
+    Contestants all;
+    add_ours(all);
+    add_plain(all);
+    add_others(all);
+    add_pairs(all);
+    add_job(all);
+    add_skips(all);
+    return all;
 }
 
 int main() {
+    double load = 0;
+    getloadavg(&load, 1);
     plain_tables();
-    draws();
-    samples();
-    printf("\nratio: speed over the library's. Each run fills %d times a buffer of %zu elements, which is not cleared before;\n", BUFFERS, LENGTH);
-    printf("the rows take turns, and each figure is the median of %d runs, in processor time, after one that is not counted.\n", RUNS);
-    skips();
+    check_plain();
+    check_others();
+    check_skips();
+    Contestants all = contestants();
+    check_spread(all);
+    all.push_back({"a fixed loop", A_CALL, 1, calibrate});
+    double start = seconds_of(CLOCK_MONOTONIC), used = seconds_of(CLOCK_PROCESS_CPUTIME_ID);
+    take_turns(all);
+    double share = (seconds_of(CLOCK_PROCESS_CPUTIME_ID) - used) / (seconds_of(CLOCK_MONOTONIC) - start);
+    Contestant loop = all.back();
+    all.pop_back();
+    print_table(all);
+    printf("\nSamples of others are rounded to i16, in units of 2^-11. All take turns; a time is the least or the median of %d short runs.\n"
+           "To draw 2^64 - 1 pairs by blocks of %zu would take %.0f years.\n",
+           RUNS, LENGTH, 2 * all[0].least() * UINT64_MAX / (365.25 * 86400));
+    print_quiet(load, share, loop);
 }

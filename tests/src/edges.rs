@@ -1,7 +1,7 @@
 //! The places where something changes, each tried by itself: minima, lengths of blocks, cells of the tables, quarters.
 use crate::cases::{same, Call, Called, History, Sample, Seed};
 use crate::library::record_of;
-use crate::sample::Tables;
+use crate::sample::{Cell, Tables};
 use crate::stream::{fresh, Registers};
 
 const LEAST: Registers = [2, 8, 16, 2, 8, 16];
@@ -93,5 +93,9 @@ pub fn cells(tables: &Tables) -> String {
         same(tables, &Sample(1, v));
         same(tables, &Sample(123_456_789_012_345, v));
     }
-    format!("{} k at the edges of cells, each at 16 v, and every v at two k", ks.len())
+    let rests = |is: fn(&Cell) -> bool| ks.iter().filter(|&&k| is(&Cell::of(k))).count();
+    let (above, below) = (rests(|cell| cell.rest() == 1), rests(|cell| cell.rest() == (cell.h << 24) - 1));
+    assert!(above > 40_000 && below > 40_000, "only {above} and {below} d beside a multiple");
+    let beside = format!("{above} with d one above a multiple of h 2^24, {below} one below");
+    format!("{} k at the edges of cells ({beside}), each at 16 v, and every v at two k", ks.len())
 }

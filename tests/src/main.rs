@@ -15,6 +15,7 @@ mod listings;
 mod program;
 mod random;
 mod readings;
+mod roots;
 mod sample;
 mod skips;
 mod stream;
@@ -42,7 +43,7 @@ fn main() {
     for group in edges {
         println!("{}, all equal", group(&tables));
     }
-    let plain: [Group; 5] = [seeds, samples, histories, pairs, blocks];
+    let plain: [Group; 6] = [seeds, roots::places, samples, histories, pairs, blocks];
     let skips: [Group; 5] = [skips::skips, skips::drawn, skips::two, skips::blocks, counts::runs];
     let groups = plain.into_iter().chain(skips).chain([listings::jobs as Group, program::program]);
     for (j, group) in groups.enumerate() {

@@ -15,6 +15,31 @@ pub struct Tables {
     fine: Vec<(i128, i128)>,
 }
 
+/// e, h, d and i.
+#[derive(Clone, Copy)]
+pub struct Cell {
+    pub e: i128,
+    pub h: i128,
+    pub d: i128,
+    pub i: i128,
+}
+
+impl Cell {
+    /// The cell of a k from 0 to 2^48 - 1: steps 1 to 3 of the radius.
+    pub fn of(k: u64) -> Cell {
+        let n = 2 * i128::from(k) + 1;
+        let e = (0..49).rfind(|&bit| n >= 1 << bit).unwrap();
+        let m = n << (48 - e);
+        let (h, d) = (m >> 40, m & ((1 << 40) - 1));
+        Cell { e, h, d, i: d / (h << 24) }
+    }
+
+    /// r, what d has beyond i times h 2^24.
+    pub fn rest(&self) -> i128 {
+        self.d - self.i * (self.h << 24)
+    }
+}
+
 impl Tables {
     pub fn new() -> Tables {
         let log = |n: u32, d: u32| i128::from(ln(n, d).nearest(40));
@@ -35,17 +60,12 @@ impl Tables {
         self.k
     }
 
-    /// F, the radius times 2^20, of a k from 0 to 2^48 - 1.
-    fn radius(&self, k: u64) -> i128 {
-        let n = 2 * i128::from(k) + 1;
-        let e = (0..49).rfind(|&bit| n >= 1 << bit).unwrap();
-        let m = n << (48 - e);
-        let (h, d) = (m >> 40, m & ((1 << 40) - 1));
-        let i = d / (h << 24);
-        let r = d - i * (h << 24);
-        let s = (r << 16) / (h * (65536 + i));
+    /// 2Q from a cell: steps 4 and 5 of the radius.
+    pub fn under_root(&self, cell: &Cell) -> i128 {
+        let Cell { e, h, i, .. } = *cell;
+        let s = (cell.rest() << 16) / (h * (65536 + i));
         let q = (49 - e) * self.k - self.a[h as usize - 256] - self.b[i as usize] - s;
-        root(2 * q.max(0))
+        2 * q.max(0)
     }
 
     /// Sine and cosine at 2^30 of v/65536 of a turn, v at most 65535.
@@ -71,9 +91,14 @@ impl Tables {
         if v > 65535 {
             return (3, 0, 0);
         }
-        let f = self.radius(k);
+        let (first, second) = self.turned(root(self.under_root(&Cell::of(k))), v);
+        (0, first, second)
+    }
+
+    /// The samples of F and a v at most 65535.
+    pub fn turned(&self, f: i128, v: u32) -> (i16, i16) {
         let (first, second) = self.rotation(v);
-        (0, scaled(f, first), scaled(f, second))
+        (scaled(f, first), scaled(f, second))
     }
 }
 
@@ -82,8 +107,8 @@ fn scaled(f: i128, g: i128) -> i16 {
     i16::try_from(g.signum() * size).unwrap()
 }
 
-/// The whole part of the square root, by bits from the top.
-fn root(x: i128) -> i128 {
+/// The whole part of the square root, by bits from the top. Of 2Q it is F, the radius times 2^20.
+pub fn root(x: i128) -> i128 {
     let mut out = 0i64;
     let x = x as i64;
     for bit in (0..25).rev() {
