@@ -9,7 +9,7 @@ ghost use Rattle.radius.specs.Steps.{numberBits, inverse};
 ghost use Rattle.sample.specs.Steps.{fractionBits};
 ghost use Rattle.sample.specs.Sample.{samplesOf, nineSixteenths};
 ghost use Rattle.exact.specs.Pair.{Close};
-ghost use Rattle.noise.specs.Noise.{pairOf, blockOf, blockHolds};
+ghost use Rattle.noise.specs.Noise.{pairOf, blockOf, blockHolds, lookOf, lookHolds};
 ghost use Rattle.job.specs.Job.{jobOf, answerOf, bufferAfter};
 ghost use Rattle.jabulghi.specs.Words.{wordsOf, generatorOf, samplesIn};
 use streams::Generator;
@@ -113,6 +113,17 @@ pub extern "C" fn jabulghi_block(words: &mut [u32; 8], block: &mut [i16]) -> u32
     let after_block = filled.next;
     *words = packed(after_block);
     filled.number
+}
+
+// A look at the block that would come next. The record is lent to be read alone.
+#[no_mangle]
+pub extern "C" fn jabulghi_look(words: &[u32; 8], block: &mut [i16]) -> u32
+    ensures { λ r. ⌜ r ≡ lookOf (generatorOf (now (words .entry))) (length (now (block .entry))) .number ⌝ }
+    ensures { λ _. ⌜ now (block .exit) ≡ lookHolds (generatorOf (now (words .entry))) (now (block .entry)) ⌝ }
+{
+    let g = unpacked(*words);
+    let shown = noise::look(g, block);
+    shown.number
 }
 
 // A record n pairs on.

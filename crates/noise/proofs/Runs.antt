@@ -17,8 +17,8 @@ use Rattle.streams.specs.Recurrence.{InRange, Sound, moved, drawAt, seedFrom}
 use Rattle.streams.proofs.Causes.{lone-cause, none-applies, count-room, count-full}
 use Rattle.streams.proofs.Theorems.{sound, sound-accepted, seeded, seeded-range, fit-number, moved-sound, moved-add, after-moved, numbers-are}
 use Rattle.noise.specs.Noise.{pairOf, lengthNumber, blockNumber, blockOf}
-use Rattle.noise.specs.Runs.{Call, numberOf, nextOf, run, sumOver, pairsIn, handed, ownNumber}
-use Rattle.noise.specs.Runs.Call.{numbers, a-pair, a-block, a-skip}
+use Rattle.noise.specs.Runs.{Call, numberOf, nextOf, run, sumOver, pairsIn, pairsOut, handed, ownNumber}
+use Rattle.noise.specs.Runs.Call.{numbers, a-pair, a-block, a-look, a-skip}
 
 -- ---- One call
 
@@ -28,23 +28,39 @@ unfolding numberOf uniformsOf pairOf blockOf blockNumber skipOf ownNumber pairsI
 fit-call numbers g h = fit-number g 1 h ∙ sym (lone-cause _)
 fit-call a-pair g h = fit-number g 1 h ∙ sym (lone-cause _)
 fit-call (a-block n) g h = rw (sound-accepted g h)
+fit-call (a-look n) g h = rw (sound-accepted g h)
 fit-call (a-skip n) g h = fit-number g n h ∙ sym (lone-cause _)
 
-pub accepted-room : (c : Call) (g : Generator) → Sound g → numberOf c g ≡ 0 → g .count + pairsIn c ≤ mostCount
+-- No call hands out more than it asks for, so that an accepted one has room for it.
+out-of-in : (c : Call) → pairsOut c ≤ pairsIn c
+unfolding pairsIn pairsOut
+out-of-in numbers = omega arith
+out-of-in a-pair = omega arith
+out-of-in (a-block n) = omega arith
+out-of-in (a-look n) = omega arith
+out-of-in (a-skip n) = omega arith
+
+pub accepted-room : (c : Call) (g : Generator) → Sound g → numberOf c g ≡ 0 → g .count + pairsOut c ≤ mostCount
 accepted-room c g h e =
     let (own, rest) = none-applies (ownNumber c) (countNumber g (pairsIn c) ∷ []) (sym (fit-call c g h) ∙ e) in
-    count-room g (pairsIn c) .0 (sym (lone-cause _) ∙ rest)
+    let room = count-room g (pairsIn c) .0 (sym (lone-cause _) ∙ rest) in
+    omega (arith, out-of-in c, room)
 
 once-or-not : (t : Bool) (x y : Generator) → cond t x y ≡ cond t (cond t x y) y
 once-or-not true x y = refl
 once-or-not false x y = refl
 
--- A call returns the record as many pairs on as it asks for, or, refused, the record passed in.
-pub next-is : (c : Call) (g : Generator) → nextOf c g ≡ ifAccepted (numberOf c g) (after (pairsIn c) g) g
-unfolding nextOf numberOf pairsIn uniformsOf pairOf blockOf skipOf after
+same-or-same : (t : Bool) (x : Generator) → x ≡ cond t x x
+same-or-same true x = refl
+same-or-same false x = refl
+
+-- A call returns the record as many pairs on as it hands out or skips, or, refused, the record passed in.
+pub next-is : (c : Call) (g : Generator) → nextOf c g ≡ ifAccepted (numberOf c g) (after (pairsOut c) g) g
+unfolding nextOf numberOf pairsOut uniformsOf pairOf blockOf skipOf after
 next-is numbers g = once-or-not (eqb (pairsNumber g 1) 0) _ _
 next-is a-pair g = once-or-not (eqb (pairsNumber g 1) 0) _ _
 next-is (a-block n) g = refl
+next-is (a-look n) g = same-or-same (eqb (blockNumber g n) 0) g
 next-is (a-skip n) g = refl
 
 -- A call on fit streams moves both streams and the count by the pairs that it hands out or skips.
@@ -52,8 +68,8 @@ pub call-moves : (c : Call) (g : Generator) → Sound g → nextOf c g ≡ moved
 unfolding handed repeat
 call-moves c g h = next-is c g ∙ by-test (eqb (numberOf c g) 0) refl
   where
-    by-test : (t : Bool) → eqb (numberOf c g) 0 ≡ t → cond t (after (pairsIn c) g) g ≡ moved (cond t (pairsIn c) 0) g
-    by-test true e = after-moved (pairsIn c) g h (accepted-room c g h (eqb-true _ _ e))
+    by-test : (t : Bool) → eqb (numberOf c g) 0 ≡ t → cond t (after (pairsOut c) g) g ≡ moved (cond t (pairsOut c) 0) g
+    by-test true e = after-moved (pairsOut c) g h (accepted-room c g h (eqb-true _ _ e))
     by-test false e = rw (add-zero (g .count))
 
 pub call-sound : (c : Call) (g : Generator) → Sound g → Sound (nextOf c g)
@@ -65,6 +81,7 @@ unfolding numberOf uniformsOf pairOf blockOf blockNumber skipOf pairsNumber
 unfit-call numbers g h = rw (ne-eqb (recordNumber g) 0 h)
 unfit-call a-pair g h = rw (ne-eqb (recordNumber g) 0 h)
 unfit-call (a-block n) g h = rw (ne-eqb (recordNumber g) 0 h)
+unfit-call (a-look n) g h = rw (ne-eqb (recordNumber g) 0 h)
 unfit-call (a-skip n) g h = rw (ne-eqb (recordNumber g) 0 h)
 
 -- hands out nothing and leaves the record.
@@ -140,7 +157,7 @@ pub pair-history : (l : List Call) (g : Generator) → Sound g → numberOf numb
     → (uniformsOf (run l g) .k
     ≡ drawAt (g .a) (suc (sumOver handed l g)) * 65536 + drawAt (g .b) (suc (sumOver handed l g)) / 65536)
     × (uniformsOf (run l g) .v ≡ drawAt (g .b) (suc (sumOver handed l g)) % 65536)
-unfolding pairsIn
+unfolding pairsOut
 pair-history l g h e =
     let room = accepted-room numbers (run l g) (run-sound l g h) e in
     let here : g .count + sumOver handed l g < mostCount = omega (arith, room, run-count l g (h .range-a) (h .range-b)) in

@@ -23,7 +23,7 @@ use Rattle.sample.specs.Readings.{Reading, readings, readings-hold}
 use Rattle.sample.specs.declared.Samples.{Samples}
 use Rattle.sample.proofs.Closeness.{samples-close}
 use Rattle.sample.proofs.Theorems.{theorems}
-use Rattle.noise.specs.Noise.{pairOf, samples, blockNumber, blockOf, blockHolds}
+use Rattle.noise.specs.Noise.{pairOf, samples, blockNumber, blockOf, blockHolds, lookOf, lookHolds}
 use Rattle.noise.specs.Readings.{Check, of-samples, of-draw, AllHold, twelve}
 use Rattle.noise.proofs.Laws.{block-accepted, pair-number, pair-is, samples-add, length-samples}
 
@@ -98,6 +98,25 @@ skip-block m n g long short h el es e =
       drop-at (samples m g) (samples n (after m g)) (2 * m) (length-samples m g),
       after-moved m g h (omega arith),
     )
+
+-- ---- Looks
+
+-- A look has the number of the block call and leaves the same memory, and returns the record passed in.
+pub look-is : (g : Generator) (old : List ℤ)
+    → (lookOf g (length old) .number ≡ blockOf g (length old) .number)
+    × (lookHolds g old ≡ blockHolds g old)
+    × (lookOf g (length old) .next ≡ g)
+look-is g old = (refl, refl, refl)
+
+-- A look and then a block as long: both accepted or both refused; the block's record is as without the look; and, accepted, the same samples
+-- twice.
+pub look-block : (g : Generator) (x y : List ℤ) → length x ≡ length y
+    → (blockOf g (length y) .number ≡ lookOf g (length x) .number)
+    × (blockOf (lookOf g (length x) .next) (length y) ≡ blockOf g (length y))
+    × (lookOf g (length x) .number ≡ 0 → blockHolds (lookOf g (length x) .next) y ≡ lookHolds g x)
+unfolding blockOf
+look-block g x y e =
+    (rw e refl, refl, λ accepted. rw (block-holds g x accepted, block-holds g y (rw (← e) accepted), e))
 
 -- ---- Every sample is that of its pair, of bounded size, and close
 

@@ -48,3 +48,11 @@ blockOf g n = record { number = blockNumber g n; next = ifAccepted (blockNumber 
 -- What the lent block then holds: the samples of those pairs; refused, what it held.
 unfoldable pub blockHolds : Generator → List ℤ → List ℤ
 blockHolds g old = ifAccepted (blockNumber g (length old)) (samples (length old / 2) g) old
+
+-- A look at a block of n elements (document 02, Job 6): refused "as the real call would be", and "that record unmoved".
+abbrev pub lookOf : Generator → ℕ → RecordAnswer
+lookOf g n = record { number = blockOf g n .number; next = g }
+
+-- What the lent block then holds: what "a real block call on a copy of the record would give".
+abbrev pub lookHolds : Generator → List ℤ → List ℤ
+lookHolds g old = blockHolds g old

@@ -1,9 +1,9 @@
-// A pair of samples, and a block of them in lent memory, from a generator record.
+// A pair of samples, a block of them in lent memory, and a look at a block, from a generator record.
 ghost use mathlib.Core.Path.{_≡_};
 ghost use Prim.Native.Nat.{_+_, _*_, _/_, _%_, _≤_, min};
 ghost use lib.ListN.{length};
 ghost use Rattle.streams.specs.Streams.{pairsNumber, after};
-ghost use Rattle.noise.specs.Noise.{sampledOf, pairOf, lengthNumber, blockNumber, blockOf, blockHolds};
+ghost use Rattle.noise.specs.Noise.{sampledOf, pairOf, lengthNumber, blockNumber, blockOf, blockHolds, lookOf, lookHolds};
 ghost use Rattle.noise.specs.Private.{stretchLength, numbers, PairsDrawn};
 use lanes::Both;
 use lanes::draw_pairs;
@@ -142,4 +142,16 @@ pub fn block(g: Generator, out: &mut [i16]) -> RecordAnswer
     }
     let next = stretches(g, out);
     RecordAnswer { number, next }
+}
+
+// A look at the block that would come next: its samples, and the record as it is.
+pub fn look(g: Generator, out: &mut [i16]) -> RecordAnswer
+    ensures { λ r. ⌜ r ≡ lookOf g (length (now (out .entry))) ⌝ }
+    ensures { λ r. ⌜ now (out .exit) ≡ lookHolds g (now (out .entry)) ⌝ }
+{
+    let shown = block(g, out);
+    RecordAnswer {
+        number: shown.number,
+        next: g,
+    }
 }
