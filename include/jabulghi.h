@@ -54,6 +54,9 @@ uint32_t jabulghi_pair(jabulghi_record *record, int16_t *samples);
  * record stay: all its pairs are counted or none. Length 0 succeeds and moves nothing. */
 uint32_t jabulghi_block(jabulghi_record *record, int16_t *block, size_t length);
 
+/* A look at the block that would come next: number and block as after jabulghi_block, refused alike, and the record stays as it is. */
+uint32_t jabulghi_look(const jabulghi_record *record, int16_t *block, size_t length);
+
 /* Moves a record by n pairs, for any n at once: rigs that share one long stream each start at a stretch of their own. Skips that are
  * accepted add up, in any order; n = 0 leaves the record as it is. Refused (11, 12, 13), the record stays. */
 uint32_t jabulghi_skip(jabulghi_record *record, uint64_t n);

@@ -41,6 +41,13 @@ static void block(jabulghi_record *r, size_t length) {
     show_record(r);
 }
 
+static void look(const jabulghi_record *r, size_t length) {
+    int16_t s[6] = {7, 7, 7, 7, 7, 7};
+    uint32_t number = jabulghi_look(r, s, length);
+    printf("look %" PRIu32 ": %d %d %d %d %d %d, record", number, s[0], s[1], s[2], s[3], s[4], s[5]);
+    show_record(r);
+}
+
 static void skip(jabulghi_record *r, uint64_t n) {
     uint32_t number = jabulghi_skip(r, n);
     printf("skip %" PRIu64 " %" PRIu32 ": record", n, number);
@@ -87,8 +94,11 @@ int main(void) {
     sample(0, 65536);
     pair(&r);
     pair(&unfit);
+    look(&r, 4);
     block(&r, 0);
     block(&r, 4);
+    look(&r, 5);
+    look(&unfit, 5);
     block(&r, 5);
     block(&unfit, 5);
     skip(&r, 0);
@@ -99,6 +109,8 @@ int main(void) {
     skip(&unfit, UINT64_MAX);
     skip(&both_unfit, 1);
     skip(&r, UINT64_MAX - r.count - 2);
+    look(&r, 6);
+    look(&r, 4);
     block(&r, 6);
     block(&r, 2);
     block(&r, 4);

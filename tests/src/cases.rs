@@ -41,11 +41,12 @@ pub struct Called(pub Record, pub Call);
 #[derive(Clone, Debug)]
 pub struct History(pub Registers, pub usize);
 
-/// The calls that are passed a record: a pair, a block of a length, a skip of n pairs.
+/// The calls that are passed a record: a pair, a block of a length, a look at one, a skip of n pairs.
 #[derive(Clone, Copy, Debug)]
 pub enum Call {
     Pair,
     Block(usize),
+    Look(usize),
     Skip(u64),
 }
 
@@ -55,7 +56,17 @@ impl Call {
         match self {
             Call::Pair => 1,
             Call::Block(length) => length as u64 / 2,
+            Call::Look(_) => 0,
             Call::Skip(n) => n,
+        }
+    }
+
+    /// The elements that it is lent.
+    pub fn length(self) -> usize {
+        match self {
+            Call::Pair => 2,
+            Call::Block(length) | Call::Look(length) => length,
+            Call::Skip(_) => 0,
         }
     }
 
@@ -63,12 +74,13 @@ impl Call {
         match self {
             Call::Pair => library::pair(record),
             Call::Block(length) => library::block(record, length),
+            Call::Look(length) => library::look(record, length),
             Call::Skip(n) => library::skip(record, n),
         }
     }
 
     pub fn other(self, tables: &Tables, record: &Record) -> Answer {
-        let mut out = Lent::marked(if let Call::Block(length) = self { length } else { 0 });
+        let mut out = Lent::marked(self.length());
         let (number, next) = match self {
             Call::Pair => {
                 let (number, samples, next) = stream::pair(tables, record);
@@ -76,6 +88,7 @@ impl Call {
                 (number, next)
             }
             Call::Block(_) => stream::block(tables, record, out.elements_mut()),
+            Call::Look(_) => stream::look(tables, record, out.elements_mut()),
             Call::Skip(n) => jump::skip(record, n),
         };
         (number, lent(&next), out)
@@ -85,6 +98,7 @@ impl Call {
         match self {
             Call::Pair => Vec::new(),
             Call::Block(length) => below(length as u64).into_iter().map(|n| Call::Block(n as usize)).collect(),
+            Call::Look(length) => below(length as u64).into_iter().map(|n| Call::Look(n as usize)).collect(),
             Call::Skip(n) => below(n).into_iter().map(Call::Skip).collect(),
         }
     }

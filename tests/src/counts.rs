@@ -53,7 +53,7 @@ impl Case for Run {
 /// Every call for few pairs, for just as many as fit, for one fewer and one more, and a skip of the most.
 fn calls(count: u64) -> Vec<Call> {
     let fit = u64::MAX - count;
-    let blocks = (0..=5).map(Call::Block);
+    let blocks = (0..=5).flat_map(|length| [Call::Look(length), Call::Block(length)]);
     let skips = [0, 1, 2, 3, fit.saturating_sub(1), fit, fit.saturating_add(1), u64::MAX].map(Call::Skip);
     [Call::Pair].into_iter().chain(blocks).chain(skips).collect()
 }
@@ -81,7 +81,8 @@ fn call(random: &mut Random, fit: u64) -> Call {
     match random.below(20) {
         0..=4 => Call::Pair,
         5 => Call::Block(2 * random.below(3)),
-        6..=10 => Call::Block(random.below(20)),
+        6..=8 => Call::Block(random.below(20)),
+        9..=10 => Call::Look(random.below(20)),
         11 => Call::Block(2 * random.below(300)),
         12..=14 => Call::Skip(random.below(4) as u64),
         15 => Call::Skip(fit - (random.below(4) as u64).min(fit)),

@@ -6,10 +6,11 @@ use crate::stream::{fresh, Registers};
 
 const LEAST: Registers = [2, 8, 16, 2, 8, 16];
 
-/// Seeding, a pair, and blocks of even and odd length and of none. Skips are in skips.rs, counts in counts.rs.
+/// Seeding, a pair, and looks and blocks of even and odd length and of none. Skips are in skips.rs, counts in counts.rs.
 fn calls(tables: &Tables, registers: Registers) {
     same(tables, &Seed(registers));
-    for call in [Call::Pair, Call::Block(0), Call::Block(3), Call::Block(4), Call::Block(100)] {
+    let lengths = [0, 3, 4, 100];
+    for call in [Call::Pair].into_iter().chain(lengths.map(Call::Look)).chain(lengths.map(Call::Block)) {
         same(tables, &Called(fresh(registers), call));
     }
 }
@@ -53,12 +54,14 @@ pub fn lengths(tables: &Tables) -> String {
     let mut count = 0;
     for stretch in [0, 64, 128, 256, 512, 1024, 2048, 4096, 8192] {
         for length in stretch..stretch + 8 {
-            let call = Call::Block(if stretch == 0 { length } else { length - 4 });
-            same(tables, &Called(fresh(LEAST), call));
+            let length = if stretch == 0 { length } else { length - 4 };
+            let (_, _, shown) = same(tables, &Called(fresh(LEAST), Call::Look(length)));
+            let (number, _, samples) = same(tables, &Called(fresh(LEAST), Call::Block(length)));
+            assert!(number != 0 || shown == samples, "a look and a block of {length}");
             count += 1;
         }
     }
-    format!("{count} blocks of lengths around powers of two")
+    format!("{count} blocks and looks of lengths around powers of two")
 }
 
 /// First, second, middle and last place of each quarter.

@@ -7,6 +7,7 @@ extern "C" {
     fn jabulghi_sample(k: u64, v: u32, samples: *mut i16) -> u32;
     fn jabulghi_pair(record: *mut u32, samples: *mut i16) -> u32;
     fn jabulghi_block(record: *mut u32, block: *mut i16, length: usize) -> u32;
+    fn jabulghi_look(record: *const u32, block: *mut i16, length: usize) -> u32;
     fn jabulghi_skip(record: *mut u32, n: u64) -> u32;
 }
 
@@ -120,6 +121,12 @@ pub fn pair(record: &Record) -> Answer {
 pub fn block(record: &Record, length: usize) -> Answer {
     let (mut record, mut block) = (lent(record), Lent::marked(length));
     let number = unsafe { jabulghi_block(record.pointer(), block.pointer(), length) };
+    (number, record, block)
+}
+
+pub fn look(record: &Record, length: usize) -> Answer {
+    let (mut record, mut block) = (lent(record), Lent::marked(length));
+    let number = unsafe { jabulghi_look(record.pointer(), block.pointer(), length) };
     (number, record, block)
 }
 

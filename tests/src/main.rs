@@ -109,6 +109,9 @@ fn blocks(tables: &Tables, random: &mut Random) -> String {
                 5..=8 => (2 << random.below(12)) + random.below(5) - 2,
                 _ => random.below(70),
             };
+            if random.below(4) == 0 {
+                same(tables, &Called(record, Call::Look(length)));
+            }
             let (number, next, _) = same(tables, &Called(record, Call::Block(length)));
             record = record_of(&next);
             count += 1;

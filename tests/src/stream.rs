@@ -94,6 +94,11 @@ pub fn block(tables: &Tables, record: &Record, out: &mut [i16]) -> (u32, Record)
     })
 }
 
+/// A look: a block call on a copy of the record, which stays (document 02, Job 6).
+pub fn look(tables: &Tables, record: &Record, out: &mut [i16]) -> (u32, Record) {
+    (block(tables, record, out).0, *record)
+}
+
 /// A skip, by drawing.
 pub fn drawn_on(record: &Record, n: u64) -> (u32, Record) {
     call(record, 0, n, |registers| (0..n).for_each(|_| step_both(registers)))
