@@ -1,15 +1,15 @@
-// The makers' C interface: each function equals the call below it. A generator record is lent as eight words, a's s0, s1, s2, then b's, then the
-// count's low and high word: the header's struct jabulghi_record.
+// The makers' C interface: each function equals the call below it. A generator record is lent as ten words, a's s0, s1, s2, then b's, then the
+// count's low and high word, then the note, whether a request is open and for how many pairs: the header's struct jabulghi_record.
 ghost use mathlib.Core.Path.{_≡_};
 ghost use Prim.Native.Nat.{_+_, _*_, _<_, _^_};
 ghost use mathlib.Core.List.{[], _∷_};
 ghost use lib.ListN.{length};
-ghost use Rattle.streams.specs.Streams.{seedOf, skipOf};
+ghost use Rattle.streams.specs.Streams.{seedOf, skipOf, askOf, giveUpOf};
 ghost use Rattle.radius.specs.Steps.{numberBits, inverse};
 ghost use Rattle.sample.specs.Steps.{fractionBits};
 ghost use Rattle.sample.specs.Sample.{samplesOf, nineSixteenths};
 ghost use Rattle.exact.specs.Pair.{Close};
-ghost use Rattle.noise.specs.Noise.{pairOf, blockOf, blockHolds, lookOf, lookHolds};
+ghost use Rattle.noise.specs.Noise.{pairOf, blockOf, blockHolds, lookOf, lookHolds, takeOf, takeHolds};
 ghost use Rattle.job.specs.Job.{jobOf, answerOf, bufferAfter};
 ghost use Rattle.jabulghi.specs.Words.{wordsOf, generatorOf, samplesIn};
 use streams::Generator;
@@ -25,8 +25,8 @@ fn joined(low: u32, high: u32) -> u64
     high as u64 * WORD + low as u64
 }
 
-// The record that eight words are.
-fn unpacked(words: [u32; 8]) -> Generator
+// The record that ten words are.
+fn unpacked(words: [u32; 10]) -> Generator
     ensures { λ r. ⌜ r ≡ generatorOf words ⌝ }
 {
     let a = Stream {
@@ -40,16 +40,33 @@ fn unpacked(words: [u32; 8]) -> Generator
         s2: words[5],
     };
     let count = joined(words[6], words[7]);
-    Generator { a, b, count }
+    Generator {
+        a,
+        b,
+        count,
+        waiting: words[8],
+        asked: words[9],
+    }
 }
 
-// The eight words of a record.
-fn packed(g: Generator) -> [u32; 8]
+// The ten words of a record.
+fn packed(g: Generator) -> [u32; 10]
     ensures { λ r. ⌜ r ≡ wordsOf g ⌝ }
 {
     let low = (g.count % WORD) as u32;
     let high = (g.count / WORD) as u32;
-    [g.a.s0, g.a.s1, g.a.s2, g.b.s0, g.b.s1, g.b.s2, low, high]
+    [
+        g.a.s0,
+        g.a.s1,
+        g.a.s2,
+        g.b.s0,
+        g.b.s1,
+        g.b.s2,
+        low,
+        high,
+        g.waiting,
+        g.asked,
+    ]
 }
 
 // Seeds a record.
@@ -61,7 +78,7 @@ pub extern "C" fn jabulghi_seed(
     b0: u32,
     b1: u32,
     b2: u32,
-    words: &mut [u32; 8],
+    words: &mut [u32; 10],
 ) -> u32
     ensures { λ r. ⌜ r ≡ seedOf a0 a1 a2 b0 b1 b2 .number ⌝ }
     ensures { λ _. ⌜ now (words .exit) ≡ wordsOf (seedOf a0 a1 a2 b0 b1 b2 .next) ⌝ }
@@ -87,7 +104,7 @@ pub extern "C" fn jabulghi_sample(k: u64, v: u32, samples: &mut [i16; 2]) -> u32
 // One pair of samples from a record. (`noise::pair` written out: its record then stays in registers, and calls one after another
 // overlap.)
 #[no_mangle]
-pub extern "C" fn jabulghi_pair(words: &mut [u32; 8], samples: &mut [i16; 2]) -> u32
+pub extern "C" fn jabulghi_pair(words: &mut [u32; 10], samples: &mut [i16; 2]) -> u32
     ensures { λ r. ⌜ r ≡ pairOf (generatorOf (now (words .entry))) .number ⌝ }
     ensures { λ _. ⌜ now (samples .exit) ≡ samplesIn (pairOf (generatorOf (now (words .entry)))) ⌝ }
     ensures { λ _. ⌜ now (words .exit) ≡ wordsOf (pairOf (generatorOf (now (words .entry))) .next) ⌝ }
@@ -103,7 +120,7 @@ pub extern "C" fn jabulghi_pair(words: &mut [u32; 8], samples: &mut [i16; 2]) ->
 
 // A block of samples from a record, first and second alternating.
 #[no_mangle]
-pub extern "C" fn jabulghi_block(words: &mut [u32; 8], block: &mut [i16]) -> u32
+pub extern "C" fn jabulghi_block(words: &mut [u32; 10], block: &mut [i16]) -> u32
     ensures { λ r. ⌜ r ≡ blockOf (generatorOf (now (words .entry))) (length (now (block .entry))) .number ⌝ }
     ensures { λ _. ⌜ now (block .exit) ≡ blockHolds (generatorOf (now (words .entry))) (now (block .entry)) ⌝ }
     ensures { λ _. ⌜ now (words .exit) ≡ wordsOf (blockOf (generatorOf (now (words .entry))) (length (now (block .entry))) .next) ⌝ }
@@ -117,7 +134,7 @@ pub extern "C" fn jabulghi_block(words: &mut [u32; 8], block: &mut [i16]) -> u32
 
 // A look at the block that would come next. The record is lent to be read alone.
 #[no_mangle]
-pub extern "C" fn jabulghi_look(words: &[u32; 8], block: &mut [i16]) -> u32
+pub extern "C" fn jabulghi_look(words: &[u32; 10], block: &mut [i16]) -> u32
     ensures { λ r. ⌜ r ≡ lookOf (generatorOf (now (words .entry))) (length (now (block .entry))) .number ⌝ }
     ensures { λ _. ⌜ now (block .exit) ≡ lookHolds (generatorOf (now (words .entry))) (now (block .entry)) ⌝ }
 {
@@ -128,7 +145,7 @@ pub extern "C" fn jabulghi_look(words: &[u32; 8], block: &mut [i16]) -> u32
 
 // A record n pairs on.
 #[no_mangle]
-pub extern "C" fn jabulghi_skip(words: &mut [u32; 8], n: u64) -> u32
+pub extern "C" fn jabulghi_skip(words: &mut [u32; 10], n: u64) -> u32
     ensures { λ r. ⌜ r ≡ skipOf (generatorOf (now (words .entry))) n .number ⌝ }
     ensures { λ _. ⌜ now (words .exit) ≡ wordsOf (skipOf (generatorOf (now (words .entry))) n .next) ⌝ }
 {
@@ -137,6 +154,46 @@ pub extern "C" fn jabulghi_skip(words: &mut [u32; 8], n: u64) -> u32
     let after_skip = skipped.next;
     *words = packed(after_skip);
     skipped.number
+}
+
+// Notes a request for n pairs.
+#[no_mangle]
+pub extern "C" fn jabulghi_ask(words: &mut [u32; 10], n: u32) -> u32
+    ensures { λ r. ⌜ r ≡ askOf (generatorOf (now (words .entry))) n .number ⌝ }
+    ensures { λ _. ⌜ now (words .exit) ≡ wordsOf (askOf (generatorOf (now (words .entry))) n .next) ⌝ }
+{
+    let g = unpacked(*words);
+    let asked = g.ask(n);
+    let after_ask = asked.next;
+    *words = packed(after_ask);
+    asked.number
+}
+
+// The samples that were asked for.
+#[no_mangle]
+pub extern "C" fn jabulghi_take(words: &mut [u32; 10], block: &mut [i16]) -> u32
+    ensures { λ r. ⌜ r ≡ takeOf (generatorOf (now (words .entry))) (length (now (block .entry))) .number ⌝ }
+    ensures { λ _. ⌜ now (block .exit) ≡ takeHolds (generatorOf (now (words .entry))) (now (block .entry)) ⌝ }
+    ensures { λ _. ⌜ now (words .exit) ≡ wordsOf (takeOf (generatorOf (now (words .entry))) (length (now (block .entry))) .next) ⌝ }
+{
+    let g = unpacked(*words);
+    let taken = noise::take(g, block);
+    let after_take = taken.next;
+    *words = packed(after_take);
+    taken.number
+}
+
+// Clears the request.
+#[no_mangle]
+pub extern "C" fn jabulghi_give_up(words: &mut [u32; 10]) -> u32
+    ensures { λ r. ⌜ r ≡ giveUpOf (generatorOf (now (words .entry))) .number ⌝ }
+    ensures { λ _. ⌜ now (words .exit) ≡ wordsOf (giveUpOf (generatorOf (now (words .entry))) .next) ⌝ }
+{
+    let g = unpacked(*words);
+    let given_up = g.give_up();
+    let after_request = given_up.next;
+    *words = packed(after_request);
+    given_up.number
 }
 
 // The listing of a job, and the line and the listing's length besides.

@@ -1,51 +1,63 @@
 -- Laws of pairs and of the samples of n pairs.
 use mathlib.Core.Path.{_≡_, refl, sym, ap, _∙_}
-use mathlib.Core.Bool.{Bool, true, false}
 use mathlib.Core.List.{List, [], _∷_, _++_}
 use mathlib.Core.Logic.{_↔_}
 use Prim.Native.Nat.{ℕ, zero, suc, _+_, _*_, _/_, _%_, _^_, _≤_, _<_}
 use native.Mathlib.Nat.{zero-add, suc-add}
 use native.Mathlib.Omega.{arith}
-use borrow.Author.Tests.{lt-leb, le-ltb, eqb-true, eqb-false}
-use lib.Dec.{eqb}
+use borrow.Author.Tests.{lt-leb, le-ltb}
 use lib.IntN.{ℤ}
 use lib.ListN.{length}
 use Rattle.streams.specs.declared.Generator.{Generator}
 use Rattle.streams.specs.declared.Uniforms.{Uniforms}
-use Rattle.streams.specs.Streams.{advance, output, recordNumber, mostCount, countNumber, pairsNumber, uniformsOf, after}
+use Rattle.streams.specs.Streams.{advance, output, noted, cleared, recordNumber, mostAsked, mostCount, noteNumber, ownNumber, roomNumber}
+use Rattle.streams.specs.Streams.{numberOf, pairsNumber, uniformsOf, after}
+use Rattle.streams.specs.Streams.Call.{a-skip, a-block, a-take}
 use Rattle.streams.specs.Recurrence.{Sound, moved}
 use Rattle.streams.proofs.Theorems.{sound-accepted, pairs-accepted, moved-sound, uniforms-accepted, next-sound, numbers-bounded}
-use Rattle.streams.proofs.Causes.{none-applies, count-room}
+use Rattle.streams.proofs.Causes.{accepted-causes, one-open, just-taken, even-length, count-room}
 use Rattle.squares.specs.Squares.{repeat}
 use Rattle.lanes.specs.Lanes.{words}
 use Rattle.lanes.proofs.Theorems.{word-is-pair}
 use Rattle.sample.specs.Sample.{samplesOf, firstOf, secondOf}
 use Rattle.sample.specs.Sample.{samplesAt}
-use Rattle.noise.specs.Noise.{pairOf, samples, lengthNumber, blockNumber}
+use Rattle.noise.specs.Noise.{pairOf, samples, blockNumber}
 use Rattle.noise.specs.Private.{numbers}
 
--- ---- Causes
-
-even : (n : ℕ) → (lengthNumber n ≡ 0) ↔ (n % 2 ≡ 0)
-unfolding lengthNumber
-even n = by-length (eqb (n % 2) 0) refl
-  where
-    by-length : (t : Bool) → eqb (n % 2) 0 ≡ t → (lengthNumber n ≡ 0) ↔ (n % 2 ≡ 0)
-    by-length true e = (λ h. eqb-true (n % 2) 0 e, λ h. rw (lengthNumber, e))
-    by-length false e = (λ h. absurd (omega (arith, rw (lengthNumber, e) at h)), λ h. absurd (eqb-false (n % 2) 0 e h))
+-- ---- Which blocks are accepted
 
 -- A block is accepted just where its length is even and its pairs are.
 pub block-accepted : (g : Generator) (n : ℕ) → (blockNumber g n ≡ 0) ↔ ((pairsNumber g (n / 2) ≡ 0) × (n % 2 ≡ 0))
-unfolding blockNumber pairsNumber
+unfolding noteNumber ownNumber roomNumber
 block-accepted g n = (
   λ h.
-      let (fits, rest) = none-applies (recordNumber g) (lengthNumber n ∷ countNumber g (n / 2) ∷ []) h in
-      let (whole, last) = none-applies (lengthNumber n) (countNumber g (n / 2) ∷ []) rest in
-      (rw (pairsNumber, fits) last, even n .0 whole),
+      let (fits, note, own, room) = accepted-causes (a-block n) g .0 h in
+      (accepted-causes (a-skip (n / 2)) g .1 (fits, note, refl, room), even-length n .0 own),
   λ h.
-      let (fits, room) = pairs-accepted g (n / 2) .0 (h .0) in
-      rw (fits, even n .1 (h .1), count-room g (n / 2) .1 room),
+      let (fits, note, own, room) = accepted-causes (a-skip (n / 2)) g .0 (h .0) in
+      accepted-causes (a-block n) g .1 (fits, note, even-length n .1 (h .1), room),
 )
+
+-- A take is accepted just where the streams are fit, a request is open, the block has two samples for each of its pairs, and these are at most the
+-- most and have room in the count;
+pub take-accepted : (g : Generator) (n : ℕ)
+    → (numberOf (a-take n) g ≡ 0)
+    ↔ ((recordNumber g ≡ 0) × (g .waiting ≡ 0 → ⊥) × (g .asked ≤ mostAsked) × (n ≡ 2 * g .asked) × (g .count + g .asked ≤ mostCount))
+unfolding noteNumber ownNumber roomNumber
+take-accepted g n = (
+  λ h.
+      let (fits, note, own, room) = accepted-causes (a-take n) g .0 h in
+      let (few, just) = just-taken g n .0 own in
+      (fits, one-open g .0 note, few, just, count-room g (g .asked) .0 room),
+  λ h. accepted-causes (a-take n) g .1 (h .0, one-open g .1 (h .1), just-taken g n .1 (h .2, h .3), count-room g (g .asked) .1 (h .4)),
+)
+
+-- its pairs are then accepted on the record with its note cleared.
+pub taken-pairs : (g : Generator) (n : ℕ) → numberOf (a-take n) g ≡ 0 → pairsNumber (cleared g) (g .asked) ≡ 0
+unfolding recordNumber
+taken-pairs g n e =
+    let (fits, _, _, _, room) = take-accepted g n .0 e in
+    pairs-accepted (cleared g) (g .asked) .1 (fits, room, refl)
 
 -- ---- One pair
 
@@ -68,17 +80,17 @@ length-samples (suc n) g = let ih = length-samples n (pairOf g .next) in omega a
 
 -- ---- The numbers behind the samples
 
--- They are the words of both streams side by side, where the count has room.
-pub numbers-words : (n : ℕ) (g : Generator) → Sound g → g .count + n ≤ mostCount → numbers n g ≡ words n (g .a) (g .b)
+-- They are the words of both streams side by side, where no request is open and the count has room.
+pub numbers-words : (n : ℕ) (g : Generator) → Sound g → g .waiting ≡ 0 → g .count + n ≤ mostCount → numbers n g ≡ words n (g .a) (g .b)
 unfolding numbers words repeat
-numbers-words zero g h room = refl
-numbers-words (suc n) g h room =
-    let accepted : pairsNumber g 1 ≡ 0 = pairs-accepted g 1 .1 (sound-accepted g h, omega arith) in
+numbers-words zero g h none room = refl
+numbers-words (suc n) g h none room =
+    let accepted : pairsNumber g 1 ≡ 0 = pairs-accepted g 1 .1 (sound-accepted g h, omega arith, none) in
     let a = output (advance (g .a)) in
     let b = output (advance (g .b)) in
     let number : ℕ = (a * 65536 + b / 65536) * 65536 + b % 65536 in
     rw (uniforms-accepted g accepted, word-is-pair (advance (g .a)) (advance (g .b)))
-    (ap (λ (l : List ℕ). number ∷ l) (numbers-words n (moved 1 g) (moved-sound 1 g h) (omega arith)))
+    (ap (λ (l : List ℕ). number ∷ l) (numbers-words n (moved 1 g) (moved-sound 1 g h) none (omega arith)))
 
 pub length-numbers : (n : ℕ) (g : Generator) → length (numbers n g) ≡ n
 unfolding numbers
@@ -104,16 +116,25 @@ pair-is g h e =
     let accepted : uniformsOf g .number ≡ 0 = ap (λ (u : Uniforms). u .number) (uniforms-accepted g e) in
     rw (pairOf, accepted, accepts (uniformsOf g .k) (uniformsOf g .v) hk hv)
 
--- Where the count has room for n pairs, the samples are those of their numbers.
-pub samples-numbers : (n : ℕ) (g : Generator) → Sound g → g .count + n ≤ mostCount → samples n g ≡ samplesAt (numbers n g)
+-- The samples are then those of their numbers.
+pub samples-numbers : (n : ℕ) (g : Generator) → Sound g → g .waiting ≡ 0 → g .count + n ≤ mostCount
+    → samples n g ≡ samplesAt (numbers n g)
 unfolding samples numbers samplesAt
-samples-numbers zero g h room = refl
-samples-numbers (suc n) g h room =
+samples-numbers zero g h none room = refl
+samples-numbers (suc n) g h none room =
     let (hk, hv) = numbers-bounded g h in
     let high : (uniformsOf g .k * 65536 + uniformsOf g .v) / 65536 ≡ uniformsOf g .k = omega (arith, hv) in
     let low : (uniformsOf g .k * 65536 + uniformsOf g .v) % 65536 ≡ uniformsOf g .v = omega (arith, hv) in
-    let accepted : pairsNumber g 1 ≡ 0 = pairs-accepted g 1 .1 (sound-accepted g h, omega arith) in
+    let accepted : pairsNumber g 1 ≡ 0 = pairs-accepted g 1 .1 (sound-accepted g h, omega arith, none) in
     let next-is : uniformsOf g .next ≡ moved 1 g = ap (λ (u : Uniforms). u .next) (uniforms-accepted g accepted) in
     rw (pair-is g h accepted, high, low)
     (ap (λ (l : List ℤ). firstOf (uniformsOf g .k) (uniformsOf g .v) ∷ secondOf (uniformsOf g .k) (uniformsOf g .v) ∷ l)
-    (samples-numbers n (uniformsOf g .next) (next-sound g h) (rw next-is (omega arith))))
+    (samples-numbers n (uniformsOf g .next) (next-sound g h) (rw next-is none) (rw next-is (omega arith))))
+
+-- So they are the same whatever a record notes, where no request is open.
+pub samples-noted : (n asked : ℕ) (g : Generator) → Sound g → g .waiting ≡ 0 → g .count + n ≤ mostCount
+    → samples n (noted g 0 asked) ≡ samples n g
+samples-noted n asked g h none room =
+    let same : Sound (noted g 0 asked) = record { range-a = h .range-a; range-b = h .range-b; minima-a = h .minima-a; minima-b = h .minima-b } in
+    rw (samples-numbers n (noted g 0 asked) same refl room, numbers-words n (noted g 0 asked) same refl room)
+    (sym (rw (samples-numbers n g h none room, numbers-words n g h none room)))

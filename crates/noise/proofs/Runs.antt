@@ -1,9 +1,9 @@
 -- What is proved of runs of calls: the count, what a call may be refused for, and that every pair is L'Ecuyer's. `Sound g` says that
--- the streams of g are fit and its registers have 32 bits.
+-- the streams of g are fit and its registers have 32 bits; `cleared g` is g without its note.
 use mathlib.Core.Path.{_≡_, refl, sym, ap, _∙_}
 use mathlib.Core.Bool.{Bool, true, false, cond}
 use mathlib.Core.List.{List, [], _∷_}
-use mathlib.Core.Logic.{_↔_}
+use mathlib.Core.Logic.{_↔_, _⊎_, inl, inr}
 use Prim.Native.Nat.{ℕ, suc, _+_, _*_, _/_, _%_, _≤_, _<_}
 use native.Mathlib.Nat.{add-zero, zero-add}
 use native.Mathlib.Omega.{arith}
@@ -12,39 +12,41 @@ use borrow.Author.Tests.{eqb-true, eqb-false, ne-eqb}
 use Rattle.squares.specs.Squares.{repeat}
 use Rattle.streams.specs.declared.Stream.{Stream}
 use Rattle.streams.specs.declared.Generator.{Generator}
-use Rattle.streams.specs.Streams.{fresh, recordNumber, mostCount, countNumber, firstCause, ifAccepted, pairsNumber, uniformsOf, after, skipOf}
+use Rattle.streams.specs.declared.RecordAnswer.{RecordAnswer}
+use Rattle.streams.specs.Streams.{advance, fresh, noted, cleared, recordNumber, openNumber, noneOpenNumber, mostCount, countNumber, firstCause, ifAccepted}
+use Rattle.streams.specs.Streams.{Call, noteNumber, ownNumber, roomNumber, numberOf, pairsNumber, uniformsOf, after, skipOf, askOf, giveUpOf}
+use Rattle.streams.specs.Streams.Call.{numbers, a-pair, a-skip, a-block, a-look, an-ask, a-take, give-up}
 use Rattle.streams.specs.Recurrence.{InRange, Sound, moved, drawAt, seedFrom}
-use Rattle.streams.proofs.Causes.{lone-cause, none-applies, count-room, count-full}
-use Rattle.streams.proofs.Theorems.{sound, sound-accepted, seeded, seeded-range, fit-number, moved-sound, moved-add, after-moved, numbers-are}
-use Rattle.noise.specs.Noise.{pairOf, lengthNumber, blockNumber, blockOf}
-use Rattle.noise.specs.Runs.{Call, numberOf, nextOf, run, sumOver, pairsIn, pairsOut, handed, ownNumber}
-use Rattle.noise.specs.Runs.Call.{numbers, a-pair, a-block, a-look, a-skip}
+use Rattle.streams.proofs.Causes.{lone-cause, accepted-causes, none-open, just-taken, count-room, count-full}
+use Rattle.streams.proofs.Theorems.{sound, sound-accepted, sound-cleared, seeded, seeded-range, fit-call, moved-sound, moved-add, after-moved, numbers-are}
+use Rattle.streams.proofs.Theorems.{uniforms-accepted, next-draw}
+use Rattle.noise.specs.Noise.{pairOf, blockOf, lookOf, takeOf}
+use Rattle.noise.specs.Runs.{returned, run, sumOver, pairsOut, handed}
 
 -- ---- One call
 
--- A call on fit streams is refused for its own arguments, then for the count, and for nothing else.
-pub fit-call : (c : Call) (g : Generator) → Sound g → numberOf c g ≡ firstCause (ownNumber c ∷ countNumber g (pairsIn c) ∷ [])
-unfolding numberOf uniformsOf pairOf blockOf blockNumber skipOf ownNumber pairsIn
-fit-call numbers g h = fit-number g 1 h ∙ sym (lone-cause _)
-fit-call a-pair g h = fit-number g 1 h ∙ sym (lone-cause _)
-fit-call (a-block n) g h = rw (sound-accepted g h)
-fit-call (a-look n) g h = rw (sound-accepted g h)
-fit-call (a-skip n) g h = fit-number g n h ∙ sym (lone-cause _)
+-- Every call returns the number of the one chain of tests.
+pub returned-number : (c : Call) (g : Generator) → returned c g .number ≡ numberOf c g
+unfolding returned uniformsOf pairOf skipOf blockOf lookOf askOf takeOf giveUpOf numberOf noteNumber ownNumber roomNumber recordNumber openNumber countNumber
+returned-number numbers g = refl
+returned-number a-pair g = refl
+returned-number (a-skip n) g = refl
+returned-number (a-block n) g = refl
+returned-number (a-look n) g = refl
+returned-number (an-ask n) g = refl
+returned-number (a-take n) g = refl
+returned-number give-up g = refl
 
--- No call hands out more than it asks for, so that an accepted one has room for it.
-out-of-in : (c : Call) → pairsOut c ≤ pairsIn c
-unfolding pairsIn pairsOut
-out-of-in numbers = omega arith
-out-of-in a-pair = omega arith
-out-of-in (a-block n) = omega arith
-out-of-in (a-look n) = omega arith
-out-of-in (a-skip n) = omega arith
-
-pub accepted-room : (c : Call) (g : Generator) → Sound g → numberOf c g ≡ 0 → g .count + pairsOut c ≤ mostCount
-accepted-room c g h e =
-    let (own, rest) = none-applies (ownNumber c) (countNumber g (pairsIn c) ∷ []) (sym (fit-call c g h) ∙ e) in
-    let room = count-room g (pairsIn c) .0 (sym (lone-cause _) ∙ rest) in
-    omega (arith, out-of-in c, room)
+-- The record that an accepted call leaves.
+unfoldable pub leftBy : Call → Generator → Generator
+leftBy numbers g = after 1 g
+leftBy a-pair g = after 1 g
+leftBy (a-skip n) g = after n g
+leftBy (a-block n) g = after (n / 2) g
+leftBy (a-look n) g = g
+leftBy (an-ask n) g = noted g 1 n
+leftBy (a-take n) g = after (g .asked) (cleared g)
+leftBy give-up g = cleared g
 
 once-or-not : (t : Bool) (x y : Generator) → cond t x y ≡ cond t (cond t x y) y
 once-or-not true x y = refl
@@ -54,53 +56,80 @@ same-or-same : (t : Bool) (x : Generator) → x ≡ cond t x x
 same-or-same true x = refl
 same-or-same false x = refl
 
--- A call returns the record as many pairs on as it hands out or skips, or, refused, the record passed in.
-pub next-is : (c : Call) (g : Generator) → nextOf c g ≡ ifAccepted (numberOf c g) (after (pairsOut c) g) g
-unfolding nextOf numberOf pairsOut uniformsOf pairOf blockOf skipOf after
+-- Refused, it returns the record passed in.
+pub next-is : (c : Call) (g : Generator) → returned c g .next ≡ ifAccepted (numberOf c g) (leftBy c g) g
+unfolding returned leftBy numberOf noteNumber ownNumber roomNumber uniformsOf pairOf skipOf blockOf lookOf askOf takeOf giveUpOf after
 next-is numbers g = once-or-not (eqb (pairsNumber g 1) 0) _ _
 next-is a-pair g = once-or-not (eqb (pairsNumber g 1) 0) _ _
-next-is (a-block n) g = refl
-next-is (a-look n) g = same-or-same (eqb (blockNumber g n) 0) g
 next-is (a-skip n) g = refl
+next-is (a-block n) g = refl
+next-is (a-look n) g = same-or-same (eqb (numberOf (a-look n) g) 0) g
+next-is (an-ask n) g = refl
+next-is (a-take n) g = refl
+next-is give-up g = refl
 
--- A call on fit streams moves both streams and the count by the pairs that it hands out or skips.
-pub call-moves : (c : Call) (g : Generator) → Sound g → nextOf c g ≡ moved (handed c g) g
-unfolding handed repeat
-call-moves c g h = next-is c g ∙ by-test (eqb (numberOf c g) 0) refl
+-- Accepted, it leaves both streams and the count moved by the pairs that it hands out or skips.
+left-moved : (c : Call) (g : Generator) → Sound g → numberOf c g ≡ 0 → cleared (leftBy c g) ≡ moved (pairsOut c g) (cleared g)
+unfolding leftBy pairsOut noteNumber roomNumber repeat
+left-moved c g h e = by-call c (accepted-causes c g .0 e)
   where
-    by-test : (t : Bool) → eqb (numberOf c g) 0 ≡ t → cond t (after (pairsOut c) g) g ≡ moved (cond t (pairsOut c) 0) g
-    by-test true e = after-moved (pairsOut c) g h (accepted-room c g h (eqb-true _ _ e))
+    drawn : (n : ℕ) → openNumber g ≡ 0 → countNumber g n ≡ 0 → cleared (after n g) ≡ moved n (cleared g)
+    drawn n note room = ap cleared (after-moved n g h (none-open g .0 note) (count-room g n .0 room))
+
+    still : cleared g ≡ moved 0 (cleared g)
+    still = rw (add-zero (g .count))
+
+    by-call : (c : Call) → (recordNumber g ≡ 0) × (noteNumber c g ≡ 0) × (ownNumber c g ≡ 0) × (roomNumber c g ≡ 0)
+        → cleared (leftBy c g) ≡ moved (pairsOut c g) (cleared g)
+    by-call numbers a = drawn 1 (a .1) (a .3)
+    by-call a-pair a = drawn 1 (a .1) (a .3)
+    by-call (a-skip n) a = drawn n (a .1) (a .3)
+    by-call (a-block n) a = drawn (n / 2) (a .1) (a .3)
+    by-call (a-look n) a = still
+    by-call (an-ask n) a = still
+    by-call (a-take n) a =
+        ap cleared (after-moved (g .asked) (cleared g) (sound-cleared g .0 h) refl (count-room g (g .asked) .0 (a .3)))
+    by-call give-up a = still
+
+-- So every call on fit streams does, refused ones by none.
+pub call-moves : (c : Call) (g : Generator) → Sound g → cleared (returned c g .next) ≡ moved (handed c g) (cleared g)
+unfolding handed repeat
+call-moves c g h = ap cleared (next-is c g) ∙ by-test (eqb (numberOf c g) 0) refl
+  where
+    by-test : (t : Bool) → eqb (numberOf c g) 0 ≡ t
+        → cleared (cond t (leftBy c g) g) ≡ moved (cond t (pairsOut c g) 0) (cleared g)
+    by-test true e = left-moved c g h (eqb-true _ _ e)
     by-test false e = rw (add-zero (g .count))
 
-pub call-sound : (c : Call) (g : Generator) → Sound g → Sound (nextOf c g)
-call-sound c g h = rw (call-moves c g h) (moved-sound (handed c g) g h)
+pub call-sound : (c : Call) (g : Generator) → Sound g → Sound (returned c g .next)
+call-sound c g h =
+    sound-cleared _ .1 (rw (call-moves c g h) (moved-sound (handed c g) (cleared g) (sound-cleared g .0 h)))
 
 -- A call on unfit streams is refused with the record's number,
 pub unfit-call : (c : Call) (g : Generator) → (recordNumber g ≡ 0 → ⊥) → numberOf c g ≡ recordNumber g
-unfolding numberOf uniformsOf pairOf blockOf blockNumber skipOf pairsNumber
-unfit-call numbers g h = rw (ne-eqb (recordNumber g) 0 h)
-unfit-call a-pair g h = rw (ne-eqb (recordNumber g) 0 h)
-unfit-call (a-block n) g h = rw (ne-eqb (recordNumber g) 0 h)
-unfit-call (a-look n) g h = rw (ne-eqb (recordNumber g) 0 h)
-unfit-call (a-skip n) g h = rw (ne-eqb (recordNumber g) 0 h)
+unfolding numberOf
+unfit-call c g h = rw (ne-eqb (recordNumber g) 0 h)
 
 -- hands out nothing and leaves the record.
-unfit-stays : (c : Call) (g : Generator) → (recordNumber g ≡ 0 → ⊥) → (nextOf c g ≡ g) × (handed c g ≡ 0)
+unfit-stays : (c : Call) (g : Generator) → (recordNumber g ≡ 0 → ⊥) → (returned c g .next ≡ g) × (handed c g ≡ 0)
 unfolding handed
 unfit-stays c g h = (next-is c g ∙ rw (unfit-call c g h, ne-eqb _ _ h), rw (unfit-call c g h, ne-eqb _ _ h))
 
 -- ---- Runs of calls, each passed what the one before returned
 
 -- After any run both streams and the count have moved by the pairs that the accepted calls of the run handed out or skipped.
-pub run-moved : (l : List Call) (g : Generator) → Sound g → run l g ≡ moved (sumOver handed l g) g
+pub run-moved : (l : List Call) (g : Generator) → Sound g → cleared (run l g) ≡ moved (sumOver handed l g) (cleared g)
 unfolding run sumOver repeat
 run-moved [] g h = rw (add-zero (g .count))
 run-moved (c ∷ l) g h =
-    let rest = sumOver handed l (nextOf c g) in
-    run-moved l (nextOf c g) (call-sound c g h) ∙ ap (moved rest) (call-moves c g h) ∙ moved-add (handed c g) rest g
+    let rest = sumOver handed l (returned c g .next) in
+    run-moved l (returned c g .next) (call-sound c g h)
+    ∙ ap (moved rest) (call-moves c g h)
+    ∙ moved-add (handed c g) rest (cleared g)
 
 pub run-sound : (l : List Call) (g : Generator) → Sound g → Sound (run l g)
-run-sound l g h = rw (run-moved l g h) (moved-sound (sumOver handed l g) g h)
+run-sound l g h =
+    sound-cleared _ .1 (rw (run-moved l g h) (moved-sound (sumOver handed l g) (cleared g) (sound-cleared g .0 h)))
 
 -- A run on unfit streams leaves the record, and hands out nothing.
 run-unfit : (l : List Call) (g : Generator) → (recordNumber g ≡ 0 → ⊥) → (run l g ≡ g) × (sumOver handed l g ≡ 0)
@@ -125,26 +154,32 @@ run-count l g ra rb = by-test (eqb (recordNumber g) 0) refl
 pub count-from-seeding : (a b : Stream) → InRange a → InRange b → (l : List Call)
     → run l (seedFrom a b .next) .count ≡ sumOver handed l (seedFrom a b .next)
 count-from-seeding a b ra rb l =
-    let (na, nb, zero-count) = seeded-range a b ra rb in
+    let (na, nb, zero-count, _, _) = seeded-range a b ra rb in
     run-count l (seedFrom a b .next) na nb ∙ rw (zero-count, zero-add (sumOver handed l (seedFrom a b .next)))
 
--- A generator once accepted is later refused only for the call's own arguments, or for its count,
+-- A generator once accepted is later refused only for its note, for the call's own arguments, or for its count,
 pub never-refused : (l : List Call) (c : Call) (g : Generator) → Sound g
-    → numberOf c (run l g) ≡ firstCause (ownNumber c ∷ countNumber (run l g) (pairsIn c) ∷ [])
+    → numberOf c (run l g) ≡ firstCause (noteNumber c (run l g) ∷ ownNumber c (run l g) ∷ roomNumber c (run l g) ∷ [])
 never-refused l c g h = fit-call c (run l g) (run-sound l g h)
 
 -- for its count just where the sum would pass the most;
-pub full-just-where : (l : List Call) (c : Call) (g : Generator) → Sound g → ownNumber c ≡ 0
-    → (numberOf c (run l g) ≡ 13) ↔ (mostCount < g .count + sumOver handed l g + pairsIn c)
-full-just-where l c g h own =
-    let number-is : numberOf c (run l g) ≡ countNumber (run l g) (pairsIn c)
-    = never-refused l c g h ∙ rw own (lone-cause _) in
-    rw (number-is, ← run-count l g (h .range-a) (h .range-b)) (count-full (run l g) (pairsIn c))
+pub full-just-where : (l : List Call) (c : Call) (g : Generator) (n : ℕ) → Sound g
+    → noteNumber c (run l g) ≡ 0 → ownNumber c (run l g) ≡ 0 → roomNumber c (run l g) ≡ countNumber (run l g) n
+    → (numberOf c (run l g) ≡ 13) ↔ (mostCount < g .count + sumOver handed l g + n)
+full-just-where l c g n h note own room =
+    let number-is : numberOf c (run l g) ≡ countNumber (run l g) n
+    = never-refused l c g h ∙ rw (note, own, room) (lone-cause _) in
+    rw (number-is, ← run-count l g (h .range-a) (h .range-b)) (count-full (run l g) n)
 
 -- and so from seeding on: once six numbers are accepted, every call of every run.
 pub from-seeding : (a b : Stream) → InRange a → InRange b → seedFrom a b .number ≡ 0
     → (l : List Call) (c : Call)
-    → numberOf c (run l (seedFrom a b .next)) ≡ firstCause (ownNumber c ∷ countNumber (run l (seedFrom a b .next)) (pairsIn c) ∷ [])
+    → numberOf c (run l (seedFrom a b .next))
+    ≡ firstCause
+    (noteNumber c (run l (seedFrom a b .next))
+    ∷ ownNumber c (run l (seedFrom a b .next))
+    ∷ roomNumber c (run l (seedFrom a b .next))
+    ∷ [])
 from-seeding a b ra rb h l c =
     let (is-fresh, is-sound) = seeded a b ra rb h in
     rw is-fresh (never-refused l c (fresh a b) is-sound)
@@ -157,14 +192,15 @@ pub pair-history : (l : List Call) (g : Generator) → Sound g → numberOf numb
     → (uniformsOf (run l g) .k
     ≡ drawAt (g .a) (suc (sumOver handed l g)) * 65536 + drawAt (g .b) (suc (sumOver handed l g)) / 65536)
     × (uniformsOf (run l g) .v ≡ drawAt (g .b) (suc (sumOver handed l g)) % 65536)
-unfolding pairsOut
+unfolding numberOf noteNumber ownNumber roomNumber
 pair-history l g h e =
-    let room = accepted-room numbers (run l g) (run-sound l g h) e in
-    let here : g .count + sumOver handed l g < mostCount = omega (arith, room, run-count l g (h .range-a) (h .range-b)) in
-    rw (run-moved l g h) (numbers-are (sumOver handed l g) g h here)
+    let n = sumOver handed l g in
+    let a-is : run l g .a ≡ repeat advance n (g .a) = ap (λ (r : Generator). r .a) (run-moved l g h) in
+    let b-is : run l g .b ≡ repeat advance n (g .b) = ap (λ (r : Generator). r .b) (run-moved l g h) in
+    rw (uniforms-accepted (run l g) e, a-is, b-is, next-draw n (g .a), next-draw n (g .b)) (refl, refl)
 
 -- Pair n + 1 of a block has draw n + 1 of both streams.
-pub block-history : (n : ℕ) (g : Generator) → Sound g → g .count + n < mostCount
+pub block-history : (n : ℕ) (g : Generator) → Sound g → g .waiting ≡ 0 → g .count + n < mostCount
     → (uniformsOf (after n g) .k ≡ drawAt (g .a) (suc n) * 65536 + drawAt (g .b) (suc n) / 65536)
     × (uniformsOf (after n g) .v ≡ drawAt (g .b) (suc n) % 65536)
-block-history n g h room = rw (after-moved n g h (omega arith)) (numbers-are n g h room)
+block-history n g h none room = rw (after-moved n g h none (omega arith)) (numbers-are n g h none room)

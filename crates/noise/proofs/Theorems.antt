@@ -23,7 +23,7 @@ use Rattle.sample.specs.Readings.{Reading, readings, readings-hold}
 use Rattle.sample.specs.declared.Samples.{Samples}
 use Rattle.sample.proofs.Closeness.{samples-close}
 use Rattle.sample.proofs.Theorems.{theorems}
-use Rattle.noise.specs.Noise.{pairOf, samples, blockNumber, blockOf, blockHolds, lookOf, lookHolds}
+use Rattle.noise.specs.Noise.{pairOf, samples, blockNumber, blockOf, blockHolds}
 use Rattle.noise.specs.Readings.{Check, of-samples, of-draw, AllHold, twelve}
 use Rattle.noise.proofs.Laws.{block-accepted, pair-number, pair-is, samples-add, length-samples}
 
@@ -38,20 +38,20 @@ block-holds g old e = rw (blockHolds, e)
 pub block-moves : (g : Generator) (n : ℕ) → Sound g → blockNumber g n ≡ 0 → blockOf g n ≡ record { number = 0; next = moved (n / 2) g }
 unfolding blockOf
 block-moves g n h e =
-    let (fits, room) = pairs-accepted g (n / 2) .0 (block-accepted g n .0 e .0) in
-    rw (blockOf, e, after-moved (n / 2) g h room)
+    let (_, room, none) = pairs-accepted g (n / 2) .0 (block-accepted g n .0 e .0) in
+    rw (blockOf, e, after-moved (n / 2) g h none room)
 
 -- Two blocks are accepted, one after the other, where each is even and one of their sum is accepted,
 pub blocks-accepted : (g : Generator) (n m : ℕ) → Sound g → n % 2 ≡ 0 → blockNumber g (n + m) ≡ 0
     → (blockNumber g n ≡ 0) × (blockNumber (blockOf g n .next) m ≡ 0)
 blocks-accepted g n m h en e =
     let (pairs, whole) = block-accepted g (n + m) .0 e in
-    let (fits, room) = pairs-accepted g ((n + m) / 2) .0 pairs in
-    let first : blockNumber g n ≡ 0 = block-accepted g n .1 (pairs-accepted g (n / 2) .1 (fits, omega arith), en) in
+    let (fits, room, none) = pairs-accepted g ((n + m) / 2) .0 pairs in
+    let first : blockNumber g n ≡ 0 = block-accepted g n .1 (pairs-accepted g (n / 2) .1 (fits, omega arith, none), en) in
     let fits-after = sound-accepted _ (moved-sound (n / 2) g h) in (
       first,
       rw (block-moves g n h first)
-          (block-accepted (moved (n / 2) g) m .1 (pairs-accepted _ (m / 2) .1 (fits-after, omega arith), omega arith)),
+          (block-accepted (moved (n / 2) g) m .1 (pairs-accepted _ (m / 2) .1 (fits-after, omega arith, none), omega arith)),
     )
 
 -- and a block of n + m is then a block of n and one of m on the record returned: the samples,
@@ -62,10 +62,10 @@ blocks-hold g x y h ex e =
     let m = length y / 2 in
     let (first, second) = blocks-accepted g (length x) (length y) h ex (rw (length-append x y) at e) in
     let size : length (x ++ y) / 2 ≡ n + m = rw (length-append x y) (omega arith) in
-    let (fits, room) = pairs-accepted g n .0 (block-accepted g (length x) .0 first .0) in
+    let (_, room, none) = pairs-accepted g n .0 (block-accepted g (length x) .0 first .0) in
     rw (block-holds g (x ++ y) e, block-holds g x first, block-holds (blockOf g (length x) .next) y second, size, samples-add n m g)
     (ap (λ (next : Generator). samples n g ++ samples m next)
-    (after-moved n g h room ∙ sym (ap (λ (r : RecordAnswer). r .next) (block-moves g (length x) h first))))
+    (after-moved n g h none room ∙ sym (ap (λ (r : RecordAnswer). r .next) (block-moves g (length x) h first))))
 
 -- and the record.
 pub blocks-next : (g : Generator) (n m : ℕ) → Sound g → n % 2 ≡ 0 → blockNumber g (n + m) ≡ 0
@@ -83,11 +83,11 @@ pub skip-block : (m n : ℕ) (g : Generator) (long short : List ℤ) → Sound g
 skip-block m n g long short h el es e =
     let whole : length long / 2 ≡ m + n = omega arith in
     let part : length short / 2 ≡ n = omega arith in
-    let (fits, room) = pairs-accepted g (length long / 2) .0 (block-accepted g (length long) .0 e .0) in
-    let first : skipOf g m .number ≡ 0 = skip-accepted m g .1 (fits, omega arith) in
+    let (fits, room, none) = pairs-accepted g (length long / 2) .0 (block-accepted g (length long) .0 e .0) in
+    let first : skipOf g m .number ≡ 0 = skip-accepted m g .1 (fits, omega arith, none) in
     let second : blockNumber (moved m g) (length short) ≡ 0
     = block-accepted (moved m g) (length short) .1
-    (pairs-accepted _ (length short / 2) .1 (sound-accepted _ (moved-sound m g h), omega arith), omega arith) in
+    (pairs-accepted _ (length short / 2) .1 (sound-accepted _ (moved-sound m g h), omega arith, none), omega arith) in
     rw (
       skip-moves m g (h .range-a) (h .range-b) first,
       block-holds (moved m g) short second,
@@ -96,27 +96,8 @@ skip-block m n g long short h el es e =
       part,
       samples-add m n g,
       drop-at (samples m g) (samples n (after m g)) (2 * m) (length-samples m g),
-      after-moved m g h (omega arith),
+      after-moved m g h none (omega arith),
     )
-
--- ---- Looks
-
--- A look has the number of the block call and leaves the same memory, and returns the record passed in.
-pub look-is : (g : Generator) (old : List ℤ)
-    → (lookOf g (length old) .number ≡ blockOf g (length old) .number)
-    × (lookHolds g old ≡ blockHolds g old)
-    × (lookOf g (length old) .next ≡ g)
-look-is g old = (refl, refl, refl)
-
--- A look and then a block as long: both accepted or both refused; the block's record is as without the look; and, accepted, the same samples
--- twice.
-pub look-block : (g : Generator) (x y : List ℤ) → length x ≡ length y
-    → (blockOf g (length y) .number ≡ lookOf g (length x) .number)
-    × (blockOf (lookOf g (length x) .next) (length y) ≡ blockOf g (length y))
-    × (lookOf g (length x) .number ≡ 0 → blockHolds (lookOf g (length x) .next) y ≡ lookHolds g x)
-unfolding blockOf
-look-block g x y e =
-    (rw e refl, refl, λ accepted. rw (block-holds g x accepted, block-holds g y (rw (← e) accepted), e))
 
 -- ---- Every sample is that of its pair, of bounded size, and close
 
@@ -159,20 +140,21 @@ pair-close g h e =
     let (hk, hv) = numbers-bounded g h in
     rw (pair-is g h (rw (pair-number g) at e)) (samples-close (uniformsOf g .k) (uniformsOf g .v) hk hv)
 
--- n pairs on, the next pair is accepted where the count has room for it: so is each of the 500 pairs of a job, whose count starts at 0.
-pub pair-accepted : (n : ℕ) (g : Generator) → Sound g → g .count + n < mostCount → pairOf (after n g) .number ≡ 0
-pair-accepted n g h room =
-    rw (pair-number (after n g), after-moved n g h (omega arith))
-    (pairs-accepted (moved n g) 1 .1 (sound-accepted _ (moved-sound n g h), omega arith))
+-- n pairs on, the next pair is accepted where no request is open and the count has room for it: so is each of the 500 pairs of a job, whose
+-- record is as seeding makes it.
+pub pair-accepted : (n : ℕ) (g : Generator) → Sound g → g .waiting ≡ 0 → g .count + n < mostCount → pairOf (after n g) .number ≡ 0
+pair-accepted n g h none room =
+    rw (pair-number (after n g), after-moved n g h none (omega arith))
+    (pairs-accepted (moved n g) 1 .1 (sound-accepted _ (moved-sound n g h), omega arith, none))
 
 -- Demand 3, of an accepted block: so is every sample of it from that of the pair in its place.
 pub block-close : (g : Generator) (old : List ℤ) (i : ℕ) (d : ℤ) → Sound g → blockNumber g (length old) ≡ 0 → i < length old / 2
     → Close nineSixteenths fractionBits (inverse (uniformsOf (after i g) .k)) (uniformsOf (after i g) .v)
     (getD (blockHolds g old) (2 * i) d) (getD (blockHolds g old) (2 * i + 1) d)
 block-close g old i d h e l =
-    let (fits, room) = pairs-accepted g (length old / 2) .0 (block-accepted g (length old) .0 e .0) in
+    let (_, room, none) = pairs-accepted g (length old / 2) .0 (block-accepted g (length old) .0 e .0) in
     rw (block-holds g old e, samples-first (length old / 2) i g d l, samples-second (length old / 2) i g d l)
-    (pair-close (after i g) (after-sound i g h) (pair-accepted i g h (omega arith)))
+    (pair-close (after i g) (after-sound i g h) (pair-accepted i g h none (omega arith)))
 
 -- ---- The twelve readings of document 01
 

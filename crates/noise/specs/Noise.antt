@@ -1,14 +1,13 @@
 -- Pairs and blocks from a generator record (document 01, "The two streams" and the table of refusals).
-use mathlib.Core.Bool.{cond}
 use mathlib.Core.List.{List, [], _∷_}
-use Prim.Native.Nat.{ℕ, zero, suc, _/_, _%_}
-use lib.Dec.{eqb}
+use Prim.Native.Nat.{ℕ, zero, suc, _/_}
 use lib.IntN.{ℤ, pos}
 use lib.ListN.{length}
 use Rattle.streams.specs.declared.Generator.{Generator}
 use Rattle.streams.specs.declared.Uniforms.{Uniforms}
 use Rattle.streams.specs.declared.RecordAnswer.{RecordAnswer}
-use Rattle.streams.specs.Streams.{recordNumber, countNumber, firstCause, ifAccepted, uniformsOf, after}
+use Rattle.streams.specs.Streams.{cleared, numberOf, ifAccepted, uniformsOf, after}
+use Rattle.streams.specs.Streams.Call.{a-block, a-take}
 use Rattle.sample.specs.declared.Samples.{Samples}
 use Rattle.sample.specs.Sample.{samplesOf}
 use Rattle.noise.specs.declared.PairAnswer.{PairAnswer}
@@ -33,13 +32,9 @@ unfoldable pub samples : ℕ → Generator → List ℤ
 samples zero g = []
 samples (suc n) g = pairOf g .first ∷ pairOf g .second ∷ samples n (pairOf g .next)
 
--- "block of odd length"
-unfoldable pub lengthNumber : ℕ → ℕ
-lengthNumber n = cond (eqb (n % 2) 0) 0 4
-
--- The number of a block of n elements: the record's, then 4, and then 13 for its n / 2 pairs.
-unfoldable pub blockNumber : Generator → ℕ → ℕ
-blockNumber g n = firstCause (recordNumber g ∷ lengthNumber n ∷ countNumber g (n / 2) ∷ [])
+-- The number of a block of n elements.
+abbrev pub blockNumber : Generator → ℕ → ℕ
+blockNumber g n = numberOf (a-block n) g
 
 -- A block of n elements: the record n / 2 pairs on; refused, the record passed in.
 unfoldable pub blockOf : Generator → ℕ → RecordAnswer
@@ -49,10 +44,19 @@ blockOf g n = record { number = blockNumber g n; next = ifAccepted (blockNumber 
 unfoldable pub blockHolds : Generator → List ℤ → List ℤ
 blockHolds g old = ifAccepted (blockNumber g (length old)) (samples (length old / 2) g) old
 
--- A look at a block of n elements (document 02, Job 6): refused "as the real call would be", and "that record unmoved".
-abbrev pub lookOf : Generator → ℕ → RecordAnswer
-lookOf g n = record { number = blockOf g n .number; next = g }
+-- A look at a block of n elements (document 02, Jobs 6 and 7): "it shows and refuses as if none were open, and returns the note too".
+unfoldable pub lookOf : Generator → ℕ → RecordAnswer
+lookOf g n = record { number = blockOf (cleared g) n .number; next = g }
 
--- What the lent block then holds: what "a real block call on a copy of the record would give".
-abbrev pub lookHolds : Generator → List ℤ → List ℤ
-lookHolds g old = blockHolds g old
+-- What the lent block then holds: what "a real block call on a copy of the record would give", with no request open.
+unfoldable pub lookHolds : Generator → List ℤ → List ℤ
+lookHolds g old = blockHolds (cleared g) old
+
+-- Taking into a block of n elements (document 02, Job 7): the record as many pairs on as it noted, its note cleared; refused, the record passed in.
+unfoldable pub takeOf : Generator → ℕ → RecordAnswer
+takeOf g n =
+    record { number = numberOf (a-take n) g; next = ifAccepted (numberOf (a-take n) g) (after (g .asked) (cleared g)) g }
+
+-- What the lent block then holds: the samples of those pairs; refused, what it held.
+unfoldable pub takeHolds : Generator → List ℤ → List ℤ
+takeHolds g old = ifAccepted (numberOf (a-take (length old)) g) (samples (g .asked) (cleared g)) old

@@ -1,15 +1,17 @@
-// A pair of samples, a block of them in lent memory, and a look at a block, from a generator record.
+// A pair of samples, a block of them in lent memory, a look at a block, and the block that was asked for, from a generator record.
 ghost use mathlib.Core.Path.{_≡_};
 ghost use Prim.Native.Nat.{_+_, _*_, _/_, _%_, _≤_, min};
 ghost use lib.ListN.{length};
-ghost use Rattle.streams.specs.Streams.{pairsNumber, after};
-ghost use Rattle.noise.specs.Noise.{sampledOf, pairOf, lengthNumber, blockNumber, blockOf, blockHolds, lookOf, lookHolds};
+ghost use Rattle.streams.specs.Streams.{lengthNumber, takenNumber, numberOf, pairsNumber, after};
+ghost use Rattle.streams.specs.Streams.Call.{a-take};
+ghost use Rattle.noise.specs.Noise.{sampledOf, pairOf, blockNumber, blockOf, blockHolds, lookOf, lookHolds, takeOf, takeHolds};
 ghost use Rattle.noise.specs.Private.{stretchLength, numbers, PairsDrawn};
 use lanes::Both;
 use lanes::draw_pairs;
 use streams::Generator;
 use streams::RecordAnswer;
 use streams::Uniforms;
+use streams::asked_number;
 use streams::first_cause;
 
 pub struct PairAnswer {
@@ -125,9 +127,10 @@ fn block_number(g: Generator, n: usize) -> u32
     ensures { λ r. ⌜ r ≡ blockNumber g n ⌝ }
 {
     let unfit = g.record_number();
+    let open = g.open_number();
     let odd = length_number(n);
     let full = g.count_number((n / 2) as u64);
-    let causes = [unfit, odd, full];
+    let causes = [unfit, open, odd, full];
     first_cause(&causes)
 }
 
@@ -144,14 +147,55 @@ pub fn block(g: Generator, out: &mut [i16]) -> RecordAnswer
     RecordAnswer { number, next }
 }
 
-// A look at the block that would come next: its samples, and the record as it is.
+// A look at the block that would come next, as if no request were open: its samples, and the record as it is.
 pub fn look(g: Generator, out: &mut [i16]) -> RecordAnswer
     ensures { λ r. ⌜ r ≡ lookOf g (length (now (out .entry))) ⌝ }
     ensures { λ r. ⌜ now (out .exit) ≡ lookHolds g (now (out .entry)) ⌝ }
 {
-    let shown = block(g, out);
+    let free = g.without_note();
+    let shown = block(free, out);
     RecordAnswer {
         number: shown.number,
         next: g,
     }
+}
+
+// 16 where more pairs are noted than a request may ask for, or n is not two for each of them.
+fn taken_number(g: Generator, n: usize) -> u32
+    ensures { λ r. ⌜ r ≡ takenNumber g n ⌝ }
+{
+    let many = asked_number(g.asked);
+    if many != 0 {
+        return 16;
+    }
+    if n != 2 * g.asked as usize {
+        return 16;
+    }
+    0
+}
+
+// The number of taking into a block of n elements.
+fn take_number(g: Generator, n: usize) -> u32
+    ensures { λ r. ⌜ r ≡ numberOf (a-take n) g ⌝ }
+{
+    let unfit = g.record_number();
+    let none = g.none_open_number();
+    let other = taken_number(g, n);
+    let full = g.count_number(g.asked as u64);
+    let causes = [unfit, none, other, full];
+    first_cause(&causes)
+}
+
+// The samples that were asked for; the request is closed.
+pub fn take(g: Generator, out: &mut [i16]) -> RecordAnswer
+    ensures { λ r. ⌜ r ≡ takeOf g (length (now (out .entry))) ⌝ }
+    ensures { λ r. ⌜ now (out .exit) ≡ takeHolds g (now (out .entry)) ⌝ }
+{
+    let number = take_number(g, out.len());
+    if number != 0 {
+        return RecordAnswer { number, next: g };
+    }
+    let free = g.without_note();
+    let next = stretches(free, out);
+    RecordAnswer { number, next }
 }

@@ -1,14 +1,15 @@
--- The first cause that applies: laws of `firstCause`, and the count's cause.
-use mathlib.Core.Path.{_≡_, refl, sym}
+-- The first cause that applies: laws of `firstCause` and of the single causes.
+use mathlib.Core.Path.{_≡_, refl, sym, _∙_}
 use mathlib.Core.Bool.{Bool, true, false}
 use mathlib.Core.List.{List, [], _∷_}
 use mathlib.Core.Logic.{_↔_}
-use Prim.Native.Nat.{ℕ, _+_, _≤_, _<_}
+use Prim.Native.Nat.{ℕ, _+_, _*_, _%_, _≤_, _<_}
 use native.Mathlib.Omega.{arith}
 use lib.Dec.{leb, eqb}
 use borrow.Author.Tests.{leb-true, leb-false, eqb-true, eqb-false}
 use Rattle.streams.specs.declared.Generator.{Generator}
-use Rattle.streams.specs.Streams.{mostCount, countNumber, firstCause}
+use Rattle.streams.specs.Streams.{recordNumber, openNumber, noneOpenNumber, askedNumber, takenNumber, lengthNumber, countNumber, firstCause}
+use Rattle.streams.specs.Streams.{mostAsked, mostCount, Call, noteNumber, ownNumber, roomNumber, numberOf}
 
 -- One cause alone.
 pub lone-cause : (number : ℕ) → firstCause (number ∷ []) ≡ number
@@ -25,6 +26,68 @@ none-applies cause causes h = by-test (eqb cause 0) refl
     by-test : (t : Bool) → eqb cause 0 ≡ t → (cause ≡ 0) × (firstCause causes ≡ 0)
     by-test true e = (eqb-true _ _ e, rw e at h)
     by-test false e = absurd (eqb-false _ _ e (rw e at h))
+
+-- It is, just where the record's, the note's, its own and the count's do not apply.
+pub accepted-causes : (c : Call) (g : Generator)
+    → (numberOf c g ≡ 0) ↔ ((recordNumber g ≡ 0) × (noteNumber c g ≡ 0) × (ownNumber c g ≡ 0) × (roomNumber c g ≡ 0))
+unfolding numberOf
+accepted-causes c g = (
+  λ h.
+      let (fits, rest) = none-applies (recordNumber g) (noteNumber c g ∷ ownNumber c g ∷ roomNumber c g ∷ []) h in
+      let (note, rest-2) = none-applies (noteNumber c g) (ownNumber c g ∷ roomNumber c g ∷ []) rest in
+      let (own, last) = none-applies (ownNumber c g) (roomNumber c g ∷ []) rest-2 in
+      (fits, note, own, sym (lone-cause (roomNumber c g)) ∙ last),
+  λ h. rw (h .0, h .1, h .2, h .3),
+)
+
+-- 14 does not apply where no request is open, nor 15 where one is;
+pub none-open : (g : Generator) → (openNumber g ≡ 0) ↔ (g .waiting ≡ 0)
+unfolding openNumber
+none-open g = by-test (eqb (g .waiting) 0) refl
+  where
+    by-test : (t : Bool) → eqb (g .waiting) 0 ≡ t → (openNumber g ≡ 0) ↔ (g .waiting ≡ 0)
+    by-test true e = (λ h. eqb-true _ _ e, λ h. rw (openNumber, e))
+    by-test false e = (λ h. absurd (omega (arith, rw (openNumber, e) at h)), λ h. absurd (eqb-false _ _ e h))
+
+pub one-open : (g : Generator) → (noneOpenNumber g ≡ 0) ↔ (g .waiting ≡ 0 → ⊥)
+unfolding noneOpenNumber
+one-open g = by-test (eqb (g .waiting) 0) refl
+  where
+    by-test : (t : Bool) → eqb (g .waiting) 0 ≡ t → (noneOpenNumber g ≡ 0) ↔ (g .waiting ≡ 0 → ⊥)
+    by-test true e = (λ h. absurd (omega (arith, rw (noneOpenNumber, e) at h)), λ h. absurd (h (eqb-true _ _ e)))
+    by-test false e = (λ h. eqb-false _ _ e, λ h. rw (noneOpenNumber, e))
+
+-- 16 not on asking for n pairs up to the most,
+pub few-asked : (n : ℕ) → (askedNumber n ≡ 0) ↔ (n ≤ mostAsked)
+unfolding askedNumber
+few-asked n = by-test (leb n mostAsked) refl
+  where
+    by-test : (t : Bool) → leb n mostAsked ≡ t → (askedNumber n ≡ 0) ↔ (n ≤ mostAsked)
+    by-test true e = (λ h. leb-true _ _ e, λ h. rw (askedNumber, e))
+    by-test false e = (λ h. absurd (omega (arith, rw (askedNumber, e) at h)), λ h. absurd (omega (arith, leb-false n mostAsked e)))
+
+-- nor on taking as many as that into a block of just so many samples;
+pub just-taken : (g : Generator) (n : ℕ) → (takenNumber g n ≡ 0) ↔ ((g .asked ≤ mostAsked) × (n ≡ 2 * g .asked))
+unfolding takenNumber
+just-taken g n = by-tests (eqb (askedNumber (g .asked)) 0) refl (eqb n (2 * g .asked)) refl
+  where
+    by-tests : (t : Bool) → eqb (askedNumber (g .asked)) 0 ≡ t → (u : Bool) → eqb n (2 * g .asked) ≡ u
+        → (takenNumber g n ≡ 0) ↔ ((g .asked ≤ mostAsked) × (n ≡ 2 * g .asked))
+    by-tests true e true f = (λ h. (few-asked (g .asked) .0 (eqb-true _ _ e), eqb-true _ _ f), λ h. rw (takenNumber, e, f))
+    by-tests true e false f = (λ h. absurd (omega (arith, rw (takenNumber, e, f) at h)), λ h. absurd (eqb-false _ _ f (h .1)))
+    by-tests false e u f = (
+      λ h. absurd (omega (arith, rw (takenNumber, e) at h)),
+      λ h. absurd (eqb-false _ _ e (few-asked (g .asked) .1 (h .0))),
+    )
+
+-- 4 not for an even length.
+pub even-length : (n : ℕ) → (lengthNumber n ≡ 0) ↔ (n % 2 ≡ 0)
+unfolding lengthNumber
+even-length n = by-test (eqb (n % 2) 0) refl
+  where
+    by-test : (t : Bool) → eqb (n % 2) 0 ≡ t → (lengthNumber n ≡ 0) ↔ (n % 2 ≡ 0)
+    by-test true e = (λ h. eqb-true (n % 2) 0 e, λ h. rw (lengthNumber, e))
+    by-test false e = (λ h. absurd (omega (arith, rw (lengthNumber, e) at h)), λ h. absurd (eqb-false (n % 2) 0 e h))
 
 -- The count has room for n pairs more, or would pass its most.
 pub count-room : (g : Generator) (n : ℕ) → (countNumber g n ≡ 0) ↔ (g .count + n ≤ mostCount)

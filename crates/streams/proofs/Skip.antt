@@ -59,8 +59,9 @@ stream-ahead n u h =
 
 -- ---- Skips of a record
 
--- A skip is accepted just where the streams are fit and the count has room.
-pub skip-accepted : (n : ℕ) (g : Generator) → (skipOf g n .number ≡ 0) ↔ ((recordNumber g ≡ 0) × (g .count + n ≤ mostCount))
+-- A skip is accepted just where the streams are fit, the count has room and no request is open.
+pub skip-accepted : (n : ℕ) (g : Generator)
+    → (skipOf g n .number ≡ 0) ↔ ((recordNumber g ≡ 0) × (g .count + n ≤ mostCount) × (g .waiting ≡ 0))
 unfolding skipOf
 skip-accepted n g = pairs-accepted g n
 
@@ -69,22 +70,22 @@ pub skip-moves : (n : ℕ) (g : Generator) → InRange (g .a) → InRange (g .b)
     → skipOf g n ≡ record { number = 0; next = moved n g }
 unfolding skipOf
 skip-moves n g ra rb e =
-    let (fits, room) = pairs-accepted g n .0 e in
-    rw (skipOf, e, after-moved n g (sound g ra rb fits) room)
+    let (fits, room, none) = pairs-accepted g n .0 e in
+    rw (skipOf, e, after-moved n g (sound g ra rb fits) none room)
 
 -- Two skips are accepted, one after the other, just where one of their sum is.
 pub skips-accepted : (m n : ℕ) (g : Generator) → InRange (g .a) → InRange (g .b)
     → ((skipOf g m .number ≡ 0) × (skipOf (skipOf g m .next) n .number ≡ 0)) ↔ (skipOf g (m + n) .number ≡ 0)
 skips-accepted m n g ra rb = (
   λ h.
-      let (fits, room) = skip-accepted m g .0 (h .0) in
-      let (_, room-after) = skip-accepted n (moved m g) .0 (rw (skip-moves m g ra rb (h .0)) at (h .1)) in
-      skip-accepted (m + n) g .1 (fits, omega arith),
+      let (fits, room, none) = skip-accepted m g .0 (h .0) in
+      let (_, room-after, _) = skip-accepted n (moved m g) .0 (rw (skip-moves m g ra rb (h .0)) at (h .1)) in
+      skip-accepted (m + n) g .1 (fits, omega arith, none),
   λ h.
-      let (fits, room) = skip-accepted (m + n) g .0 h in
-      let first : skipOf g m .number ≡ 0 = skip-accepted m g .1 (fits, omega arith) in
+      let (fits, room, none) = skip-accepted (m + n) g .0 h in
+      let first : skipOf g m .number ≡ 0 = skip-accepted m g .1 (fits, omega arith, none) in
       let fits-after = sound-accepted _ (moved-sound m g (sound g ra rb fits)) in
-      (first, rw (skip-moves m g ra rb first) (skip-accepted n (moved m g) .1 (fits-after, omega arith))),
+      (first, rw (skip-moves m g ra rb first) (skip-accepted n (moved m g) .1 (fits-after, omega arith, none))),
 )
 
 -- Skipping m and then n is then skipping m + n,

@@ -16,10 +16,11 @@ use Rattle.squares.proofs.Theorems.{repeat-add}
 use Rattle.streams.specs.declared.Stream.{Stream}
 use Rattle.streams.specs.declared.Generator.{Generator}
 use Rattle.streams.specs.declared.Uniforms.{Uniforms}
-use Rattle.streams.specs.Streams.{step, advance, output, fit, fresh, recordNumber, mostCount, countNumber, firstCause, seedOf}
-use Rattle.streams.specs.Streams.{pairsNumber, uniformsOf, after}
+use Rattle.streams.specs.Streams.{step, advance, output, fit, fresh, cleared, recordNumber, openNumber, mostCount, countNumber, firstCause}
+use Rattle.streams.specs.Streams.{Call, noteNumber, ownNumber, roomNumber, numberOf, seedOf, pairsNumber, uniformsOf, after}
+use Rattle.streams.specs.Streams.Call.{a-skip}
 use Rattle.streams.specs.Recurrence.{top, sequence, combined, Params, drawAt, moved, seedFrom, InRange, Minima, Sound}
-use Rattle.streams.proofs.Causes.{lone-cause, none-applies, count-room, count-full}
+use Rattle.streams.proofs.Causes.{lone-cause, accepted-causes, none-open, count-room, count-full}
 use Rattle.streams.proofs.Register.{step-lt, history, minimum-kept, one-to-one-reached, top-xor, sequence-starts}
 use Rattle.streams.proofs.Register.{sequence-follows}
 
@@ -183,15 +184,26 @@ sound g ra rb h =
 pub sound-accepted : (g : Generator) → Sound g → recordNumber g ≡ 0
 sound-accepted g h = accepted-minima g .1 (h .minima-a, h .minima-b)
 
+-- The note says nothing of the streams.
+pub sound-cleared : (g : Generator) → Sound g ↔ Sound (cleared g)
+sound-cleared g = (
+  λ h. record { range-a = h .range-a; range-b = h .range-b; minima-a = h .minima-a; minima-b = h .minima-b },
+  λ h. record { range-a = h .range-a; range-b = h .range-b; minima-a = h .minima-a; minima-b = h .minima-b },
+)
+
 -- A record that seeding accepts is the one of its six numbers, and its streams are fit.
 pub seeded : (a b : Stream) → InRange a → InRange b → seedFrom a b .number ≡ 0
     → (seedFrom a b .next ≡ fresh a b) × Sound (fresh a b)
 unfolding seedOf
 seeded a b ra rb h = (rw h, sound (fresh a b) ra rb h)
 
--- Accepted or refused, it has registers of 32 bits and the count 0.
+-- Accepted or refused, it has registers of 32 bits, the count 0 and no request open.
 pub seeded-range : (a b : Stream) → InRange a → InRange b
-    → InRange (seedFrom a b .next .a) × InRange (seedFrom a b .next .b) × (seedFrom a b .next .count ≡ 0)
+    → InRange (seedFrom a b .next .a)
+    × InRange (seedFrom a b .next .b)
+    × (seedFrom a b .next .count ≡ 0)
+    × (seedFrom a b .next .waiting ≡ 0)
+    × (seedFrom a b .next .asked ≡ 0)
 unfolding seedOf
 seeded-range a b ra rb = by-test (eqb (recordNumber (fresh a b)) 0)
   where
@@ -202,8 +214,10 @@ seeded-range a b ra rb = by-test (eqb (recordNumber (fresh a b)) 0)
         → InRange (cond t (fresh a b) (fresh none none) .a)
         × InRange (cond t (fresh a b) (fresh none none) .b)
         × (cond t (fresh a b) (fresh none none) .count ≡ 0)
-    by-test true = (ra, rb, refl)
-    by-test false = (omega arith, omega arith, refl)
+        × (cond t (fresh a b) (fresh none none) .waiting ≡ 0)
+        × (cond t (fresh a b) (fresh none none) .asked ≡ 0)
+    by-test true = (ra, rb, refl, refl, refl)
+    by-test false = (omega arith, omega arith, refl, refl, refl)
 
 -- however far the streams are moved
 repeat-kept : (P : Stream → Type 0) → ((u : Stream) → P u → P (advance u)) → (t : ℕ) (u : Stream) → P u → P (repeat advance t u)
@@ -227,36 +241,52 @@ moved-sound n g h =
 -- n draws after m are m + n draws, of both streams, and so is the count.
 pub moved-add : (m n : ℕ) (g : Generator) → moved n (moved m g) ≡ moved (m + n) g
 moved-add m n g =
-    λ i. record { a = repeat-add advance m n (g .a) i; b = repeat-add advance m n (g .b) i; count = add-assoc (g .count) m n i }
+    λ i.
+    record {
+      a = repeat-add advance m n (g .a) i;
+      b = repeat-add advance m n (g .b) i;
+      count = add-assoc (g .count) m n i;
+      waiting = g .waiting;
+      asked = g .asked;
+    }
 
 -- ---- The count
 
--- The number of a call on fit streams is its count's alone.
-pub fit-number : (g : Generator) (n : ℕ) → Sound g → pairsNumber g n ≡ countNumber g n
-unfolding pairsNumber
-fit-number g n h = rw (sound-accepted g h) (lone-cause (countNumber g n))
+-- A call on fit streams is refused for its note, its own arguments or the count, and for nothing else.
+pub fit-call : (c : Call) (g : Generator) → Sound g
+    → numberOf c g ≡ firstCause (noteNumber c g ∷ ownNumber c g ∷ roomNumber c g ∷ [])
+unfolding numberOf
+fit-call c g h = rw (sound-accepted g h)
 
--- A call for n pairs is accepted just where the streams are fit and the count has room for n.
-pub pairs-accepted : (g : Generator) (n : ℕ) → (pairsNumber g n ≡ 0) ↔ ((recordNumber g ≡ 0) × (g .count + n ≤ mostCount))
-unfolding pairsNumber
+-- A call for n pairs is accepted just where the streams are fit, the count has room for n and no request is open.
+pub pairs-accepted : (g : Generator) (n : ℕ)
+    → (pairsNumber g n ≡ 0) ↔ ((recordNumber g ≡ 0) × (g .count + n ≤ mostCount) × (g .waiting ≡ 0))
+unfolding noteNumber ownNumber roomNumber
 pairs-accepted g n = (
   λ h.
-      let (fits, rest) = none-applies (recordNumber g) (countNumber g n ∷ []) h in
-      (fits, count-room g n .0 (sym (lone-cause (countNumber g n)) ∙ rest)),
-  λ h. rw (h .0, count-room g n .1 (h .1)),
+      let (fits, note, own, room) = accepted-causes (a-skip n) g .0 h in
+      (fits, count-room g n .0 room, none-open g .0 note),
+  λ h. accepted-causes (a-skip n) g .1 (h .0, none-open g .1 (h .2), refl, count-room g n .1 (h .1)),
 )
 
--- 13 just where the streams are fit and the count would pass the most.
-pub number-count : (g : Generator) (n : ℕ) → (pairsNumber g n ≡ 13) ↔ ((recordNumber g ≡ 0) × (mostCount < g .count + n))
-unfolding pairsNumber
+-- 13 just where they are fit, no request is open and the count would pass the most.
+pub number-count : (g : Generator) (n : ℕ)
+    → (pairsNumber g n ≡ 13) ↔ ((recordNumber g ≡ 0) × (g .waiting ≡ 0) × (mostCount < g .count + n))
+unfolding numberOf noteNumber ownNumber roomNumber openNumber
 number-count g n = (
-  λ h. record-cases (λ number. firstCause (number ∷ countNumber g n ∷ []) ≡ 13 → (number ≡ 0) × (mostCount < g .count + n)) g
-      (λ e. (refl, count-full g n .0 (sym (lone-cause (countNumber g n)) ∙ e)))
+  λ h. record-cases (λ number. firstCause (number ∷ openNumber g ∷ 0 ∷ countNumber g n ∷ []) ≡ 13
+      → (number ≡ 0) × (g .waiting ≡ 0) × (mostCount < g .count + n)) g
+      (λ e. let (none, full) = by-note (eqb (g .waiting) 0) refl e in (refl, none, full))
       (λ e. absurd (omega (arith, e)))
       (λ e. absurd (omega (arith, e)))
       h,
-  λ h. rw (h .0, count-full g n .1 (h .1)),
+  λ h. rw (h .0, none-open g .1 (h .1), count-full g n .1 (h .2)),
 )
+  where
+    by-note : (t : Bool) → eqb (g .waiting) 0 ≡ t → firstCause (openNumber g ∷ 0 ∷ countNumber g n ∷ []) ≡ 13
+        → (g .waiting ≡ 0) × (mostCount < g .count + n)
+    by-note true e h = (eqb-true _ _ e, count-full g n .0 (sym (lone-cause (countNumber g n)) ∙ rw (openNumber, e) at h))
+    by-note false e h = absurd (omega (arith, rw (openNumber, e) at h))
 
 -- ---- The numbers of a pair, accepted
 
@@ -312,15 +342,15 @@ unfolding after
 after-sound zero g h = h
 after-sound (suc n) g h = after-sound n (uniformsOf g .next) (next-sound g h)
 
--- Where the count has room, each stream and the count are then n draws on.
-pub after-moved : (n : ℕ) (g : Generator) → Sound g → g .count + n ≤ mostCount → after n g ≡ moved n g
+-- Where no request is open and the count has room, each stream and the count are then n draws on.
+pub after-moved : (n : ℕ) (g : Generator) → Sound g → g .waiting ≡ 0 → g .count + n ≤ mostCount → after n g ≡ moved n g
 unfolding after repeat
-after-moved zero g h room = rw (add-zero (g .count))
-after-moved (suc n) g h room =
+after-moved zero g h none room = rw (add-zero (g .count))
+after-moved (suc n) g h none room =
     let one-more : 1 + n ≡ suc n = omega arith in
     let first : uniformsOf g .next ≡ moved 1 g
-    = ap (λ (u : Uniforms). u .next) (uniforms-accepted g (pairs-accepted g 1 .1 (sound-accepted g h, omega arith))) in
-    rw first (after-moved n (moved 1 g) (moved-sound 1 g h) (omega arith) ∙ rw one-more at (moved-add 1 n g))
+    = ap (λ (u : Uniforms). u .next) (uniforms-accepted g (pairs-accepted g 1 .1 (sound-accepted g h, omega arith, none))) in
+    rw first (after-moved n (moved 1 g) (moved-sound 1 g h) none (omega arith) ∙ rw one-more at (moved-add 1 n g))
 
 -- ---- Demand 2, of the calls
 
@@ -330,11 +360,11 @@ unfolding drawAt repeat
 next-draw n u = ap output (repeat-add advance n 1 u ∙ rw (add-one n))
 
 -- n pairs on, the numbers of a pair are those of draw n + 1 of stream a and of stream b.
-pub numbers-are : (n : ℕ) (g : Generator) → Sound g → g .count + n < mostCount
+pub numbers-are : (n : ℕ) (g : Generator) → Sound g → g .waiting ≡ 0 → g .count + n < mostCount
     → (uniformsOf (moved n g) .k ≡ drawAt (g .a) (suc n) * 65536 + drawAt (g .b) (suc n) / 65536)
     × (uniformsOf (moved n g) .v ≡ drawAt (g .b) (suc n) % 65536)
-numbers-are n g h room =
-    let accepted = pairs-accepted (moved n g) 1 .1 (sound-accepted _ (moved-sound n g h), omega arith) in
+numbers-are n g h none room =
+    let accepted = pairs-accepted (moved n g) 1 .1 (sound-accepted _ (moved-sound n g h), omega arith, none) in
     rw (uniforms-accepted (moved n g) accepted, next-draw n (g .a), next-draw n (g .b)) (refl, refl)
 
 -- ---- The step runs backwards

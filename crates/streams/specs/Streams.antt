@@ -26,13 +26,23 @@ output u = bitXor (bitXor (u .s0) (u .s1)) (u .s2)
 
 -- ---- Records
 
--- A record as seeding makes it: its count is 0 (document 02, Job 4).
+-- A record as seeding makes it: its count is 0, "none open and a noted 0" (document 02, Jobs 4 and 7).
 abbrev pub fresh : Stream → Stream → Generator
-fresh a b = record { a = a; b = b; count = 0 }
+fresh a b = record { a = a; b = b; count = 0; waiting = 0; asked = 0 }
 
 -- The same record n pairs on, its streams as they then are.
 abbrev pub onward : Generator → Stream → Stream → ℕ → Generator
-onward g a b n = record { a = a; b = b; count = g .count + n }
+onward g a b n = record { a = a; b = b; count = g .count + n; waiting = g .waiting; asked = g .asked }
+
+-- The same record with another note: a request is open where `waiting` is not 0, for `asked` pairs.
+abbrev pub noted : Generator → ℕ → ℕ → Generator
+noted g waiting asked = record { a = g .a; b = g .b; count = g .count; waiting = waiting; asked = asked }
+
+-- "Clears the note".
+abbrev pub cleared : Generator → Generator
+cleared g = noted g 0 0
+
+-- ---- Refusals
 
 -- "s0 at least 2, s1 at least 8 and s2 at least 16"
 unfoldable pub fit : Stream → Bool
@@ -43,6 +53,27 @@ fit u = leb 2 (u .s0) && (leb 8 (u .s1) && leb 16 (u .s2))
 unfoldable pub recordNumber : Generator → ℕ
 recordNumber g = cond (fit (g .a)) (cond (fit (g .b)) 0 12) 11
 
+-- "14: a request is open; 15: none is open" (document 02, Job 7).
+unfoldable pub openNumber : Generator → ℕ
+openNumber g = cond (eqb (g .waiting) 0) 0 14
+
+unfoldable pub noneOpenNumber : Generator → ℕ
+noneOpenNumber g = cond (eqb (g .waiting) 0) 15 0
+
+-- "16: n above 1,000,000, asked or found noted on taking, or a block not of 2n samples".
+abbrev pub mostAsked : ℕ
+mostAsked = 1000000
+
+unfoldable pub askedNumber : ℕ → ℕ
+askedNumber n = cond (leb n mostAsked) 0 16
+
+unfoldable pub takenNumber : Generator → ℕ → ℕ
+takenNumber g n = cond (eqb (askedNumber (g .asked)) 0) (cond (eqb n (2 * g .asked)) 0 16) 16
+
+-- "block of odd length"
+unfoldable pub lengthNumber : ℕ → ℕ
+lengthNumber n = cond (eqb (n % 2) 0) 0 4
+
 -- 13 for n pairs more: "the count would pass 2^64 - 1" (document 02, Job 4).
 abbrev pub mostCount : ℕ
 mostCount = 2 ^ 64 - 1
@@ -50,12 +81,58 @@ mostCount = 2 ^ 64 - 1
 unfoldable pub countNumber : Generator → ℕ → ℕ
 countNumber g n = cond (leb (g .count + n) mostCount) 0 13
 
--- ---- The calls, refusals included
+-- The calls on a record: the numbers of a pair, a pair; a skip of n pairs; a block of n elements, or a look at one; asking for n pairs, taking them
+-- into a block of n elements, giving up.
+pub data Call : Type 0 where
+  numbers a-pair give-up : Call
+  a-skip a-block a-look an-ask a-take : ℕ → Call
 
--- The number of a call: the first of its causes, each 0 where it does not apply, in the order that they are tested.
+-- For its note: "14 .. a pair, block, skip or second ask", "a look never"; "15 .. when taking or giving up".
+unfoldable pub noteNumber : Call → Generator → ℕ
+noteNumber numbers g = openNumber g
+noteNumber a-pair g = openNumber g
+noteNumber (a-skip n) g = openNumber g
+noteNumber (a-block n) g = openNumber g
+noteNumber (a-look n) g = 0
+noteNumber (an-ask n) g = openNumber g
+noteNumber (a-take n) g = noneOpenNumber g
+noteNumber give-up g = noneOpenNumber g
+
+-- For the call's own arguments: 16 where a request is asked for or taken, 4 for a block or a look.
+unfoldable pub ownNumber : Call → Generator → ℕ
+ownNumber numbers g = 0
+ownNumber a-pair g = 0
+ownNumber (a-skip n) g = 0
+ownNumber (a-block n) g = lengthNumber n
+ownNumber (a-look n) g = lengthNumber n
+ownNumber (an-ask n) g = askedNumber n
+ownNumber (a-take n) g = takenNumber g n
+ownNumber give-up g = 0
+
+-- For the count: the room for all pairs that the call asks for. Giving up asks for none.
+unfoldable pub roomNumber : Call → Generator → ℕ
+roomNumber numbers g = countNumber g 1
+roomNumber a-pair g = countNumber g 1
+roomNumber (a-skip n) g = countNumber g n
+roomNumber (a-block n) g = countNumber g (n / 2)
+roomNumber (a-look n) g = countNumber g (n / 2)
+roomNumber (an-ask n) g = countNumber g n
+roomNumber (a-take n) g = countNumber g (g .asked)
+roomNumber give-up g = 0
+
+-- The number of a call: the first of its causes, each 0 where it does not apply, in the order that they are tested: "after 11 and 12, in the
+-- order 15, 14, 16, 4, then 13".
 abbrev pub firstCause : List ℕ → ℕ
 firstCause [] = 0
 firstCause (cause ∷ causes) = cond (eqb cause 0) (firstCause causes) cause
+
+abbrev pub causesOf : Call → Generator → List ℕ
+causesOf c g = recordNumber g ∷ noteNumber c g ∷ ownNumber c g ∷ roomNumber c g ∷ []
+
+unfoldable pub numberOf : Call → Generator → ℕ
+numberOf c g = firstCause (causesOf c g)
+
+-- ---- The calls
 
 -- What a call with that number returns: the first where it is accepted (0), else the second.
 abbrev pub ifAccepted : {A : Type 0} → ℕ → A → A → A
@@ -68,9 +145,9 @@ seedOf a0 a1 a2 b0 b1 b2 =
     let none : Stream = record { s0 = 0; s1 = 0; s2 = 0 } in
     record { number = recordNumber g; next = ifAccepted (recordNumber g) g (fresh none none) }
 
--- The number of a call for n pairs: the record's, and then 13.
-unfoldable pub pairsNumber : Generator → ℕ → ℕ
-pairsNumber g n = firstCause (recordNumber g ∷ countNumber g n ∷ [])
+-- The number of a call for n pairs: of a skip, and, n being 1, of a pair and of its numbers.
+abbrev pub pairsNumber : Generator → ℕ → ℕ
+pairsNumber g n = numberOf (a-skip n) g
 
 -- The two numbers of a pair, one draw from a and then one from b: k is a × 65536 + floor(b / 65536), v is b mod 65536. Refused,
 -- 0 0 and the record passed in.
@@ -93,3 +170,11 @@ after (suc n) g = after n (uniformsOf g .next)
 -- "The record that n pair draws would leave"; refused, the record passed in.
 unfoldable pub skipOf : Generator → ℕ → RecordAnswer
 skipOf g n = record { number = pairsNumber g n; next = ifAccepted (pairsNumber g n) (after n g) g }
+
+-- "Asking for n pairs .. notes them in the record and moves nothing"; refused, the record passed in.
+unfoldable pub askOf : Generator → ℕ → RecordAnswer
+askOf g n = record { number = numberOf (an-ask n) g; next = ifAccepted (numberOf (an-ask n) g) (noted g 1 n) g }
+
+-- "Giving up clears it and moves nothing"; refused, the record passed in.
+unfoldable pub giveUpOf : Generator → RecordAnswer
+giveUpOf g = record { number = numberOf give-up g; next = ifAccepted (numberOf give-up g) (cleared g) g }

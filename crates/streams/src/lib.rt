@@ -1,4 +1,5 @@
-// The two Tausworthe streams of L'Ecuyer (1996): seeding, the two numbers of a pair, and a skip of many pairs.
+// The two Tausworthe streams of L'Ecuyer (1996): seeding, the two numbers of a pair, a skip of many pairs, and a request for
+// some that is noted and taken later or given up.
 // A generator record goes in by value and comes back as it then is, beside the call's number, 0 where it is accepted.
 ghost use mathlib.Core.Path.{_≡_};
 ghost use Rattle.squares.specs.Squares.{squareOf};
@@ -9,15 +10,24 @@ ghost use Rattle.streams.specs.Streams.{
   fit,
   fresh,
   onward,
+  noted,
+  cleared,
   recordNumber,
+  openNumber,
+  noneOpenNumber,
+  askedNumber,
   countNumber,
   firstCause,
+  numberOf,
   ifAccepted,
   pairsNumber,
   seedOf,
   uniformsOf,
   skipOf,
+  askOf,
+  giveUpOf,
 };
+ghost use Rattle.streams.specs.Streams.Call.{an-ask, give-up};
 ghost use Rattle.streams.specs.Recurrence.{moved};
 
 pub struct Stream {
@@ -26,11 +36,13 @@ pub struct Stream {
     pub s2: u32,
 }
 
-// The two streams, and how many pairs were drawn or skipped.
+// The two streams; how many pairs were drawn or skipped; whether a request is open (not 0), and for how many pairs.
 pub struct Generator {
     pub a: Stream,
     pub b: Stream,
     pub count: u64,
+    pub waiting: u32,
+    pub asked: u32,
 }
 
 // A number and the record that a call leaves.
@@ -132,12 +144,31 @@ pub fn first_cause(causes: &[u32]) -> u32
 
 const MOST_COUNT: u64 = 0xffff_ffff_ffff_ffff;
 
+// The most pairs that a request may ask for.
+const MOST_ASKED: u32 = 1_000_000;
+
+// 16 for a request for more pairs than that.
+pub fn asked_number(n: u32) -> u32
+    ensures { λ r. ⌜ r ≡ askedNumber n ⌝ }
+{
+    if MOST_ASKED < n {
+        return 16;
+    }
+    0
+}
+
 impl Generator {
     // A record as seeding makes it.
     fn fresh_record(a: Stream, b: Stream) -> Generator
         ensures { λ r. ⌜ r ≡ fresh a b ⌝ }
     {
-        Generator { a, b, count: 0 }
+        Generator {
+            a,
+            b,
+            count: 0,
+            waiting: 0,
+            asked: 0,
+        }
     }
 
     // The same record n pairs on, its streams as they then are; the record itself where the count has no room for n.
@@ -211,6 +242,26 @@ impl Generator {
         0
     }
 
+    // 14 where a request is open.
+    pub fn open_number(self) -> u32
+        ensures { λ r. ⌜ r ≡ openNumber self ⌝ }
+    {
+        if self.waiting != 0 {
+            return 14;
+        }
+        0
+    }
+
+    // 15 where none is.
+    pub fn none_open_number(self) -> u32
+        ensures { λ r. ⌜ r ≡ noneOpenNumber self ⌝ }
+    {
+        if self.waiting != 0 {
+            return 0;
+        }
+        15
+    }
+
     // The number of a call for n pairs.
     pub fn pairs_number(self, n: u64) -> u32
         ensures { λ r. ⌜ r ≡ pairsNumber self n ⌝ }
@@ -218,6 +269,10 @@ impl Generator {
         let unfit = self.record_number();
         if unfit != 0 {
             return unfit;
+        }
+        let open = self.open_number();
+        if open != 0 {
+            return open;
         }
         self.count_number(n)
     }
@@ -283,6 +338,69 @@ impl Generator {
             return RecordAnswer { number, next: self };
         }
         let next = self.ahead(n);
+        RecordAnswer { number, next }
+    }
+
+    // The same record with another note.
+    fn with_note(self, waiting: u32, asked: u32) -> Generator
+        ensures { λ r. ⌜ r ≡ noted self waiting asked ⌝ }
+    {
+        let mut next = self;
+        next.waiting = waiting;
+        next.asked = asked;
+        next
+    }
+
+    // The same record with no request open.
+    pub fn without_note(self) -> Generator
+        ensures { λ r. ⌜ r ≡ cleared self ⌝ }
+    {
+        self.with_note(0, 0)
+    }
+
+    // The number of asking for n pairs.
+    fn ask_number(self, n: u32) -> u32
+        ensures { λ r. ⌜ r ≡ numberOf (an-ask n) self ⌝ }
+    {
+        let unfit = self.record_number();
+        let open = self.open_number();
+        let many = asked_number(n);
+        let full = self.count_number(n as u64);
+        let causes = [unfit, open, many, full];
+        first_cause(&causes)
+    }
+
+    // Notes a request for n pairs.
+    pub fn ask(self, n: u32) -> RecordAnswer
+        ensures { λ r. ⌜ r ≡ askOf self n ⌝ }
+    {
+        let number = self.ask_number(n);
+        if number != 0 {
+            return RecordAnswer { number, next: self };
+        }
+        let next = self.with_note(1, n);
+        RecordAnswer { number, next }
+    }
+
+    // The number of giving up.
+    fn give_up_number(self) -> u32
+        ensures { λ r. ⌜ r ≡ numberOf give-up self ⌝ }
+    {
+        let unfit = self.record_number();
+        let none = self.none_open_number();
+        let causes = [unfit, none];
+        first_cause(&causes)
+    }
+
+    // Clears the request.
+    pub fn give_up(self) -> RecordAnswer
+        ensures { λ r. ⌜ r ≡ giveUpOf self ⌝ }
+    {
+        let number = self.give_up_number();
+        if number != 0 {
+            return RecordAnswer { number, next: self };
+        }
+        let next = self.without_note();
         RecordAnswer { number, next }
     }
 }

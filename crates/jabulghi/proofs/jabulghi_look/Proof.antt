@@ -1,7 +1,6 @@
 -- `jabulghi::jabulghi_look` meets its contract: number and lent block are those of the call below it.
-use mathlib.Core.Path.{ap}
+use mathlib.Core.Path.{refl}
 use borrow.Author.Needs.{needs}
-use Rattle.streams.specs.declared.RecordAnswer.{RecordAnswer}
 use Rattle.jabulghi.proofs.jabulghi_look.Statement.{statement}
 use Rattle.jabulghi.proofs.jabulghi_look.Tie as tie
 
@@ -17,7 +16,7 @@ same-length c = search needs
 returns : tie.Need-returns
 returns c =
     let look = c .before .look in
-    rw (← (c .before .before .before .unpacked .ensures)) (ap (λ (r : RecordAnswer). r .number) (look .ensures .0), look .ensures .1)
+    rw (← (c .before .before .before .unpacked .ensures), ← (look .ensures .0)) (refl, look .ensures .1)
 
 pub jabulghi-look-spec : {M : Type 1} → statement M
 jabulghi-look-spec = tie.close (tie.spec unpacked-requires look-requires same-length returns)

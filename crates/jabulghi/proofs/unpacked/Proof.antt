@@ -30,6 +30,12 @@ array-read-joined-6 c = search needs
 joined-requires : tie.Need-joined-requires
 joined-requires c κs = search needs
 
+array-read-t14-3 : tie.Need-array-read-t14-3
+array-read-t14-3 c = search needs
+
+array-read-t11 : tie.Need-array-read-t11
+array-read-t11 c = search needs
+
 returns : tie.Need-returns
 returns c = rw (c .joined .ensures)
 
@@ -46,4 +52,6 @@ unpacked-spec =
     array-read-joined-5
     array-read-joined-6
     joined-requires
+    array-read-t14-3
+    array-read-t11
     returns)

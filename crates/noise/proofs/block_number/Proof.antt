@@ -1,11 +1,14 @@
--- `block_number` is `blockNumber`: its three causes in their order.
+-- `block_number` is `blockNumber`: its four causes in their order.
 use borrow.Author.Needs.{needs}
-use Rattle.noise.specs.Noise.{blockNumber}
+use Rattle.streams.specs.Streams.{numberOf, noteNumber, ownNumber, roomNumber}
 use Rattle.noise.proofs.block_number.Statement.{statement}
 use Rattle.noise.proofs.block_number.Tie as tie
 
 record-number-requires : tie.Need-record-number-requires
 record-number-requires c κs = search needs
+
+open-number-requires : tie.Need-open-number-requires
+open-number-requires c κs = search needs
 
 length-number-requires : tie.Need-length-number-requires
 length-number-requires c κs = search needs
@@ -20,10 +23,11 @@ first-cause-requires : tie.Need-first-cause-requires
 first-cause-requires c κs = search needs
 
 returns : tie.Need-returns
-unfolding blockNumber
+unfolding numberOf noteNumber ownNumber roomNumber
 returns c =
     rw (
-      ← c .before .before .before .before .record-number .ensures,
+      ← c .before .before .before .before .before .record-number .ensures,
+      ← c .before .before .before .before .open-number .ensures,
       ← c .before .before .before .length-number .ensures,
       ← c .before .before .count-number .ensures,
     )
@@ -34,6 +38,7 @@ block-number-spec =
     tie.close
     (tie.spec
     record-number-requires
+    open-number-requires
     length-number-requires
     count-number-requires
     slice-aggregate-first-cause

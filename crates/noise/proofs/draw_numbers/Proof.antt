@@ -23,11 +23,11 @@ returns c =
     let start = c .before .before .before .before .before .before .before .before .before .before in
     let g = start .args .g in
     let n = length (start .args .z .now) in
-    let (fits, room) = pairs-accepted g n .0 (start .pre) in
+    let (fits, room, none) = pairs-accepted g n .0 (start .pre) in
     let reached = sound g (omega (arith, start .good)) (omega (arith, start .good)) fits in
     let drawn = c .before .before .before .before .before .draw-pairs .ensures in (
-      rw (c .onward .ensures, count-room g n .1 room, drawn .0) (sym (after-moved n g reached room)),
-      drawn .1 ∙ sym (numbers-words n g reached room),
+      rw (c .onward .ensures, count-room g n .1 room, drawn .0) (sym (after-moved n g reached none room)),
+      drawn .1 ∙ sym (numbers-words n g reached none room),
     )
 
 pub draw-numbers-spec : {M : Type 1} → statement M

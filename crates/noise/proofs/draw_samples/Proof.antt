@@ -22,10 +22,11 @@ start-sound : (c : tie.Start) → Sound (c .args .g)
 start-sound c = sound (c .args .g) (omega arith) (omega arith) (pairs-accepted _ _ .0 (c .pre .0) .0)
 
 -- the slice has room for just the pairs, so it is filled with their samples
-whole : {zs : List ℕ} {out : List ℤ} (old : List ℤ) (n : ℕ) (g : Generator) → Sound g → g .count + n ≤ mostCount → zs ≡ numbers n g
+whole : {zs : List ℕ} {out : List ℤ} (old : List ℤ) (n : ℕ) (g : Generator) → Sound g → g .waiting ≡ 0 → g .count + n ≤ mostCount
+    → zs ≡ numbers n g
     → length old ≡ 2 * n → out ≡ filled zs old → out ≡ samples n g
-whole old n g h room e l f =
-    f ∙ rw e (filled-whole (numbers n g) old (rw (length-numbers n g) l)) ∙ sym (samples-numbers n g h room)
+whole old n g h none room e l f =
+    f ∙ rw e (filled-whole (numbers n g) old (rw (length-numbers n g) l)) ∙ sym (samples-numbers n g h none room)
 
 draw-numbers-requires : tie.Need-draw-numbers-requires
 draw-numbers-requires c κs = search needs
@@ -45,8 +46,8 @@ returns c =
     let drawn = c .before .before .before .before .before .before .draw-numbers .ensures in
     let n = length (start .args .z .now) in
     let filled-by = c .before .fill .ensures in
-    let room = pairs-accepted _ n .0 (start .pre .0) .1 in
-    (drawn .0, whole (start .args .out .now) n (start .args .g) (start-sound start) room (drawn .1) (start .pre .1) filled-by)
+    let (_, room, none) = pairs-accepted _ n .0 (start .pre .0) in
+    (drawn .0, whole (start .args .out .now) n (start .args .g) (start-sound start) none room (drawn .1) (start .pre .1) filled-by)
 
 pub draw-samples-spec : {M : Type 1} → statement M
 draw-samples-spec =

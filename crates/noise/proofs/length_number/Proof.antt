@@ -1,7 +1,7 @@
 -- `length_number` is `lengthNumber`.
 use borrow.Author.Needs.{needs}
 use borrow.Author.Tests.{eq-eqb, ne-eqb}
-use Rattle.noise.specs.Noise.{lengthNumber}
+use Rattle.streams.specs.Streams.{lengthNumber}
 use Rattle.noise.proofs.length_number.Statement.{statement}
 use Rattle.noise.proofs.length_number.Tie as tie
 

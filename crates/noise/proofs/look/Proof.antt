@@ -1,8 +1,11 @@
--- `look` is `lookOf`, and leaves what a block leaves.
-use mathlib.Core.Path.{refl}
+-- `look` is `lookOf`, and leaves what a block leaves on the record with its note cleared.
 use borrow.Author.Needs.{needs}
+use Rattle.noise.specs.Noise.{lookOf, lookHolds}
 use Rattle.noise.proofs.look.Statement.{statement}
 use Rattle.noise.proofs.look.Tie as tie
+
+without-note-requires : tie.Need-without-note-requires
+without-note-requires c κs = search needs
 
 block-requires : tie.Need-block-requires
 block-requires c κs = search needs
@@ -11,7 +14,8 @@ same-length : tie.Need-same-length
 same-length c = search needs
 
 returns : tie.Need-returns
-returns c = ((cc), c .before .block .ensures .1)
+unfolding lookOf lookHolds
+returns c = ((cc), rw (← (c .before .before .before .without-note .ensures)) (c .before .block .ensures .1))
 
 pub look-spec : {M : Type 1} → statement M
-look-spec = tie.close (tie.spec block-requires same-length returns)
+look-spec = tie.close (tie.spec without-note-requires block-requires same-length returns)

@@ -35,9 +35,9 @@ start-sound : (c : tie.Start Inv-loop μ-loop) → Sound (c .args .g)
 start-sound c = sound (c .args .g) (omega arith) (omega arith) (pairs-accepted _ _ .0 (c .pre .0) .0)
 
 -- the count has room for a part of the pairs
-pairs-of-part : (m n : ℕ) (g : Generator) → Sound g → g .count + (m + n) ≤ mostCount → pairsNumber (after m g) n ≡ 0
-pairs-of-part m n g h room =
-    rw (after-moved m g h (omega arith)) (pairs-accepted _ n .1 (sound-accepted _ (moved-sound m g h), omega arith))
+pairs-of-part : (m n : ℕ) (g : Generator) → Sound g → g .waiting ≡ 0 → g .count + (m + n) ≤ mostCount → pairsNumber (after m g) n ≡ 0
+pairs-of-part m n g h none room =
+    rw (after-moved m g h none (omega arith)) (pairs-accepted _ n .1 (sound-accepted _ (moved-sound m g h), omega arith, none))
 
 -- the part that is lent
 part-size : (place end : ℕ) (out : List ℤ) → end ≤ length out → length (take (end - place) (drop place out)) ≡ end - place
@@ -108,10 +108,10 @@ stretch-requires c κs =
     let more = c .before .before .loop-test .taken in
     let end-is = c .before .stretch-end .ensures in
     let even₀ = start .pre .1 in
-    let room = pairs-accepted _ _ .0 (start .pre .0) .1 in
+    let (_, room, none) = pairs-accepted _ _ .0 (start .pre .0) in
     let out = c .before .before .before .loop .out in
     let size = part-size at (c .before .stretch-end .result) out (omega (arith, inv .kept, end-is)) in (
-      rw (inv .now-at, size) (pairs-of-part (at / 2) _ (start .args .g) (start-sound start) (omega (arith, end-is, more, inv .even, even₀, room))),
+      rw (inv .now-at, size) (pairs-of-part (at / 2) _ (start .args .g) (start-sound start) none (omega (arith, end-is, more, inv .even, even₀, room))),
       rw size (omega (arith, inv .even, end-is, even₀, more)),
       rw size (omega (arith, end-is)),
     )

@@ -23,8 +23,8 @@ unfolding skipOf
 returns-2 c =
     let start = c .before .before .before in
     let g = start .args .self in
-    let (fits, room) = pairs-accepted g (start .args .n) .0 (rw (c .before .before .pairs-number .ensures) at (c .before .if1 .left)) in
-    let reached = after-moved _ g (sound g (omega (arith, start .good)) (omega (arith, start .good)) fits) room in
+    let (fits, room, none) = pairs-accepted g (start .args .n) .0 (rw (c .before .before .pairs-number .ensures) at (c .before .if1 .left)) in
+    let reached = after-moved _ g (sound g (omega (arith, start .good)) (omega (arith, start .good)) fits) none room in
     rw (c .ahead .ensures, count-room g (start .args .n) .1 room, ← reached, ← c .before .before .pairs-number .ensures, c .before .if1 .left)
 
 pub skip-spec : {M : Type 1} → statement M
