@@ -1,4 +1,5 @@
 pub mod Laws
+pub mod Notes
 pub mod Requests
 pub mod Runs
 pub mod Theorems

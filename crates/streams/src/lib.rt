@@ -345,10 +345,10 @@ impl Generator {
     fn with_note(self, waiting: u32, asked: u32) -> Generator
         ensures { λ r. ⌜ r ≡ noted self waiting asked ⌝ }
     {
-        let mut next = self;
-        next.waiting = waiting;
-        next.asked = asked;
-        next
+        let mut noted = self;
+        noted.waiting = waiting;
+        noted.asked = asked;
+        noted
     }
 
     // The same record with no request open.

@@ -1,4 +1,6 @@
 -- `taken_number` is `takenNumber`.
+use Prim.Native.Nat.{_*_}
+use native.Mathlib.Omega.{arith}
 use borrow.Author.Needs.{needs}
 use borrow.Author.Tests.{eq-eqb, ne-eqb}
 use Rattle.streams.specs.Streams.{takenNumber}
@@ -20,11 +22,17 @@ mul-if2 c = search needs
 
 returns-2 : tie.Need-returns-2
 unfolding takenNumber
-returns-2 c = rw (← c .before .before .before .asked-number .ensures, c .before .before .if1 .left, ne-eqb _ _ (c .if2 .taken))
+returns-2 c =
+    let start = c .before .before .before .before in
+    let other = ne-eqb (start .args .n) (2 * start .args .g .asked) (λ z. absurd (omega (arith, z, c .if2 .taken))) in
+    rw (← c .before .before .before .asked-number .ensures, c .before .before .if1 .left, other)
 
 returns-3 : tie.Need-returns-3
 unfolding takenNumber
-returns-3 c = rw (← c .before .before .before .asked-number .ensures, c .before .before .if1 .left, eq-eqb _ _ (c .if2 .left))
+returns-3 c =
+    let start = c .before .before .before .before in
+    let just = eq-eqb (start .args .n) (2 * start .args .g .asked) (omega (arith, c .if2 .left)) in
+    rw (← c .before .before .before .asked-number .ensures, c .before .before .if1 .left, just)
 
 pub taken-number-spec : {M : Type 1} → statement M
 taken-number-spec =

@@ -1,0 +1,185 @@
+-- What a call's note decides: number, samples, registers and count depend on it only by 14, 15 and 16.
+use mathlib.Core.Path.{_≡_, refl, sym, ap, _∙_}
+use mathlib.Core.Bool.{Bool, true, false, cond}
+use mathlib.Core.List.{List, [], _∷_}
+use mathlib.Core.Logic.{_⊎_, inl, inr}
+use Prim.Native.Nat.{ℕ, _+_, _*_, _/_}
+use native.Mathlib.Omega.{arith}
+use lib.Dec.{eqb}
+use lib.IntN.{ℤ}
+use lib.ListN.{length}
+use borrow.Author.Tests.{eqb-true, eqb-false, ne-eqb}
+use Rattle.streams.specs.declared.Generator.{Generator}
+use Rattle.streams.specs.Streams.{noted, cleared, recordNumber, openNumber, noneOpenNumber, askedNumber, takenNumber, lengthNumber, countNumber, firstCause}
+use Rattle.streams.specs.Streams.{Call, noteNumber, ownNumber, roomNumber, numberOf}
+use Rattle.streams.specs.Streams.Call.{numbers, a-pair, a-skip, a-block, a-look, an-ask, a-take, give-up}
+use Rattle.streams.specs.Recurrence.{Sound, moved}
+use Rattle.streams.proofs.Causes.{accepted-causes, none-open, just-taken}
+use Rattle.streams.proofs.Theorems.{sound-cleared, pairs-accepted}
+use Rattle.noise.specs.Noise.{pairOf, samples, blockNumber, blockHolds, lookHolds, takeHolds}
+use Rattle.noise.specs.Runs.{returned, pairsOut, handed}
+use Rattle.noise.proofs.Laws.{block-accepted, take-accepted, samples-noted}
+use Rattle.noise.proofs.Runs.{call-moves}
+use Rattle.noise.proofs.Theorems.{block-holds}
+
+-- ---- Numbers
+
+abbrev pub ByNote : ℕ → Type 0
+ByNote number = (number ≡ 14) ⊎ ((number ≡ 15) ⊎ (number ≡ 16))
+
+-- Two numbers differ for the note alone.
+abbrev pub Alike : ℕ → ℕ → Type 0
+Alike m n = ByNote m ⊎ (ByNote n ⊎ (m ≡ n))
+
+-- behind a first cause that both share
+alike-behind : (r m n : ℕ) → Alike m n → Alike (cond (eqb r 0) m r) (cond (eqb r 0) n r)
+alike-behind r m n h = by-test (eqb r 0)
+  where
+    by-test : (t : Bool) → Alike (cond t m r) (cond t n r)
+    by-test true = h
+    by-test false = inr (inr refl)
+
+-- 14 or not, and then the same causes
+open-alike : (g h : Generator) (causes : List ℕ) → Alike (firstCause (openNumber g ∷ causes)) (firstCause (openNumber h ∷ causes))
+unfolding openNumber
+open-alike g h causes = by-tests (eqb (g .waiting) 0) (eqb (h .waiting) 0)
+  where
+    by-tests : (t u : Bool) → Alike (firstCause (cond t 0 14 ∷ causes)) (firstCause (cond u 0 14 ∷ causes))
+    by-tests true true = inr (inr refl)
+    by-tests true false = inr (inl (inl refl))
+    by-tests false u = inl (inl refl)
+
+-- 15 or not, and then causes that are alike
+none-alike : (g h : Generator) (l m : List ℕ) → Alike (firstCause l) (firstCause m)
+    → Alike (firstCause (noneOpenNumber g ∷ l)) (firstCause (noneOpenNumber h ∷ m))
+unfolding noneOpenNumber
+none-alike g h l m rest = by-tests (eqb (g .waiting) 0) (eqb (h .waiting) 0)
+  where
+    by-tests : (t u : Bool) → Alike (firstCause (cond t 15 0 ∷ l)) (firstCause (cond u 15 0 ∷ m))
+    by-tests true u = inl (inr (inl refl))
+    by-tests false true = inr (inl (inr (inl refl)))
+    by-tests false false = rest
+
+-- 16 or not
+taken-or-not : (g : Generator) (n : ℕ) → (takenNumber g n ≡ 0) ⊎ (takenNumber g n ≡ 16)
+unfolding takenNumber
+taken-or-not g n = by-tests (eqb (askedNumber (g .asked)) 0) (eqb n (2 * g .asked))
+  where
+    Either : ℕ → Type 0
+    Either number = (number ≡ 0) ⊎ (number ≡ 16)
+
+    by-tests : (t u : Bool) → Either (cond t (cond u 0 16) 16)
+    by-tests true true = inl refl
+    by-tests true false = inr refl
+    by-tests false u = inr refl
+
+-- two that are taken into one block noted as many
+as-many : (g : Generator) (waiting asked n : ℕ) → takenNumber g n ≡ 0 → takenNumber (noted g waiting asked) n ≡ 0 → g .asked ≡ asked
+as-many g waiting asked n e f =
+    let (_, first) = just-taken g n .0 e in
+    let (_, second) = just-taken (noted g waiting asked) n .0 f in
+    omega (arith, first, second)
+
+take-alike : (g : Generator) (waiting asked n : ℕ)
+    → Alike (firstCause (takenNumber g n ∷ countNumber g (g .asked) ∷ []))
+    (firstCause (takenNumber (noted g waiting asked) n ∷ countNumber (noted g waiting asked) asked ∷ []))
+unfolding countNumber
+take-alike g waiting asked n = by-cases (taken-or-not g n) (taken-or-not (noted g waiting asked) n)
+  where
+    by-cases : (takenNumber g n ≡ 0) ⊎ (takenNumber g n ≡ 16)
+        → (takenNumber (noted g waiting asked) n ≡ 0) ⊎ (takenNumber (noted g waiting asked) n ≡ 16)
+        → Alike (firstCause (takenNumber g n ∷ countNumber g (g .asked) ∷ []))
+        (firstCause (takenNumber (noted g waiting asked) n ∷ countNumber (noted g waiting asked) asked ∷ []))
+    by-cases (inr e) f = rw e (inl (inr (inr refl)))
+    by-cases (inl e) (inr f) = rw f (inr (inl (inr (inr refl))))
+    by-cases (inl e) (inl f) = rw (e, f, as-many g waiting asked n e f) (inr (inr refl))
+
+-- The number of a call on two records that differ in their notes is the same, or is 14, 15 or 16 for one of them.
+pub note-numbers : (c : Call) (g : Generator) (waiting asked : ℕ) → Alike (numberOf c g) (numberOf c (noted g waiting asked))
+unfolding numberOf noteNumber ownNumber roomNumber recordNumber countNumber
+note-numbers c g waiting asked = by-call c
+  where
+    other : Generator
+    other = noted g waiting asked
+
+    opened : (causes : List ℕ)
+        → Alike (firstCause (recordNumber g ∷ openNumber g ∷ causes)) (firstCause (recordNumber g ∷ openNumber other ∷ causes))
+    opened causes = alike-behind (recordNumber g) _ _ (open-alike g other causes)
+
+    closed : (l m : List ℕ) → Alike (firstCause l) (firstCause m)
+        → Alike (firstCause (recordNumber g ∷ noneOpenNumber g ∷ l)) (firstCause (recordNumber g ∷ noneOpenNumber other ∷ m))
+    closed l m rest = alike-behind (recordNumber g) _ _ (none-alike g other l m rest)
+
+    by-call : (c : Call) → Alike (numberOf c g) (numberOf c other)
+    by-call numbers = opened (0 ∷ countNumber g 1 ∷ [])
+    by-call a-pair = opened (0 ∷ countNumber g 1 ∷ [])
+    by-call (a-skip n) = opened (0 ∷ countNumber g n ∷ [])
+    by-call (a-block n) = opened (lengthNumber n ∷ countNumber g (n / 2) ∷ [])
+    by-call (a-look n) = inr (inr refl)
+    by-call (an-ask n) = opened (askedNumber n ∷ countNumber g n ∷ [])
+    by-call (a-take n) =
+        closed
+        (takenNumber g n ∷ countNumber g (g .asked) ∷ [])
+        (takenNumber other n ∷ countNumber other asked ∷ [])
+        (take-alike g waiting asked n)
+    by-call give-up = closed (0 ∷ 0 ∷ []) (0 ∷ 0 ∷ []) (inr (inr refl))
+
+-- ---- Registers and count
+
+-- Both accepted, it leaves the same registers and count.
+pub note-records : (c : Call) (g : Generator) (waiting asked : ℕ) → Sound g → numberOf c g ≡ 0 → numberOf c (noted g waiting asked) ≡ 0
+    → cleared (returned c g .next) ≡ cleared (returned c (noted g waiting asked) .next)
+unfolding handed
+note-records c g waiting asked h e f =
+    let other : Generator = noted g waiting asked in
+    let same : pairsOut c g ≡ pairsOut c other = same-pairs c (accepted-causes c g .0 e .2) (accepted-causes c other .0 f .2) in
+    call-moves c g h
+    ∙ rw (e, f, same) refl
+    ∙ sym (call-moves c other (sound-cleared other .1 (sound-cleared g .0 h)))
+  where
+    same-pairs : (c : Call) → ownNumber c g ≡ 0 → ownNumber c (noted g waiting asked) ≡ 0
+        → pairsOut c g ≡ pairsOut c (noted g waiting asked)
+    same-pairs numbers x y = unfold pairsOut in refl
+    same-pairs a-pair x y = unfold pairsOut in refl
+    same-pairs (a-skip n) x y = unfold pairsOut in refl
+    same-pairs (a-block n) x y = unfold pairsOut in refl
+    same-pairs (a-look n) x y = unfold pairsOut in refl
+    same-pairs (an-ask n) x y = unfold pairsOut in refl
+    same-pairs (a-take n) x y = unfold pairsOut ownNumber in as-many g waiting asked n x y
+    same-pairs give-up x y = unfold pairsOut in refl
+
+-- ---- Samples
+
+-- Both accepted, it gives the same samples: a block, a take and a pair; a look always.
+pub note-blocks : (g : Generator) (waiting asked : ℕ) (old : List ℤ) → Sound g
+    → blockNumber g (length old) ≡ 0 → blockNumber (noted g waiting asked) (length old) ≡ 0
+    → blockHolds g old ≡ blockHolds (noted g waiting asked) old
+note-blocks g waiting asked old h e f =
+    let n = length old / 2 in
+    let (_, room, none) = pairs-accepted g n .0 (block-accepted g (length old) .0 e .0) in
+    let (_, _, none-there) = pairs-accepted (noted g waiting asked) n .0 (block-accepted (noted g waiting asked) (length old) .0 f .0) in
+    block-holds g old e
+    ∙ sym (block-holds (noted g waiting asked) old f
+    ∙ ap (λ (w : ℕ). samples n (noted g w asked)) none-there
+    ∙ samples-noted n asked g h none room)
+
+pub note-takes : (g : Generator) (waiting asked : ℕ) (old : List ℤ)
+    → numberOf (a-take (length old)) g ≡ 0 → numberOf (a-take (length old)) (noted g waiting asked) ≡ 0
+    → takeHolds g old ≡ takeHolds (noted g waiting asked) old
+unfolding takeHolds ownNumber
+note-takes g waiting asked old e f =
+    let own = accepted-causes (a-take (length old)) g .0 e .2 in
+    let own-there = accepted-causes (a-take (length old)) (noted g waiting asked) .0 f .2 in
+    rw (e, f) (ap (λ (n : ℕ). samples n (cleared g)) (as-many g waiting asked (length old) own own-there))
+
+pub note-pairs : (g : Generator) (waiting asked : ℕ) → Sound g → numberOf (a-skip 1) g ≡ 0 → numberOf (a-skip 1) (noted g waiting asked) ≡ 0
+    → pairOf g .first ∷ pairOf g .second ∷ [] ≡ pairOf (noted g waiting asked) .first ∷ pairOf (noted g waiting asked) .second ∷ []
+unfolding samples
+note-pairs g waiting asked h e f =
+    let (_, room, none) = pairs-accepted g 1 .0 e in
+    let (_, _, none-there) = pairs-accepted (noted g waiting asked) 1 .0 f in
+    sym (ap (λ (w : ℕ). samples 1 (noted g w asked)) none-there ∙ samples-noted 1 asked g h none room)
+
+pub note-looks : (g : Generator) (waiting asked : ℕ) (old : List ℤ) → lookHolds g old ≡ lookHolds (noted g waiting asked) old
+unfolding lookHolds
+note-looks g waiting asked old = refl
