@@ -12,7 +12,7 @@
 extern "C" {
 #endif
 
-/* Every call returns one of these numbers. Order: 2 before 3; 11, 12, 4, 13; for a job 5, then the first bad line, within it 6, 8, 9, 7, 11, 12;
+/* Every call returns one of these numbers. Order: 2 before 3; 11, 12, 15, 14, 16, 4, 13; for a job 5, then the first bad line, within it 6, 8, 9, 7, 11, 12;
  * last 10. */
 enum {
     JABULGHI_OK = 0,
@@ -27,18 +27,25 @@ enum {
     JABULGHI_LISTING_TOO_LONG = 10, /* listing longer than the buffer lent */
     JABULGHI_UNFIT_STREAM_A = 11,   /* a register of stream a below its minimum */
     JABULGHI_UNFIT_STREAM_B = 12,   /* a register of stream b below its minimum, stream a being fit */
-    JABULGHI_COUNT_FULL = 13        /* the count would pass 2^64 - 1 */
+    JABULGHI_COUNT_FULL = 13,       /* the count would pass 2^64 - 1 */
+    JABULGHI_REQUEST_OPEN = 14,     /* a request is open: take it or give it up first */
+    JABULGHI_NO_REQUEST = 15,       /* no request is open */
+    JABULGHI_WRONG_REQUEST = 16     /* more than 1,000,000 pairs, asked or noted, or a block not of two samples for each */
 };
+
+/* The most pairs that one request may ask for. */
+#define JABULGHI_MOST_ASKED 1000000
 
 /* Every listing fits this many bytes. */
 #define JABULGHI_LISTING_ROOM 20480
 
-/* A generator record that the caller keeps: registers s0, s1, s2 of stream a and of stream b, and the count of the pairs that were handed out or
- * skipped since seeding. An accepted record has s0 at least 2, s1 at least 8 and s2 at least 16 in both. A record that was accepted is refused
- * later for its count alone. A refused call counts nothing. */
-typedef struct { uint32_t a[3], b[3]; uint64_t count; } jabulghi_record;
+/* A generator record that the caller keeps: registers s0, s1, s2 of stream a and of stream b; the count of the pairs that were handed out or skipped
+ * since seeding; and the note, whether a request is open (not 0) and for how many pairs. An accepted record has s0 at least 2, s1 at least 8 and s2 at
+ * least 16 in both. A record that was accepted is refused later for its count, its note or the call's own arguments alone. A refused call changes no
+ * word of it; only seeding always writes all of it. */
+typedef struct { uint32_t a[3], b[3]; uint64_t count; uint32_t open, asked; } jabulghi_record;
 
-/* Seeds a record, its count 0. Refused (11, 12), the record becomes six zeros and count 0. */
+/* Seeds a record, its count 0, no request open and a noted 0. Refused (11, 12), the registers become zeros besides. */
 uint32_t jabulghi_seed(uint32_t a0, uint32_t a1, uint32_t a2, uint32_t b0, uint32_t b1, uint32_t b2, jabulghi_record *record);
 
 /* The two samples of k, from 0 to 2^48 - 1, and v, from 0 to 65535, in units of 2^-11 of a standard deviation. Each is less than
@@ -46,20 +53,31 @@ uint32_t jabulghi_seed(uint32_t a0, uint32_t a1, uint32_t a2, uint32_t b0, uint3
  * 65536. Refused (2, 3), the samples are 0 0. samples: 2 elements. */
 uint32_t jabulghi_sample(uint64_t k, uint32_t v, int16_t *samples);
 
-/* One pair from a record: a draw from a, then one from b, and their two samples. Refused (11, 12, 13), the samples are 0 0 and the
- * record stays. samples: 2 elements. */
+/* One pair from a record: a draw from a, then one from b, and their two samples. Refused (11, 12, 14, 13), the samples are 0 0 and
+ * the record stays. samples: 2 elements. */
 uint32_t jabulghi_pair(jabulghi_record *record, int16_t *samples);
 
-/* A block of length elements: the samples of length / 2 pairs, first and second alternating. Refused (11, 12, 4, 13), block and
+/* A block of length elements: the samples of length / 2 pairs, first and second alternating. Refused (11, 12, 14, 4, 13), block and
  * record stay: all its pairs are counted or none. Length 0 succeeds and moves nothing. */
 uint32_t jabulghi_block(jabulghi_record *record, int16_t *block, size_t length);
 
-/* A look at the block that would come next: number and block as after jabulghi_block, refused alike, and the record stays as it is. */
+/* A look at the block that would come next: the samples of jabulghi_block, and the record stays as it is. An open request does not matter to it.
+ * Refused (11, 12, 4, 13), the block stays. */
 uint32_t jabulghi_look(const jabulghi_record *record, int16_t *block, size_t length);
 
 /* Moves a record by n pairs, for any n at once: rigs that share one long stream each start at a stretch of their own. Skips that are
- * accepted add up, in any order; n = 0 leaves the record as it is. Refused (11, 12, 13), the record stays. */
+ * accepted add up, in any order; n = 0 leaves the record as it is. Refused (11, 12, 14, 13), the record stays. */
 uint32_t jabulghi_skip(jabulghi_record *record, uint64_t n);
+
+/* Ask, then take: what was asked for and not yet taken is not lost. Asking notes n pairs, 0 to 1,000,000, and moves nothing; a request for 0 is open
+ * too. Refused: 11, 12, 14 (one is open), 16, 13 (no room for n). */
+uint32_t jabulghi_ask(jabulghi_record *record, uint32_t n);
+
+/* Fills a block of just two samples for each pair that was asked for, as jabulghi_block would have, and clears the note. Refused: 11, 12, 15, 16, 13. */
+uint32_t jabulghi_take(jabulghi_record *record, int16_t *block, size_t length);
+
+/* Clears the note and moves nothing. Refused: 11, 12, 15. */
+uint32_t jabulghi_give_up(jabulghi_record *record);
 
 /* The listing of a job's text, its line and its length. Accepted, line is 0 and the first length bytes of listing are the listing;
  * the bytes beyond it keep their contents. Refused (5 to 12), length is 0, line is the bad line, or 0 for 5 and 10, and listing

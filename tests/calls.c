@@ -4,15 +4,19 @@
 #include <stdio.h>
 #include <string.h>
 
-/* A record is six registers and a count with nothing between them: where that fails, the size of an array is negative. */
-typedef char record_has_32_bytes[sizeof(jabulghi_record) == 32 ? 1 : -1];
+/* A record is six registers, a count and a note with nothing between them: where that fails, the size of an array is negative. */
+typedef char record_has_40_bytes[sizeof(jabulghi_record) == 40 ? 1 : -1];
 typedef char a_comes_first[offsetof(jabulghi_record, a) == 0 ? 1 : -1];
 typedef char b_comes_after[offsetof(jabulghi_record, b) == 12 ? 1 : -1];
-typedef char count_comes_last[offsetof(jabulghi_record, count) == 24 ? 1 : -1];
+typedef char count_comes_third[offsetof(jabulghi_record, count) == 24 ? 1 : -1];
+typedef char open_comes_fourth[offsetof(jabulghi_record, open) == 32 ? 1 : -1];
+typedef char asked_comes_last[offsetof(jabulghi_record, asked) == 36 ? 1 : -1];
 
 static void show_record(const jabulghi_record *r) {
     printf(" %" PRIu32 " %" PRIu32 " %" PRIu32 " %" PRIu32 " %" PRIu32 " %" PRIu32, r->a[0], r->a[1], r->a[2], r->b[0], r->b[1], r->b[2]);
-    printf(", count %" PRIu64 "\n", r->count);
+    printf(", count %" PRIu64, r->count);
+    if (r->open || r->asked) printf(", open %" PRIu32 ", asked %" PRIu32, r->open, r->asked);
+    printf("\n");
 }
 
 static void seed(jabulghi_record *r, uint32_t a0) {
@@ -54,6 +58,64 @@ static void skip(jabulghi_record *r, uint64_t n) {
     show_record(r);
 }
 
+static void ask(jabulghi_record *r, uint32_t n) {
+    uint32_t number = jabulghi_ask(r, n);
+    printf("ask %" PRIu32 " %" PRIu32 ": record", n, number);
+    show_record(r);
+}
+
+static void take(jabulghi_record *r, size_t length) {
+    int16_t s[6] = {7, 7, 7, 7, 7, 7};
+    uint32_t number = jabulghi_take(r, s, length);
+    printf("take %" PRIu32 ": %d %d %d %d %d %d, record", number, s[0], s[1], s[2], s[3], s[4], s[5]);
+    show_record(r);
+}
+
+static void give_up(jabulghi_record *r) {
+    uint32_t number = jabulghi_give_up(r);
+    printf("give up %" PRIu32 ": record", number);
+    show_record(r);
+}
+
+/* A request from asking to its take or its end, with each call that waits. */
+static void requests(void) {
+    jabulghi_record r, unfit = {{2, 8, 16}, {2, 8, 15}, 0, 9, 2}, elsewhere = {{2, 8, 16}, {2, 8, 16}, 0, 7, 2000000}, full;
+    seed(&r, 2);
+    take(&r, 0);
+    give_up(&r);
+    ask(&r, 1000001);
+    ask(&r, 2);
+    ask(&r, 1);
+    pair(&r);
+    block(&r, 3);
+    skip(&r, 0);
+    look(&r, 4);
+    take(&r, 5);
+    take(&r, 2);
+    take(&r, 4);
+    block(&r, 2);
+    ask(&r, 0);
+    give_up(&r);
+    ask(&r, 0);
+    take(&r, 0);
+    ask(&unfit, 1);
+    take(&unfit, 4);
+    give_up(&unfit);
+    take(&elsewhere, 6);
+    look(&elsewhere, 2);
+    give_up(&elsewhere);
+    elsewhere.asked = 5;
+    block(&elsewhere, 2);
+    ask(&elsewhere, 1);
+    full = r;
+    full.count = UINT64_MAX - 1;
+    ask(&full, 2);
+    ask(&full, 1);
+    full.count = UINT64_MAX;
+    take(&full, 2);
+    give_up(&full);
+}
+
 static char text[60002];
 
 static void list(size_t length, size_t room) {
@@ -85,7 +147,8 @@ static void list_shots(int shots) {
 #define EXAMPLE SEEDS "(sigma 4 10)\n(shot A1 A2 12345 4500)\n(shot A2 A3 9000 65530)\n"
 
 int main(void) {
-    jabulghi_record r = {{7, 7, 7}, {7, 7, 7}, 7}, unfit = {{2, 8, 16}, {2, 8, 15}, UINT64_MAX}, both_unfit = {{2, 7, 16}, {2, 8, 15}, 7};
+    jabulghi_record r = {{7, 7, 7}, {7, 7, 7}, 7, 7, 7}, unfit = {{2, 8, 16}, {2, 8, 15}, UINT64_MAX, 0, 0},
+                    both_unfit = {{2, 7, 16}, {2, 8, 15}, 7, 0, 0};
     seed(&r, 1);
     seed(&r, 2);
     sample(1, 49152);
@@ -121,6 +184,7 @@ int main(void) {
     block(&r, 2);
     skip(&r, 0);
     skip(&r, 1);
+    requests();
     list_text(EXAMPLE, JABULGHI_LISTING_ROOM);
     list_text(EXAMPLE, 51);
     list_text(SEEDS "(sigma 4 10)\n", 24);

@@ -2,7 +2,7 @@
 use crate::jump;
 use crate::library::{self, lent, Answer, Lent, Sampled, Seeded};
 use crate::sample::Tables;
-use crate::stream::{self, draw_of, Record, Registers};
+use crate::stream::{self, draw_of, fresh, Record, Registers};
 use std::fmt;
 
 pub trait Case: Clone + fmt::Debug {
@@ -41,13 +41,17 @@ pub struct Called(pub Record, pub Call);
 #[derive(Clone, Debug)]
 pub struct History(pub Registers, pub usize);
 
-/// The calls that are passed a record: a pair, a block of a length, a look at one, a skip of n pairs.
+/// The calls that are passed a record: a pair, a block of a length, a look at one, a skip of n pairs; asking for n pairs, taking into a block of a
+/// length, giving up.
 #[derive(Clone, Copy, Debug)]
 pub enum Call {
     Pair,
     Block(usize),
     Look(usize),
     Skip(u64),
+    Ask(u32),
+    Take(usize),
+    GiveUp,
 }
 
 impl Call {
@@ -55,8 +59,8 @@ impl Call {
     pub fn pairs(self) -> u64 {
         match self {
             Call::Pair => 1,
-            Call::Block(length) => length as u64 / 2,
-            Call::Look(_) => 0,
+            Call::Block(length) | Call::Take(length) => length as u64 / 2,
+            Call::Look(_) | Call::Ask(_) | Call::GiveUp => 0,
             Call::Skip(n) => n,
         }
     }
@@ -65,8 +69,8 @@ impl Call {
     pub fn length(self) -> usize {
         match self {
             Call::Pair => 2,
-            Call::Block(length) | Call::Look(length) => length,
-            Call::Skip(_) => 0,
+            Call::Block(length) | Call::Look(length) | Call::Take(length) => length,
+            Call::Skip(_) | Call::Ask(_) | Call::GiveUp => 0,
         }
     }
 
@@ -76,6 +80,9 @@ impl Call {
             Call::Block(length) => library::block(record, length),
             Call::Look(length) => library::look(record, length),
             Call::Skip(n) => library::skip(record, n),
+            Call::Ask(n) => library::ask(record, n),
+            Call::Take(length) => library::take(record, length),
+            Call::GiveUp => library::give_up(record),
         }
     }
 
@@ -90,16 +97,22 @@ impl Call {
             Call::Block(_) => stream::block(tables, record, out.elements_mut()),
             Call::Look(_) => stream::look(tables, record, out.elements_mut()),
             Call::Skip(n) => jump::skip(record, n),
+            Call::Ask(n) => stream::ask(record, n),
+            Call::Take(_) => stream::take(tables, record, out.elements_mut()),
+            Call::GiveUp => stream::give_up(record),
         };
         (number, lent(&next), out)
     }
 
     pub fn smaller(self) -> Vec<Call> {
+        let fewer = |n: u64, call: fn(u64) -> Call| below(n).into_iter().map(call).collect();
         match self {
-            Call::Pair => Vec::new(),
-            Call::Block(length) => below(length as u64).into_iter().map(|n| Call::Block(n as usize)).collect(),
-            Call::Look(length) => below(length as u64).into_iter().map(|n| Call::Look(n as usize)).collect(),
-            Call::Skip(n) => below(n).into_iter().map(Call::Skip).collect(),
+            Call::Pair | Call::GiveUp => Vec::new(),
+            Call::Block(length) => fewer(length as u64, |n| Call::Block(n as usize)),
+            Call::Look(length) => fewer(length as u64, |n| Call::Look(n as usize)),
+            Call::Take(length) => fewer(length as u64, |n| Call::Take(n as usize)),
+            Call::Skip(n) => fewer(n, Call::Skip),
+            Call::Ask(n) => fewer(n.into(), |n| Call::Ask(n as u32)),
         }
     }
 }
@@ -126,10 +139,12 @@ pub fn lower(registers: &Registers) -> Vec<Registers> {
     out
 }
 
-/// Records with a smaller count or a smaller register.
+/// Records with a smaller note, a smaller count or a smaller register.
 pub fn records(record: &Record) -> Vec<Record> {
     let fewer = below(record.count).into_iter().map(|count| Record { count, ..*record });
-    fewer.chain(lower(&record.registers).into_iter().map(|registers| Record { registers, ..*record })).collect()
+    let closed = below(record.open.into()).into_iter().map(|open| Record { open: open as u32, ..*record });
+    let less = below(record.asked.into()).into_iter().map(|asked| Record { asked: asked as u32, ..*record });
+    closed.chain(less).chain(fewer).chain(lower(&record.registers).into_iter().map(|registers| Record { registers, ..*record })).collect()
 }
 
 impl Case for Seed {
@@ -162,7 +177,7 @@ impl Case for History {
         let [a0, a1, a2, b0, b1, b2] = self.0;
         let streams = stream::recurrence([a0, a1, a2], self.1).into_iter().zip(stream::recurrence([b0, b1, b2], self.1));
         let pair = |(count, (a, b)): (u64, ([u32; 3], [u32; 3]))| {
-            let record = Record { registers: [a[0], a[1], a[2], b[0], b[1], b[2]], count };
+            let record = Record { count, ..fresh([a[0], a[1], a[2], b[0], b[1], b[2]]) };
             (0, lent(&record), Lent::holding(&stream::samples(tables, draw_of(a), draw_of(b))))
         };
         (1..).zip(streams).map(pair).collect()

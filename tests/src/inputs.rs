@@ -1,6 +1,6 @@
 //! Seeds and pairs of numbers, the places where something changes among them.
 use crate::random::Random;
-use crate::stream::{Record, Registers};
+use crate::stream::{fresh, Record, Registers, MOST_ASKED};
 
 /// Seeds of every kind: mostly accepted, with small and sparse registers among them.
 pub fn seeds(random: &mut Random) -> Registers {
@@ -28,7 +28,15 @@ pub fn record(random: &mut Random, pairs: u64) -> Record {
         5 => random.below(1000) as u64,
         _ => 0,
     };
-    Record { registers: seeds(random), count }
+    Record { count, ..fresh(seeds(random)) }
+}
+
+/// Such a record with a note: none open and 0 noted, or any other, which no call of ours need have made.
+pub fn noted(random: &mut Random, pairs: u64) -> Record {
+    let record = record(random, pairs);
+    let open = [0, 0, 1, random.number(32) as u32][random.below(4)];
+    let asked = [0, 1, random.below(300) as u32, MOST_ASKED, MOST_ASKED + 1, 2_000_000, random.number(32) as u32][random.below(7)];
+    [record, Record { open, asked, ..record }][random.below(2)]
 }
 
 /// k's cells are those of the logarithm tables: k at the start of a cell (h, i), or just beside it, at any scale.

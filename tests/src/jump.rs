@@ -1,7 +1,7 @@
 //! Document 02, "skip ahead", without drawing. The bits of a register follow x(m+k) = x(m+q) xor x(m), so moving on by one bit is
 //! multiplying by x modulo the trinomial x^k + x^q + 1 over GF(2), and n draws are the power x^(s n).
 //! A polynomial is a number: its bit j is the factor of x^j.
-use crate::stream::{bits, call, Record, Registers, Shifts, SHIFTS};
+use crate::stream::{bits, call, Note, Record, Registers, Shifts, SHIFTS};
 
 fn bit(number: u64, place: usize) -> bool {
     number >> place & 1 == 1
@@ -47,5 +47,5 @@ pub fn ahead(registers: &Registers, n: u64) -> Registers {
 
 /// A skip as a public call: number and the next record.
 pub fn skip(record: &Record, n: u64) -> (u32, Record) {
-    call(record, 0, n, |registers| *registers = ahead(registers, n))
+    call(record, Note::NoneOpen, 0, n, |registers| *registers = ahead(registers, n))
 }

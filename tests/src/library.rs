@@ -9,6 +9,9 @@ extern "C" {
     fn jabulghi_block(record: *mut u32, block: *mut i16, length: usize) -> u32;
     fn jabulghi_look(record: *const u32, block: *mut i16, length: usize) -> u32;
     fn jabulghi_skip(record: *mut u32, n: u64) -> u32;
+    fn jabulghi_ask(record: *mut u32, n: u32) -> u32;
+    fn jabulghi_take(record: *mut u32, block: *mut i16, length: usize) -> u32;
+    fn jabulghi_give_up(record: *mut u32) -> u32;
 }
 
 /// Elements on either side of lent memory that a call must leave alone.
@@ -29,9 +32,9 @@ impl Mark for u32 {
     fn mark(place: usize) -> u32 {
         (place as u32 + 1).wrapping_mul(0x9E3779B1)
     }
-    /// Eight words are a record.
+    /// Ten words are a record.
     fn show(elements: &[u32]) -> String {
-        <[u32; 8]>::try_from(elements).map_or(format!("{elements:?}"), |words| format!("{:?}", of_words(words)))
+        <[u32; 10]>::try_from(elements).map_or(format!("{elements:?}"), |words| format!("{:?}", of_words(words)))
     }
 }
 
@@ -77,14 +80,14 @@ impl<T: Mark> fmt::Debug for Lent<T> {
     }
 }
 
-/// A record's registers, then the low and the high word of its count.
-fn words(record: &Record) -> [u32; 8] {
+/// A record's registers, then the low and the high word of its count, then its note.
+fn words(record: &Record) -> [u32; 10] {
     let [a0, a1, a2, b0, b1, b2] = record.registers;
-    [a0, a1, a2, b0, b1, b2, record.count as u32, (record.count >> 32) as u32]
+    [a0, a1, a2, b0, b1, b2, record.count as u32, (record.count >> 32) as u32, record.open, record.asked]
 }
 
-fn of_words([a0, a1, a2, b0, b1, b2, low, high]: [u32; 8]) -> Record {
-    Record { registers: [a0, a1, a2, b0, b1, b2], count: u64::from(high) << 32 | u64::from(low) }
+fn of_words([a0, a1, a2, b0, b1, b2, low, high, open, asked]: [u32; 10]) -> Record {
+    Record { registers: [a0, a1, a2, b0, b1, b2], count: u64::from(high) << 32 | u64::from(low), open, asked }
 }
 
 pub fn lent(record: &Record) -> Lent<u32> {
@@ -101,7 +104,7 @@ pub type Sampled = (u32, Lent<i16>);
 pub type Answer = (u32, Lent<u32>, Lent<i16>);
 
 pub fn seed(s: &Registers) -> Seeded {
-    let mut record = Lent::marked(8);
+    let mut record = Lent::marked(10);
     let number = unsafe { jabulghi_seed(s[0], s[1], s[2], s[3], s[4], s[5], record.pointer()) };
     (number, record)
 }
@@ -130,9 +133,27 @@ pub fn look(record: &Record, length: usize) -> Answer {
     (number, record, block)
 }
 
-/// A skip has no samples.
-pub fn skip(record: &Record, n: u64) -> Answer {
+pub fn take(record: &Record, length: usize) -> Answer {
+    let (mut record, mut block) = (lent(record), Lent::marked(length));
+    let number = unsafe { jabulghi_take(record.pointer(), block.pointer(), length) };
+    (number, record, block)
+}
+
+/// A call that has no samples.
+fn without_samples(record: &Record, call: impl FnOnce(*mut u32) -> u32) -> Answer {
     let mut record = lent(record);
-    let number = unsafe { jabulghi_skip(record.pointer(), n) };
+    let number = call(record.pointer());
     (number, record, Lent::holding(&[]))
+}
+
+pub fn skip(record: &Record, n: u64) -> Answer {
+    without_samples(record, |words| unsafe { jabulghi_skip(words, n) })
+}
+
+pub fn ask(record: &Record, n: u32) -> Answer {
+    without_samples(record, |words| unsafe { jabulghi_ask(words, n) })
+}
+
+pub fn give_up(record: &Record) -> Answer {
+    without_samples(record, |words| unsafe { jabulghi_give_up(words) })
 }

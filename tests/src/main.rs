@@ -44,7 +44,7 @@ fn main() {
         println!("{}, all equal", group(&tables));
     }
     let plain: [Group; 6] = [seeds, roots::places, samples, histories, pairs, blocks];
-    let skips: [Group; 5] = [skips::skips, skips::drawn, skips::two, skips::blocks, counts::runs];
+    let skips: [Group; 6] = [skips::skips, skips::drawn, skips::two, skips::blocks, counts::runs, counts::noted];
     let groups = plain.into_iter().chain(skips).chain([listings::jobs as Group, program::program]);
     for (j, group) in groups.enumerate() {
         let start = Instant::now();

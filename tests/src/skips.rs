@@ -7,7 +7,7 @@ use crate::jump;
 use crate::library::{self, lent, record_of, Answer, Lent};
 use crate::random::Random;
 use crate::sample::Tables;
-use crate::stream::{self, fresh, Record};
+use crate::stream::{self, fresh, Note, Record};
 
 /// A record and n, beside n pairs drawn one by one.
 #[derive(Clone, Debug)]
@@ -27,7 +27,7 @@ fn smaller(record: &Record, n: u64) -> Vec<(Record, u64)> {
 
 /// The number of a skip.
 fn number(record: &Record, n: u64) -> u32 {
-    stream::call(record, 0, n, |_| ()).0
+    stream::call(record, Note::NoneOpen, 0, n, |_| ()).0
 }
 
 impl Case for SkipDrawn {
@@ -67,16 +67,16 @@ impl Case for TwoSkips {
         self.orders().into_iter().map(run).collect()
     }
     fn other(&self, _: &Tables) -> Self::Answer {
-        let Record { registers, count } = self.0;
+        let Record { registers, count, .. } = self.0;
         let run = |skips: Vec<u64>| {
             let mut sum = 0;
             let mut skip = |n| {
-                let number = number(&Record { registers, count: count + sum }, n);
+                let number = number(&Record { count: count + sum, ..self.0 }, n);
                 sum += if number == 0 { n } else { 0 };
                 number
             };
             let numbers = skips.into_iter().map(&mut skip).collect();
-            (numbers, lent(&Record { registers: jump::ahead(&registers, sum), count: count + sum }))
+            (numbers, lent(&Record { registers: jump::ahead(&registers, sum), count: count + sum, ..self.0 }))
         };
         self.orders().into_iter().map(run).collect()
     }

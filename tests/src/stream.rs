@@ -14,12 +14,17 @@ pub type Registers = [u32; 6];
 pub const A: usize = 0;
 pub const B: usize = 3;
 
-/// The streams, and the pairs that were drawn or skipped (document 02, Job 4).
+/// The streams, the pairs that were drawn or skipped (document 02, Job 4), and the note: a request is open where `open` is not 0 (Job 7).
 #[derive(Clone, Copy, PartialEq, Debug)]
 pub struct Record {
     pub registers: Registers,
     pub count: u64,
+    pub open: u32,
+    pub asked: u32,
 }
+
+/// The most pairs that are asked for at once.
+pub const MOST_ASKED: u32 = 1_000_000;
 
 /// 11 where stream a has a register below its minimum, else 12 where stream b has, else 0 (document 02, Job 1).
 pub fn refusal(registers: &Registers) -> u32 {
@@ -32,7 +37,7 @@ pub fn accepted(registers: &Registers) -> bool {
 }
 
 pub fn fresh(registers: Registers) -> Record {
-    Record { registers, count: 0 }
+    Record { registers, count: 0, open: 0, asked: 0 }
 }
 
 pub fn seed(seeds: &Registers) -> (u32, Record) {
@@ -42,10 +47,32 @@ pub fn seed(seeds: &Registers) -> (u32, Record) {
     }
 }
 
-/// A call for n pairs: its number and the next record. It is refused for its streams, then for a cause of its own, then where the
+/// What a call asks of the note: nothing, that none is open, that one is (document 02, Job 7).
+#[derive(Clone, Copy, PartialEq)]
+pub enum Note {
+    Any,
+    NoneOpen,
+    Open,
+}
+
+impl Note {
+    fn refusal(self, record: &Record) -> u32 {
+        match (self, record.open) {
+            (Note::NoneOpen, 1..) => 14,
+            (Note::Open, 0) => 15,
+            _ => 0,
+        }
+    }
+}
+
+/// A call for n pairs: its number and the next record. It is refused for its streams, for its note, then for a cause of its own, then where the
 /// count would pass 2^64 - 1 (document 02, Job 4). Accepted, it moves the registers.
-pub fn call(record: &Record, own: u32, n: u64, moves: impl FnOnce(&mut Registers)) -> (u32, Record) {
+pub fn call(record: &Record, note: Note, own: u32, n: u64, moves: impl FnOnce(&mut Registers)) -> (u32, Record) {
     let refused = |number| (number, *record);
+    let own = match note.refusal(record) {
+        0 => own,
+        number => number,
+    };
     match (refusal(&record.registers), own, record.count.checked_add(n)) {
         (0, 0, Some(count)) => {
             let mut next = Record { count, ..*record };
@@ -83,25 +110,56 @@ fn step_pair(tables: &Tables, registers: &mut Registers) -> [i16; 2] {
 
 pub fn pair(tables: &Tables, record: &Record) -> (u32, [i16; 2], Record) {
     let mut two = [0, 0];
-    let (number, next) = call(record, 0, 1, |registers| two = step_pair(tables, registers));
+    let (number, next) = call(record, Note::NoneOpen, 0, 1, |registers| two = step_pair(tables, registers));
     (number, two, next)
 }
 
-pub fn block(tables: &Tables, record: &Record, out: &mut [i16]) -> (u32, Record) {
-    let odd = if out.len() % 2 == 1 { 4 } else { 0 };
-    call(record, odd, out.len() as u64 / 2, |registers| {
-        out.chunks_mut(2).for_each(|two| two.copy_from_slice(&step_pair(tables, registers)));
-    })
+fn fill(tables: &Tables, registers: &mut Registers, out: &mut [i16]) {
+    out.chunks_mut(2).for_each(|two| two.copy_from_slice(&step_pair(tables, registers)));
 }
 
-/// A look: a block call on a copy of the record, which stays (document 02, Job 6).
+fn odd(length: usize) -> u32 {
+    if length % 2 == 1 { 4 } else { 0 }
+}
+
+pub fn block(tables: &Tables, record: &Record, out: &mut [i16]) -> (u32, Record) {
+    call(record, Note::NoneOpen, odd(out.len()), out.len() as u64 / 2, |registers| fill(tables, registers, out))
+}
+
+/// A look: a block call on a copy of the record, whose note does not matter; the record stays (document 02, Jobs 6 and 7).
 pub fn look(tables: &Tables, record: &Record, out: &mut [i16]) -> (u32, Record) {
-    (block(tables, record, out).0, *record)
+    let (number, _) = call(record, Note::Any, odd(out.len()), out.len() as u64 / 2, |registers| fill(tables, registers, out));
+    (number, *record)
+}
+
+/// Document 02, Job 7: asking notes n pairs, taking gives them, giving up does not.
+pub fn ask(record: &Record, n: u32) -> (u32, Record) {
+    let most = if n > MOST_ASKED { 16 } else { 0 };
+    match call(record, Note::NoneOpen, most, n.into(), |_| ()) {
+        (0, _) => (0, Record { open: 1, asked: n, ..*record }),
+        refused => refused,
+    }
+}
+
+fn closed(answer: (u32, Record)) -> (u32, Record) {
+    match answer {
+        (0, next) => (0, Record { open: 0, asked: 0, ..next }),
+        refused => refused,
+    }
+}
+
+pub fn take(tables: &Tables, record: &Record, out: &mut [i16]) -> (u32, Record) {
+    let other = record.asked > MOST_ASKED || out.len() as u64 != 2 * u64::from(record.asked);
+    closed(call(record, Note::Open, if other { 16 } else { 0 }, record.asked.into(), |registers| fill(tables, registers, out)))
+}
+
+pub fn give_up(record: &Record) -> (u32, Record) {
+    closed(call(record, Note::Open, 0, 0, |_| ()))
 }
 
 /// A skip, by drawing.
 pub fn drawn_on(record: &Record, n: u64) -> (u32, Record) {
-    call(record, 0, n, |registers| (0..n).for_each(|_| step_both(registers)))
+    call(record, Note::NoneOpen, 0, n, |registers| (0..n).for_each(|_| step_both(registers)))
 }
 
 pub fn step_both(registers: &mut Registers) {

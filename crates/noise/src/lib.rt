@@ -196,6 +196,9 @@ pub fn take(g: Generator, out: &mut [i16]) -> RecordAnswer
         return RecordAnswer { number, next: g };
     }
     let free = g.without_note();
-    let next = stretches(free, out);
-    RecordAnswer { number, next }
+    let taken = stretches(free, out);
+    RecordAnswer {
+        number,
+        next: taken,
+    }
 }
