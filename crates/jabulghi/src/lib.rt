@@ -26,7 +26,7 @@ fn joined(low: u32, high: u32) -> u64
 }
 
 // The record that ten words are.
-fn unpacked(words: [u32; 10]) -> Generator
+pub fn unpacked(words: [u32; 10]) -> Generator
     ensures { λ r. ⌜ r ≡ generatorOf words ⌝ }
 {
     let a = Stream {
@@ -50,7 +50,7 @@ fn unpacked(words: [u32; 10]) -> Generator
 }
 
 // The ten words of a record.
-fn packed(g: Generator) -> [u32; 10]
+pub fn packed(g: Generator) -> [u32; 10]
     ensures { λ r. ⌜ r ≡ wordsOf g ⌝ }
 {
     let low = (g.count % WORD) as u32;
@@ -92,9 +92,9 @@ pub extern "C" fn jabulghi_seed(
 // The two samples of k and v.
 #[no_mangle]
 pub extern "C" fn jabulghi_sample(k: u64, v: u32, samples: &mut [i16; 2]) -> u32
-    ensures { λ r. ⌜ r ≡ samplesOf k v .number ⌝ }
-    ensures { λ _. ⌜ now (samples .exit) ≡ samplesOf k v .first ∷ samplesOf k v .second ∷ [] ⌝ }
-    ensures close { λ _. ⌜ (k < 2 ^ numberBits → v < 65536 → Close nineSixteenths fractionBits (inverse k) v (samplesOf k v .first) (samplesOf k v .second)) ⌝ }
+    ensures { λ r. ⌜ r ≡ samplesOf fractionBits k v .number ⌝ }
+    ensures { λ _. ⌜ now (samples .exit) ≡ samplesOf fractionBits k v .first ∷ samplesOf fractionBits k v .second ∷ [] ⌝ }
+    ensures close { λ _. ⌜ (k < 2 ^ numberBits → v < 65536 → Close nineSixteenths fractionBits (inverse k) v (samplesOf fractionBits k v .first) (samplesOf fractionBits k v .second)) ⌝ }
 {
     let s = sample::sample(k, v);
     *samples = [s.first, s.second];
@@ -105,9 +105,9 @@ pub extern "C" fn jabulghi_sample(k: u64, v: u32, samples: &mut [i16; 2]) -> u32
 // overlap.)
 #[no_mangle]
 pub extern "C" fn jabulghi_pair(words: &mut [u32; 10], samples: &mut [i16; 2]) -> u32
-    ensures { λ r. ⌜ r ≡ pairOf (generatorOf (now (words .entry))) .number ⌝ }
-    ensures { λ _. ⌜ now (samples .exit) ≡ samplesIn (pairOf (generatorOf (now (words .entry)))) ⌝ }
-    ensures { λ _. ⌜ now (words .exit) ≡ wordsOf (pairOf (generatorOf (now (words .entry))) .next) ⌝ }
+    ensures { λ r. ⌜ r ≡ pairOf fractionBits (generatorOf (now (words .entry))) .number ⌝ }
+    ensures { λ _. ⌜ now (samples .exit) ≡ samplesIn (pairOf fractionBits (generatorOf (now (words .entry)))) ⌝ }
+    ensures { λ _. ⌜ now (words .exit) ≡ wordsOf (pairOf fractionBits (generatorOf (now (words .entry))) .next) ⌝ }
 {
     let g = unpacked(*words);
     let drawn = g.uniforms();
@@ -122,7 +122,7 @@ pub extern "C" fn jabulghi_pair(words: &mut [u32; 10], samples: &mut [i16; 2]) -
 #[no_mangle]
 pub extern "C" fn jabulghi_block(words: &mut [u32; 10], block: &mut [i16]) -> u32
     ensures { λ r. ⌜ r ≡ blockOf (generatorOf (now (words .entry))) (length (now (block .entry))) .number ⌝ }
-    ensures { λ _. ⌜ now (block .exit) ≡ blockHolds (generatorOf (now (words .entry))) (now (block .entry)) ⌝ }
+    ensures { λ _. ⌜ now (block .exit) ≡ blockHolds fractionBits (generatorOf (now (words .entry))) (now (block .entry)) ⌝ }
     ensures { λ _. ⌜ now (words .exit) ≡ wordsOf (blockOf (generatorOf (now (words .entry))) (length (now (block .entry))) .next) ⌝ }
 {
     let g = unpacked(*words);
@@ -136,7 +136,7 @@ pub extern "C" fn jabulghi_block(words: &mut [u32; 10], block: &mut [i16]) -> u3
 #[no_mangle]
 pub extern "C" fn jabulghi_look(words: &[u32; 10], block: &mut [i16]) -> u32
     ensures { λ r. ⌜ r ≡ lookOf (generatorOf (now (words .entry))) (length (now (block .entry))) .number ⌝ }
-    ensures { λ _. ⌜ now (block .exit) ≡ lookHolds (generatorOf (now (words .entry))) (now (block .entry)) ⌝ }
+    ensures { λ _. ⌜ now (block .exit) ≡ lookHolds fractionBits (generatorOf (now (words .entry))) (now (block .entry)) ⌝ }
 {
     let g = unpacked(*words);
     let shown = noise::look(g, block);
@@ -173,7 +173,7 @@ pub extern "C" fn jabulghi_ask(words: &mut [u32; 10], n: u32) -> u32
 #[no_mangle]
 pub extern "C" fn jabulghi_take(words: &mut [u32; 10], block: &mut [i16]) -> u32
     ensures { λ r. ⌜ r ≡ takeOf (generatorOf (now (words .entry))) (length (now (block .entry))) .number ⌝ }
-    ensures { λ _. ⌜ now (block .exit) ≡ takeHolds (generatorOf (now (words .entry))) (now (block .entry)) ⌝ }
+    ensures { λ _. ⌜ now (block .exit) ≡ takeHolds fractionBits (generatorOf (now (words .entry))) (now (block .entry)) ⌝ }
     ensures { λ _. ⌜ now (words .exit) ≡ wordsOf (takeOf (generatorOf (now (words .entry))) (length (now (block .entry))) .next) ⌝ }
 {
     let g = unpacked(*words);

@@ -11,6 +11,7 @@ use lib.ListN.{length}
 use borrow.Author.Tests.{ltb-false, eqb-true, not-false}
 use Rattle.streams.specs.declared.Generator.{Generator}
 use Rattle.noise.proofs.Theorems.{pair-sizes}
+use Rattle.sample.specs.Steps.{fractionBits}
 use Rattle.noise.specs.Noise.{pairOf}
 use Rattle.noise.specs.declared.PairAnswer.{PairAnswer}
 use Rattle.job.specs.Limits.{lastLine, mostSigma, mostDistance, mostBearing}
@@ -31,8 +32,8 @@ use Rattle.job.proofs.Names.{names-short}
 abbrev Small : PairAnswer → Type 0
 Small r = (natAbs (r .first) ≤ mostSize) × (natAbs (r .second) ≤ mostSize)
 
-pub pair-small : (g : Generator) → Small (pairOf g)
-pair-small g = let s = pair-sizes g in (omega (arith, s .0), omega (arith, s .1))
+pub pair-small : (g : Generator) → Small (pairOf fractionBits g)
+pair-small g = let s = pair-sizes fractionBits g in (omega (arith, s .0), omega (arith, s .1))
 
 noise-bound : (σ n : ℕ) → σ ≤ mostSigma → n ≤ mostSize → noiseSize σ n ≤ mostNoise
 unfolding noiseSize

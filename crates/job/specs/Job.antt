@@ -5,6 +5,7 @@ use mathlib.Core.List.{List, [], _∷_, _++_}
 use lib.Dec.{leb, ltb, eqb}
 use lib.ListN.{length, drop}
 use Rattle.streams.specs.Streams.{seedOf}
+use Rattle.sample.specs.Steps.{fractionBits}
 use Rattle.noise.specs.Noise.{pairOf}
 use Rattle.text.specs.Scan.{lines}
 use Rattle.job.specs.Limits.{mostBytes}
@@ -20,7 +21,7 @@ settingAfter (seeds a0 a1 a2 b0 b1 b2) s =
     record { generator = seedOf a0 a1 a2 b0 b1 b2 .next; distance = s .distance; bearing = s .bearing }
 settingAfter (sigma d b) s = record { generator = s .generator; distance = d; bearing = b }
 settingAfter (shot from to d b) s = record
-    { generator = pairOf (s .generator) .next; distance = s .distance; bearing = s .bearing }
+    { generator = pairOf fractionBits (s .generator) .next; distance = s .distance; bearing = s .bearing }
 settingAfter noForm s = s
 
 -- What a line prints: "First sample to distance, second to bearing" of the one pair
@@ -28,7 +29,7 @@ unfoldable pub printed : Form → Setting → List ℕ
 printed (seeds a0 a1 a2 b0 b1 b2) s = []
 printed (sigma d b) s = []
 printed (shot from to d b) s =
-    noisyRow (s .distance) (s .bearing) from to d b (pairOf (s .generator) .first) (pairOf (s .generator) .second)
+    noisyRow (s .distance) (s .bearing) from to d b (pairOf fractionBits (s .generator) .first) (pairOf fractionBits (s .generator) .second)
 printed noForm s = []
 
 -- A job is refused with a number and a line, or listed

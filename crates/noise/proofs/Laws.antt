@@ -19,8 +19,9 @@ use Rattle.streams.proofs.Causes.{accepted-causes, one-open, just-taken, even-l
 use Rattle.squares.specs.Squares.{repeat}
 use Rattle.lanes.specs.Lanes.{words}
 use Rattle.lanes.proofs.Theorems.{word-is-pair}
-use Rattle.sample.specs.Sample.{samplesOf, firstOf, secondOf}
-use Rattle.sample.specs.Sample.{samplesAt}
+use Rattle.sample.specs.Sample.{firstOf, secondOf, samplesAt, filled}
+use Rattle.sample.proofs.Closeness.{accepts}
+use Rattle.sample.proofs.FillLaws.{filled-whole}
 use Rattle.noise.specs.Noise.{pairOf, samples, blockNumber}
 use Rattle.noise.specs.Private.{numbers}
 
@@ -62,21 +63,21 @@ taken-pairs g n e =
 -- ---- One pair
 
 -- A pair's number is that of its two draws, which is that of one pair.
-pub pair-number : (g : Generator) → pairOf g .number ≡ pairsNumber g 1
+pub pair-number : (f : ℕ) (g : Generator) → pairOf f g .number ≡ pairsNumber g 1
 unfolding pairOf uniformsOf
-pair-number g = refl
+pair-number f g = refl
 
 -- ---- The samples of n pairs
 
-pub samples-add : (m n : ℕ) (g : Generator) → samples (m + n) g ≡ samples m g ++ samples n (after m g)
+pub samples-add : (f m n : ℕ) (g : Generator) → samples f (m + n) g ≡ samples f m g ++ samples f n (after m g)
 unfolding after samples pairOf
-samples-add zero n g = rw (zero-add n)
-samples-add (suc m) n g = rw (suc-add m n, samples-add m n (pairOf g .next))
+samples-add f zero n g = rw (zero-add n)
+samples-add f (suc m) n g = rw (suc-add m n, samples-add f m n (pairOf f g .next))
 
-pub length-samples : (n : ℕ) (g : Generator) → length (samples n g) ≡ 2 * n
+pub length-samples : (f n : ℕ) (g : Generator) → length (samples f n g) ≡ 2 * n
 unfolding samples
-length-samples zero g = refl
-length-samples (suc n) g = let ih = length-samples n (pairOf g .next) in omega arith
+length-samples f zero g = refl
+length-samples f (suc n) g = let ih = length-samples f n (pairOf f g .next) in omega arith
 
 -- ---- The numbers behind the samples
 
@@ -98,43 +99,45 @@ length-numbers zero g = refl
 length-numbers (suc n) g = ap suc (length-numbers n (uniformsOf g .next))
 
 -- The call from k and v accepts the numbers of a pair, so the pair's samples are those of the whole-number steps.
-accepts : (k v : ℕ) → k < 2 ^ 48 → v < 65536 → samplesOf k v ≡ record { number = 0; first = firstOf k v; second = secondOf k v }
-unfolding samplesOf
-accepts k v hk hv = rw (samplesOf, lt-leb (2 ^ 48) k hk, le-ltb 65535 v (omega arith))
-
-pub pair-is : (g : Generator) → Sound g → pairsNumber g 1 ≡ 0
-    → pairOf g
+pub pair-is : (f : ℕ) (g : Generator) → Sound g → pairsNumber g 1 ≡ 0
+    → pairOf f g
     ≡ record {
       number = 0;
-      first = firstOf (uniformsOf g .k) (uniformsOf g .v);
-      second = secondOf (uniformsOf g .k) (uniformsOf g .v);
+      first = firstOf f (uniformsOf g .k) (uniformsOf g .v);
+      second = secondOf f (uniformsOf g .k) (uniformsOf g .v);
       next = uniformsOf g .next;
     }
 unfolding pairOf
-pair-is g h e =
+pair-is f g h e =
     let (hk, hv) = numbers-bounded g h in
     let accepted : uniformsOf g .number ≡ 0 = ap (λ (u : Uniforms). u .number) (uniforms-accepted g e) in
-    rw (pairOf, accepted, accepts (uniformsOf g .k) (uniformsOf g .v) hk hv)
+    rw (pairOf, accepted, accepts f (uniformsOf g .k) (uniformsOf g .v) hk hv)
 
 -- The samples are then those of their numbers.
-pub samples-numbers : (n : ℕ) (g : Generator) → Sound g → g .waiting ≡ 0 → g .count + n ≤ mostCount
-    → samples n g ≡ samplesAt (numbers n g)
+pub samples-numbers : (f n : ℕ) (g : Generator) → Sound g → g .waiting ≡ 0 → g .count + n ≤ mostCount
+    → samples f n g ≡ samplesAt f (numbers n g)
 unfolding samples numbers samplesAt
-samples-numbers zero g h none room = refl
-samples-numbers (suc n) g h none room =
+samples-numbers f zero g h none room = refl
+samples-numbers f (suc n) g h none room =
     let (hk, hv) = numbers-bounded g h in
     let high : (uniformsOf g .k * 65536 + uniformsOf g .v) / 65536 ≡ uniformsOf g .k = omega (arith, hv) in
     let low : (uniformsOf g .k * 65536 + uniformsOf g .v) % 65536 ≡ uniformsOf g .v = omega (arith, hv) in
     let accepted : pairsNumber g 1 ≡ 0 = pairs-accepted g 1 .1 (sound-accepted g h, omega arith, none) in
     let next-is : uniformsOf g .next ≡ moved 1 g = ap (λ (u : Uniforms). u .next) (uniforms-accepted g accepted) in
-    rw (pair-is g h accepted, high, low)
-    (ap (λ (l : List ℤ). firstOf (uniformsOf g .k) (uniformsOf g .v) ∷ secondOf (uniformsOf g .k) (uniformsOf g .v) ∷ l)
-    (samples-numbers n (uniformsOf g .next) (next-sound g h) (rw next-is none) (rw next-is (omega arith))))
+    rw (pair-is f g h accepted, high, low)
+    (ap (λ (l : List ℤ). firstOf f (uniformsOf g .k) (uniformsOf g .v) ∷ secondOf f (uniformsOf g .k) (uniformsOf g .v) ∷ l)
+    (samples-numbers f n (uniformsOf g .next) (next-sound g h) (rw next-is none) (rw next-is (omega arith))))
 
 -- So they are the same whatever a record notes, where no request is open.
-pub samples-noted : (n asked : ℕ) (g : Generator) → Sound g → g .waiting ≡ 0 → g .count + n ≤ mostCount
-    → samples n (noted g 0 asked) ≡ samples n g
-samples-noted n asked g h none room =
+pub samples-noted : (f n asked : ℕ) (g : Generator) → Sound g → g .waiting ≡ 0 → g .count + n ≤ mostCount
+    → samples f n (noted g 0 asked) ≡ samples f n g
+samples-noted f n asked g h none room =
     let same : Sound (noted g 0 asked) = record { range-a = h .range-a; range-b = h .range-b; minima-a = h .minima-a; minima-b = h .minima-b } in
-    rw (samples-numbers n (noted g 0 asked) same refl room, numbers-words n (noted g 0 asked) same refl room)
-    (sym (rw (samples-numbers n g h none room, numbers-words n g h none room)))
+    rw (samples-numbers f n (noted g 0 asked) same refl room, numbers-words n (noted g 0 asked) same refl room)
+    (sym (rw (samples-numbers f n g h none room, numbers-words n g h none room)))
+
+-- A slice that has room for just the pairs is filled with their samples.
+pub filled-samples : (f n : ℕ) (g : Generator) {zs : List ℕ} {out : List ℤ} (old : List ℤ) → Sound g → g .waiting ≡ 0 → g .count + n ≤ mostCount
+    → zs ≡ numbers n g → length old ≡ 2 * n → out ≡ filled f zs old → out ≡ samples f n g
+filled-samples f n g old h none room e l done =
+    done ∙ rw e (filled-whole f (numbers n g) old (rw (length-numbers n g) l)) ∙ sym (samples-numbers f n g h none room)

@@ -151,35 +151,35 @@ note-records c g waiting asked h e f =
 -- ---- Samples
 
 -- Both accepted, it gives the same samples: a block, a take and a pair; a look always.
-pub note-blocks : (g : Generator) (waiting asked : ℕ) (old : List ℤ) → Sound g
+pub note-blocks : (f : ℕ) (g : Generator) (waiting asked : ℕ) (old : List ℤ) → Sound g
     → blockNumber g (length old) ≡ 0 → blockNumber (noted g waiting asked) (length old) ≡ 0
-    → blockHolds g old ≡ blockHolds (noted g waiting asked) old
-note-blocks g waiting asked old h e f =
+    → blockHolds f g old ≡ blockHolds f (noted g waiting asked) old
+note-blocks f g waiting asked old h e there =
     let n = length old / 2 in
     let (_, room, none) = pairs-accepted g n .0 (block-accepted g (length old) .0 e .0) in
-    let (_, _, none-there) = pairs-accepted (noted g waiting asked) n .0 (block-accepted (noted g waiting asked) (length old) .0 f .0) in
-    block-holds g old e
-    ∙ sym (block-holds (noted g waiting asked) old f
-    ∙ ap (λ (w : ℕ). samples n (noted g w asked)) none-there
-    ∙ samples-noted n asked g h none room)
+    let (_, _, none-there) = pairs-accepted (noted g waiting asked) n .0 (block-accepted (noted g waiting asked) (length old) .0 there .0) in
+    block-holds f g old e
+    ∙ sym (block-holds f (noted g waiting asked) old there
+    ∙ ap (λ (w : ℕ). samples f n (noted g w asked)) none-there
+    ∙ samples-noted f n asked g h none room)
 
-pub note-takes : (g : Generator) (waiting asked : ℕ) (old : List ℤ)
+pub note-takes : (f : ℕ) (g : Generator) (waiting asked : ℕ) (old : List ℤ)
     → numberOf (a-take (length old)) g ≡ 0 → numberOf (a-take (length old)) (noted g waiting asked) ≡ 0
-    → takeHolds g old ≡ takeHolds (noted g waiting asked) old
+    → takeHolds f g old ≡ takeHolds f (noted g waiting asked) old
 unfolding takeHolds ownNumber
-note-takes g waiting asked old e f =
+note-takes f g waiting asked old e there =
     let own = accepted-causes (a-take (length old)) g .0 e .2 in
-    let own-there = accepted-causes (a-take (length old)) (noted g waiting asked) .0 f .2 in
-    rw (e, f) (ap (λ (n : ℕ). samples n (cleared g)) (as-many g waiting asked (length old) own own-there))
+    let own-there = accepted-causes (a-take (length old)) (noted g waiting asked) .0 there .2 in
+    rw (e, there) (ap (λ (n : ℕ). samples f n (cleared g)) (as-many g waiting asked (length old) own own-there))
 
-pub note-pairs : (g : Generator) (waiting asked : ℕ) → Sound g → numberOf (a-skip 1) g ≡ 0 → numberOf (a-skip 1) (noted g waiting asked) ≡ 0
-    → pairOf g .first ∷ pairOf g .second ∷ [] ≡ pairOf (noted g waiting asked) .first ∷ pairOf (noted g waiting asked) .second ∷ []
+pub note-pairs : (f : ℕ) (g : Generator) (waiting asked : ℕ) → Sound g → numberOf (a-skip 1) g ≡ 0 → numberOf (a-skip 1) (noted g waiting asked) ≡ 0
+    → pairOf f g .first ∷ pairOf f g .second ∷ [] ≡ pairOf f (noted g waiting asked) .first ∷ pairOf f (noted g waiting asked) .second ∷ []
 unfolding samples
-note-pairs g waiting asked h e f =
+note-pairs f g waiting asked h e there =
     let (_, room, none) = pairs-accepted g 1 .0 e in
-    let (_, _, none-there) = pairs-accepted (noted g waiting asked) 1 .0 f in
-    sym (ap (λ (w : ℕ). samples 1 (noted g w asked)) none-there ∙ samples-noted 1 asked g h none room)
+    let (_, _, none-there) = pairs-accepted (noted g waiting asked) 1 .0 there in
+    sym (ap (λ (w : ℕ). samples f 1 (noted g w asked)) none-there ∙ samples-noted f 1 asked g h none room)
 
-pub note-looks : (g : Generator) (waiting asked : ℕ) (old : List ℤ) → lookHolds g old ≡ lookHolds (noted g waiting asked) old
+pub note-looks : (f : ℕ) (g : Generator) (waiting asked : ℕ) (old : List ℤ) → lookHolds f g old ≡ lookHolds f (noted g waiting asked) old
 unfolding lookHolds
-note-looks g waiting asked old = refl
+note-looks f g waiting asked old = refl

@@ -22,12 +22,12 @@ use Rattle.noise.proofs.Theorems.{block-holds, block-moves}
 -- ---- Looks
 
 -- A look has the number of a block call on the record with its note cleared, and leaves the same memory; record and note come back as passed.
-pub look-is : (g : Generator) (old : List ℤ)
+pub look-is : (f : ℕ) (g : Generator) (old : List ℤ)
     → (lookOf g (length old) .number ≡ blockOf (cleared g) (length old) .number)
-    × (lookHolds g old ≡ blockHolds (cleared g) old)
+    × (lookHolds f g old ≡ blockHolds f (cleared g) old)
     × (lookOf g (length old) .next ≡ g)
 unfolding lookOf lookHolds
-look-is g old = (refl, refl, refl)
+look-is f g old = (refl, refl, refl)
 
 -- Where none is open, the note decides nothing of a block's number.
 same-number : (g : Generator) → g .waiting ≡ 0 → (n : ℕ) → blockNumber g n ≡ blockNumber (cleared g) n
@@ -36,32 +36,32 @@ same-number g none n = rw none refl
 
 -- A look and then a block as long, none being open: both accepted or both refused; the block's record is as without the look; and, accepted, the
 -- same samples twice.
-pub look-block : (g : Generator) (x y : List ℤ) → Sound g → g .waiting ≡ 0 → length x ≡ length y
+pub look-block : (f : ℕ) (g : Generator) (x y : List ℤ) → Sound g → g .waiting ≡ 0 → length x ≡ length y
     → (blockOf g (length y) .number ≡ lookOf g (length x) .number)
     × (blockOf (lookOf g (length x) .next) (length y) ≡ blockOf g (length y))
-    × (lookOf g (length x) .number ≡ 0 → blockHolds (lookOf g (length x) .next) y ≡ lookHolds g x)
+    × (lookOf g (length x) .number ≡ 0 → blockHolds f (lookOf g (length x) .next) y ≡ lookHolds f g x)
 unfolding blockOf lookOf lookHolds
-look-block g x y h none e = (
+look-block f g x y h none e = (
   rw e (same-number g none (length y)),
   refl,
   λ accepted.
       let shown : blockNumber (cleared g) (length y) ≡ 0 = rw (← e) accepted in
       let drawn : blockNumber g (length y) ≡ 0 = same-number g none (length y) ∙ shown in
       let (_, room, _) = pairs-accepted g (length y / 2) .0 (block-accepted g (length y) .0 drawn .0) in
-      rw (block-holds (cleared g) x accepted, block-holds g y drawn, e) (sym (samples-noted (length y / 2) 0 g h none room)),
+      rw (block-holds f (cleared g) x accepted, block-holds f g y drawn, e) (sym (samples-noted f (length y / 2) 0 g h none room)),
 )
 
 -- A look while a request is open shows the samples that taking it gives.
-pub look-take : (g : Generator) (x y : List ℤ) → length x ≡ length y → numberOf (a-take (length y)) g ≡ 0
-    → takeHolds g y ≡ lookHolds g x
+pub look-take : (f : ℕ) (g : Generator) (x y : List ℤ) → length x ≡ length y → numberOf (a-take (length y)) g ≡ 0
+    → takeHolds f g y ≡ lookHolds f g x
 unfolding lookHolds takeHolds recordNumber
-look-take g x y e accepted =
+look-take f g x y e accepted =
     let (fits, _, _, just, room) = take-accepted g (length y) .0 accepted in
     let half : length x / 2 ≡ g .asked = omega (arith, e, just) in
     let shown : blockNumber (cleared g) (length x) ≡ 0
     = block-accepted (cleared g) (length x) .1
     (pairs-accepted (cleared g) (length x / 2) .1 (fits, rw half room, refl), omega (arith, e, just)) in
-    rw (takeHolds, accepted, block-holds (cleared g) x shown, half)
+    rw (takeHolds, accepted, block-holds f (cleared g) x shown, half)
 
 -- ---- Asking
 
@@ -82,12 +82,12 @@ unfolding askOf
 ask-notes g n e = rw (askOf, e)
 
 -- Asking for n pairs and then taking 2n samples gives the samples, registers and count of one block call, and no open note,
-pub ask-take : (g : Generator) (n : ℕ) (old : List ℤ) → Sound g → length old ≡ 2 * n → askOf g n .number ≡ 0
+pub ask-take : (f : ℕ) (g : Generator) (n : ℕ) (old : List ℤ) → Sound g → length old ≡ 2 * n → askOf g n .number ≡ 0
     → (blockOf g (length old) .number ≡ 0)
     × (takeOf (askOf g n .next) (length old) ≡ record { number = 0; next = cleared (blockOf g (length old) .next) })
-    × (takeHolds (askOf g n .next) old ≡ blockHolds g old)
+    × (takeHolds f (askOf g n .next) old ≡ blockHolds f g old)
 unfolding blockOf takeOf takeHolds recordNumber
-ask-take g n old h l e =
+ask-take f g n old h l e =
     let (fits, none, few, room) = ask-accepted g n .0 e in
     let asked-for : Generator = noted g 1 n in
     let half : length old / 2 ≡ n = omega (arith, l) in
@@ -96,7 +96,7 @@ ask-take g n old h l e =
     let taken : numberOf (a-take (length old)) asked-for ≡ 0
     = take-accepted asked-for (length old) .1 (fits, (λ z. absurd (omega (arith, z))), few, l, room) in
     let taken-is : takeOf asked-for (length old) ≡ record { number = 0; next = after n (cleared g) } = rw (takeOf, taken) in
-    let held : takeHolds asked-for old ≡ samples n (cleared g) = rw (takeHolds, taken) in
+    let held : takeHolds f asked-for old ≡ samples f n (cleared g) = rw (takeHolds, taken) in
     let on : blockOf g (length old) .next ≡ moved n g
     = ap (λ (r : RecordAnswer). r .next) (block-moves g (length old) h block-is) ∙ ap (λ (m : ℕ). moved m g) half in (
       block-is,
@@ -104,10 +104,10 @@ ask-take g n old h l e =
           ∙ taken-is
           ∙ ap (λ (next : Generator). record { number = 0; next = next })
           (after-moved n (cleared g) (sound-cleared g .0 h) refl room ∙ sym (ap cleared on)),
-      ap (λ (r : Generator). takeHolds r old) (ask-notes g n e)
+      ap (λ (r : Generator). takeHolds f r old) (ask-notes g n e)
           ∙ held
-          ∙ samples-noted n 0 g h none room
-          ∙ sym (block-holds g old block-is ∙ ap (λ (m : ℕ). samples m g) half),
+          ∙ samples-noted f n 0 g h none room
+          ∙ sym (block-holds f g old block-is ∙ ap (λ (m : ℕ). samples f m g) half),
     )
 
 -- and asking and giving up gives back the record as it was before, with a cleared note.

@@ -37,6 +37,16 @@ returned-number (an-ask n) g = refl
 returned-number (a-take n) g = refl
 returned-number give-up g = refl
 
+-- What a pair, a block, a look and a take return at any number of fraction bits is what the call returns: a run of calls of 16 and of 18 bits, mixed, is a
+-- run of calls, and whatever is proved of runs is proved of it.
+pub either-width : (f n : ℕ) (g : Generator)
+    → (returned a-pair g ≡ record { number = pairOf f g .number; next = pairOf f g .next })
+    × (returned (a-block n) g ≡ blockOf g n)
+    × (returned (a-look n) g ≡ lookOf g n)
+    × (returned (a-take n) g ≡ takeOf g n)
+unfolding returned pairOf
+either-width f n g = (refl, refl, refl, refl)
+
 -- The record that an accepted call leaves.
 unfoldable pub leftBy : Call → Generator → Generator
 leftBy numbers g = after 1 g

@@ -2,12 +2,13 @@
 use mathlib.Core.Path.{_≡_, refl, sym, ap, _∙_}
 use mathlib.Core.Bool.{Bool, true, false, cond}
 use mathlib.Core.List.{List, [], _∷_, _++_, map}
-use Prim.Native.Nat.{ℕ, zero, suc, _+_, _*_, _/_, _%_, _≤_, _<_}
+use Prim.Native.Nat.{ℕ, zero, suc, _+_, _*_, _/_, _%_, _≤_, _<_, zero-le}
 use native.Mathlib.Omega.{arith}
 use lib.IntN.{ℤ, pos, natAbs}
 use lib.Dec.{eqb}
 use lib.ListN.{length, getD, drop, length-append}
 use lib.Seq.{drop-at}
+use Rattle.exact.specs.Fraction.{Fraction}
 use Rattle.exact.specs.Pair.{Close}
 use Rattle.streams.specs.declared.Generator.{Generator}
 use Rattle.streams.specs.declared.RecordAnswer.{RecordAnswer}
@@ -17,11 +18,12 @@ use Rattle.streams.proofs.Theorems.{sound-accepted, pairs-accepted, moved-sound
 use Rattle.streams.proofs.Skip.{skip-accepted, skip-moves}
 use Rattle.streams.proofs.Theorems.{readings as draw-readings}
 use Rattle.radius.specs.Steps.{inverse}
-use Rattle.sample.specs.Steps.{fractionBits}
-use Rattle.sample.specs.Sample.{nineSixteenths, samplesOf}
+use Rattle.sample.specs.Steps.{fractionBits, fractionBits18}
+use Rattle.sample.specs.Sample.{samplesOf}
+use Rattle.sample.specs.Theorems.{largest}
 use Rattle.sample.specs.Readings.{Reading, readings, readings-hold}
 use Rattle.sample.specs.declared.Samples.{Samples}
-use Rattle.sample.proofs.Closeness.{samples-close}
+use Rattle.sample.proofs.Closeness.{Room, samples-close}
 use Rattle.sample.proofs.Theorems.{theorems}
 use Rattle.noise.specs.Noise.{pairOf, samples, blockNumber, blockOf, blockHolds}
 use Rattle.noise.specs.Readings.{Check, of-samples, of-draw, AllHold, twelve}
@@ -30,9 +32,9 @@ use Rattle.noise.proofs.Laws.{block-accepted, pair-number, pair-is, sam
 -- ---- Blocks
 
 -- An accepted block holds the samples of half as many pairs, whatever it held before,
-pub block-holds : (g : Generator) (old : List ℤ) → blockNumber g (length old) ≡ 0 → blockHolds g old ≡ samples (length old / 2) g
+pub block-holds : (f : ℕ) (g : Generator) (old : List ℤ) → blockNumber g (length old) ≡ 0 → blockHolds f g old ≡ samples f (length old / 2) g
 unfolding blockHolds
-block-holds g old e = rw (blockHolds, e)
+block-holds f g old e = rw (blockHolds, e)
 
 -- and leaves the streams and the count as many pairs on.
 pub block-moves : (g : Generator) (n : ℕ) → Sound g → blockNumber g n ≡ 0 → blockOf g n ≡ record { number = 0; next = moved (n / 2) g }
@@ -55,16 +57,16 @@ blocks-accepted g n m h en e =
     )
 
 -- and a block of n + m is then a block of n and one of m on the record returned: the samples,
-pub blocks-hold : (g : Generator) (x y : List ℤ) → Sound g → length x % 2 ≡ 0 → blockNumber g (length (x ++ y)) ≡ 0
-    → blockHolds g (x ++ y) ≡ blockHolds g x ++ blockHolds (blockOf g (length x) .next) y
-blocks-hold g x y h ex e =
+pub blocks-hold : (f : ℕ) (g : Generator) (x y : List ℤ) → Sound g → length x % 2 ≡ 0 → blockNumber g (length (x ++ y)) ≡ 0
+    → blockHolds f g (x ++ y) ≡ blockHolds f g x ++ blockHolds f (blockOf g (length x) .next) y
+blocks-hold f g x y h ex e =
     let n = length x / 2 in
     let m = length y / 2 in
     let (first, second) = blocks-accepted g (length x) (length y) h ex (rw (length-append x y) at e) in
     let size : length (x ++ y) / 2 ≡ n + m = rw (length-append x y) (omega arith) in
     let (_, room, none) = pairs-accepted g n .0 (block-accepted g (length x) .0 first .0) in
-    rw (block-holds g (x ++ y) e, block-holds g x first, block-holds (blockOf g (length x) .next) y second, size, samples-add n m g)
-    (ap (λ (next : Generator). samples n g ++ samples m next)
+    rw (block-holds f g (x ++ y) e, block-holds f g x first, block-holds f (blockOf g (length x) .next) y second, size, samples-add f n m g)
+    (ap (λ (next : Generator). samples f n g ++ samples f m next)
     (after-moved n g h none room ∙ sym (ap (λ (r : RecordAnswer). r .next) (block-moves g (length x) h first))))
 
 -- and the record.
@@ -78,9 +80,9 @@ blocks-next g n m h en e =
     ∙ rw (← half) (ap (λ (next : Generator). record { number = 0; next = next }) (moved-add (n / 2) (m / 2) g))))
 
 -- A block of 2 n samples after a skip of m pairs is the last 2 n of a block of 2 (m + n), where that is accepted.
-pub skip-block : (m n : ℕ) (g : Generator) (long short : List ℤ) → Sound g → length long ≡ 2 * (m + n) → length short ≡ 2 * n
-    → blockNumber g (length long) ≡ 0 → blockHolds (skipOf g m .next) short ≡ drop (2 * m) (blockHolds g long)
-skip-block m n g long short h el es e =
+pub skip-block : (f m n : ℕ) (g : Generator) (long short : List ℤ) → Sound g → length long ≡ 2 * (m + n) → length short ≡ 2 * n
+    → blockNumber g (length long) ≡ 0 → blockHolds f (skipOf g m .next) short ≡ drop (2 * m) (blockHolds f g long)
+skip-block f m n g long short h el es e =
     let whole : length long / 2 ≡ m + n = omega arith in
     let part : length short / 2 ≡ n = omega arith in
     let (fits, room, none) = pairs-accepted g (length long / 2) .0 (block-accepted g (length long) .0 e .0) in
@@ -90,82 +92,93 @@ skip-block m n g long short h el es e =
     (pairs-accepted _ (length short / 2) .1 (sound-accepted _ (moved-sound m g h), omega arith, none), omega arith) in
     rw (
       skip-moves m g (h .range-a) (h .range-b) first,
-      block-holds (moved m g) short second,
-      block-holds g long e,
+      block-holds f (moved m g) short second,
+      block-holds f g long e,
       whole,
       part,
-      samples-add m n g,
-      drop-at (samples m g) (samples n (after m g)) (2 * m) (length-samples m g),
+      samples-add f m n g,
+      drop-at (samples f m g) (samples f n (after m g)) (2 * m) (length-samples f m g),
       after-moved m g h none (omega arith),
     )
 
 -- ---- Every sample is that of its pair, of bounded size, and close
 
--- No sample of a pair, refused or not, has a size above 16879.
-pub pair-sizes : (g : Generator) → (natAbs (pairOf g .first) ≤ 16879) × (natAbs (pairOf g .second) ≤ 16879)
+-- No sample of a pair, refused or not, has a size above the largest: 16879 at 11 fraction bits, 67517 at 13.
+pub pair-sizes : (f : ℕ) (g : Generator) → (natAbs (pairOf f g .first) ≤ largest f) × (natAbs (pairOf f g .second) ≤ largest f)
 unfolding pairOf
-pair-sizes g = by-test (eqb (uniformsOf g .number) 0)
+pair-sizes f g = by-test (eqb (uniformsOf g .number) 0)
   where
     small : ℤ → Type 0
-    small z = natAbs z ≤ 16879
+    small z = natAbs z ≤ largest f
 
     by-test : (t : Bool)
-        → small (cond t (samplesOf (uniformsOf g .k) (uniformsOf g .v) .first) (pos 0))
-        × small (cond t (samplesOf (uniformsOf g .k) (uniformsOf g .v) .second) (pos 0))
-    by-test true = theorems .sizes (uniformsOf g .k) (uniformsOf g .v)
-    by-test false = (omega arith, omega arith)
+        → small (cond t (samplesOf f (uniformsOf g .k) (uniformsOf g .v) .first) (pos 0))
+        × small (cond t (samplesOf f (uniformsOf g .k) (uniformsOf g .v) .second) (pos 0))
+    by-test true = theorems .sizes f (uniformsOf g .k) (uniformsOf g .v)
+    by-test false = (zero-le, zero-le)
 
 -- Elements 2 i and 2 i + 1 are the samples of pair i.
-pub samples-first : (n i : ℕ) (g : Generator) (d : ℤ) → i < n → getD (samples n g) (2 * i) d ≡ pairOf (after i g) .first
+pub samples-first : (f n i : ℕ) (g : Generator) (d : ℤ) → i < n → getD (samples f n g) (2 * i) d ≡ pairOf f (after i g) .first
 unfolding samples after pairOf
-samples-first zero i g d h = absurd (omega arith)
-samples-first (suc n) zero g d h = refl
-samples-first (suc n) (suc i) g d h =
+samples-first f zero i g d h = absurd (omega arith)
+samples-first f (suc n) zero g d h = refl
+samples-first f (suc n) (suc i) g d h =
     let e : 2 * suc i ≡ suc (suc (2 * i)) = omega arith in
-    rw e (samples-first n i (pairOf g .next) d (omega arith))
+    rw e (samples-first f n i (pairOf f g .next) d (omega arith))
 
-pub samples-second : (n i : ℕ) (g : Generator) (d : ℤ) → i < n → getD (samples n g) (2 * i + 1) d ≡ pairOf (after i g) .second
+pub samples-second : (f n i : ℕ) (g : Generator) (d : ℤ) → i < n → getD (samples f n g) (2 * i + 1) d ≡ pairOf f (after i g) .second
 unfolding samples after pairOf
-samples-second zero i g d h = absurd (omega arith)
-samples-second (suc n) zero g d h = refl
-samples-second (suc n) (suc i) g d h =
+samples-second f zero i g d h = absurd (omega arith)
+samples-second f (suc n) zero g d h = refl
+samples-second f (suc n) (suc i) g d h =
     let e : 2 * suc i + 1 ≡ suc (suc (2 * i + 1)) = omega arith in
-    rw e (samples-second n i (pairOf g .next) d (omega arith))
+    rw e (samples-second f n i (pairOf f g .next) d (omega arith))
 
--- Demand 3, of an accepted pair: each sample is less than nine sixteenths of a unit from its member of the exact pair of its two numbers,
--- (2k + 1) over 2^49 and v over 65536.
-pub pair-close : (g : Generator) → Sound g → pairOf g .number ≡ 0
-    → Close nineSixteenths fractionBits (inverse (uniformsOf g .k)) (uniformsOf g .v) (pairOf g .first) (pairOf g .second)
-pair-close g h e =
+-- Closeness, of an accepted pair at f fraction bits, for a limit that has room there (nine sixteenths at 11: demand 3; three quarters at 13): each
+-- sample is less than that from its member of the exact pair of its two numbers, (2k + 1) over 2^49 and v over 65536.
+pub pair-close : (limit : Fraction) (f : ℕ) (g : Generator) → Room limit f → Sound g → pairOf f g .number ≡ 0
+    → Close limit f (inverse (uniformsOf g .k)) (uniformsOf g .v) (pairOf f g .first) (pairOf f g .second)
+pair-close limit f g enough h e =
     let (hk, hv) = numbers-bounded g h in
-    rw (pair-is g h (rw (pair-number g) at e)) (samples-close (uniformsOf g .k) (uniformsOf g .v) hk hv)
+    rw (pair-is f g h (rw (pair-number f g) at e)) (samples-close limit f (uniformsOf g .k) (uniformsOf g .v) enough hk hv)
 
 -- n pairs on, the next pair is accepted where no request is open and the count has room for it: so is each of the 500 pairs of a job, whose
 -- record is as seeding makes it.
-pub pair-accepted : (n : ℕ) (g : Generator) → Sound g → g .waiting ≡ 0 → g .count + n < mostCount → pairOf (after n g) .number ≡ 0
-pair-accepted n g h none room =
-    rw (pair-number (after n g), after-moved n g h none (omega arith))
+pub pair-accepted : (f n : ℕ) (g : Generator) → Sound g → g .waiting ≡ 0 → g .count + n < mostCount → pairOf f (after n g) .number ≡ 0
+pair-accepted f n g h none room =
+    rw (pair-number f (after n g), after-moved n g h none (omega arith))
     (pairs-accepted (moved n g) 1 .1 (sound-accepted _ (moved-sound n g h), omega arith, none))
 
--- Demand 3, of an accepted block: so is every sample of it from that of the pair in its place.
-pub block-close : (g : Generator) (old : List ℤ) (i : ℕ) (d : ℤ) → Sound g → blockNumber g (length old) ≡ 0 → i < length old / 2
-    → Close nineSixteenths fractionBits (inverse (uniformsOf (after i g) .k)) (uniformsOf (after i g) .v)
-    (getD (blockHolds g old) (2 * i) d) (getD (blockHolds g old) (2 * i + 1) d)
-block-close g old i d h e l =
+-- The same of an accepted block: so is every sample of it from that of the pair in its place.
+pub block-close : (limit : Fraction) (f : ℕ) (g : Generator) (old : List ℤ) (i : ℕ) (d : ℤ) → Room limit f → Sound g → blockNumber g (length old) ≡ 0
+    → i < length old / 2
+    → Close limit f (inverse (uniformsOf (after i g) .k)) (uniformsOf (after i g) .v)
+    (getD (blockHolds f g old) (2 * i) d) (getD (blockHolds f g old) (2 * i + 1) d)
+block-close limit f g old i d enough h e l =
     let (_, room, none) = pairs-accepted g (length old / 2) .0 (block-accepted g (length old) .0 e .0) in
-    rw (block-holds g old e, samples-first (length old / 2) i g d l, samples-second (length old / 2) i g d l)
-    (pair-close (after i g) (after-sound i g h) (pair-accepted i g h none (omega arith)))
+    rw (block-holds f g old e, samples-first f (length old / 2) i g d l, samples-second f (length old / 2) i g d l)
+    (pair-close limit f (after i g) enough (after-sound i g h) (pair-accepted f i g h none (omega arith)))
+
+-- A block of samples of 18 bits and one of 16 bits, from equal records and of equal length, have one number and end in equal records: both calls
+-- return `blockOf`. So do pairs.
+pub blocks-alike : (g h : Generator) (x y : List ℤ) → g ≡ h → length x ≡ length y → blockOf g (length x) ≡ blockOf h (length y)
+blocks-alike g h x y same size = rw (same, size)
+
+pub pairs-alike : (g : Generator)
+    → (pairOf fractionBits18 g .number ≡ pairOf fractionBits g .number) × (pairOf fractionBits18 g .next ≡ pairOf fractionBits g .next)
+unfolding pairOf
+pairs-alike g = (refl, refl)
 
 -- ---- The twelve readings of document 01
 
 -- an equation of two lists holds at each place
-each-holds : (l : List Reading) → map (λ (r : Reading). samplesOf (r .k) (r .v)) l
+each-holds : (l : List Reading) → map (λ (r : Reading). samplesOf fractionBits (r .k) (r .v)) l
     ≡ map (λ (r : Reading). record { number = 0; first = r .first; second = r .second }) l
     → (rest : List Check) → AllHold rest → AllHold (map of-samples l ++ rest)
 unfolding map _++_
 each-holds [] e rest h = h
 each-holds (r ∷ l) e rest h =
-    (ap (λ (s : List Samples). getD s 0 (samplesOf 0 0)) e, each-holds l (ap (λ (s : List Samples). drop 1 s) e) rest h)
+    (ap (λ (s : List Samples). getD s 0 (samplesOf fractionBits 0 0)) e, each-holds l (ap (λ (s : List Samples). drop 1 s) e) rest h)
 
 pub twelve-readings : AllHold twelve
 unfolding twelve

@@ -1,4 +1,5 @@
--- Pairs and blocks from a generator record (document 01, "The two streams" and the table of refusals).
+-- Pairs and blocks from a generator record (document 01, "The two streams" and the table of refusals), their samples at f fraction bits: 11 in 16 bits,
+-- 13 in 18 (document 02, Job 8). What a call returns beside its samples does not depend on f.
 use mathlib.Core.List.{List, [], _∷_}
 use Prim.Native.Nat.{ℕ, zero, suc, _/_}
 use lib.IntN.{ℤ, pos}
@@ -11,11 +12,12 @@ use Rattle.streams.specs.Streams.Call.{a-block, a-take}
 use Rattle.sample.specs.declared.Samples.{Samples}
 use Rattle.sample.specs.Sample.{samplesOf}
 use Rattle.noise.specs.declared.PairAnswer.{PairAnswer}
+use Rattle.noise.specs.declared.PairAnswer18.{PairAnswer18}
 
 -- The samples of the call from k and v on two numbers drawn, and the next record; refused, 0 0 and the record passed in.
-abbrev pub sampledOf : Uniforms → PairAnswer
-sampledOf drawn =
-    let s : Samples = samplesOf (drawn .k) (drawn .v) in
+abbrev pub sampledOf : ℕ → Uniforms → PairAnswer
+sampledOf f drawn =
+    let s : Samples = samplesOf f (drawn .k) (drawn .v) in
     record {
       number = drawn .number;
       first = ifAccepted (drawn .number) (s .first) (pos 0);
@@ -23,14 +25,18 @@ sampledOf drawn =
       next = drawn .next;
     }
 
+-- The same answer in the struct of the wide samples.
+abbrev pub widePair : PairAnswer → PairAnswer18
+widePair p = record { number = p .number; first = p .first; second = p .second; next = p .next }
+
 -- A pair: two numbers drawn, and their samples.
-unfoldable pub pairOf : Generator → PairAnswer
-pairOf g = sampledOf (uniformsOf g)
+unfoldable pub pairOf : ℕ → Generator → PairAnswer
+pairOf f g = sampledOf f (uniformsOf g)
 
 -- The samples of n pairs, first and second of each alternating.
-unfoldable pub samples : ℕ → Generator → List ℤ
-samples zero g = []
-samples (suc n) g = pairOf g .first ∷ pairOf g .second ∷ samples n (pairOf g .next)
+unfoldable pub samples : (f n : ℕ) → Generator → List ℤ
+samples f zero g = []
+samples f (suc n) g = pairOf f g .first ∷ pairOf f g .second ∷ samples f n (pairOf f g .next)
 
 -- The number of a block of n elements.
 abbrev pub blockNumber : Generator → ℕ → ℕ
@@ -41,16 +47,16 @@ unfoldable pub blockOf : Generator → ℕ → RecordAnswer
 blockOf g n = record { number = blockNumber g n; next = ifAccepted (blockNumber g n) (after (n / 2) g) g }
 
 -- What the lent block then holds: the samples of those pairs; refused, what it held.
-unfoldable pub blockHolds : Generator → List ℤ → List ℤ
-blockHolds g old = ifAccepted (blockNumber g (length old)) (samples (length old / 2) g) old
+unfoldable pub blockHolds : ℕ → Generator → List ℤ → List ℤ
+blockHolds f g old = ifAccepted (blockNumber g (length old)) (samples f (length old / 2) g) old
 
 -- A look at a block of n elements (document 02, Jobs 6 and 7): "it shows and refuses as if none were open, and returns the note too".
 unfoldable pub lookOf : Generator → ℕ → RecordAnswer
 lookOf g n = record { number = blockOf (cleared g) n .number; next = g }
 
 -- What the lent block then holds: what "a real block call on a copy of the record would give", with no request open.
-unfoldable pub lookHolds : Generator → List ℤ → List ℤ
-lookHolds g old = blockHolds (cleared g) old
+unfoldable pub lookHolds : ℕ → Generator → List ℤ → List ℤ
+lookHolds f g old = blockHolds f (cleared g) old
 
 -- Taking into a block of n elements (document 02, Job 7): the record as many pairs on as it noted, its note cleared; refused, the record passed in.
 unfoldable pub takeOf : Generator → ℕ → RecordAnswer
@@ -58,5 +64,5 @@ takeOf g n =
     record { number = numberOf (a-take n) g; next = ifAccepted (numberOf (a-take n) g) (after (g .asked) (cleared g)) g }
 
 -- What the lent block then holds: the samples of those pairs; refused, what it held.
-unfoldable pub takeHolds : Generator → List ℤ → List ℤ
-takeHolds g old = ifAccepted (numberOf (a-take (length old)) g) (samples (g .asked) (cleared g)) old
+unfoldable pub takeHolds : ℕ → Generator → List ℤ → List ℤ
+takeHolds f g old = ifAccepted (numberOf (a-take (length old)) g) (samples f (g .asked) (cleared g)) old

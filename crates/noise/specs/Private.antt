@@ -17,5 +17,5 @@ numbers zero g = []
 numbers (suc n) g = (uniformsOf g .k * 65536 + uniformsOf g .v) ∷ numbers n (uniformsOf g .next)
 
 -- n pairs are drawn: the record returned is n pairs on, and the memory holds their samples.
-abbrev pub PairsDrawn : ℕ → Generator → Generator → List ℤ → Type 0
-PairsDrawn n g next out = (next ≡ after n g) × (out ≡ samples n g)
+abbrev pub PairsDrawn : (f n : ℕ) → Generator → Generator → List ℤ → Type 0
+PairsDrawn f n g next out = (next ≡ after n g) × (out ≡ samples f n g)

@@ -3,6 +3,7 @@ use mathlib.Core.Path.{_≡_}
 use mathlib.Core.List.{List, [], _∷_, _++_, map}
 use Prim.Native.Nat.{ℕ}
 use Rattle.streams.specs.Recurrence.{drawAt}
+use Rattle.sample.specs.Steps.{fractionBits}
 use Rattle.sample.specs.Sample.{samplesOf}
 use Rattle.sample.specs.Readings.{Reading, readings}
 
@@ -12,7 +13,7 @@ pub data Check : Type 0 where
 
 -- the pair's answer, or the draw of that number
 abbrev pub Holds : Check → Type 0
-Holds (of-samples r) = samplesOf (r .k) (r .v) ≡ record { number = 0; first = r .first; second = r .second }
+Holds (of-samples r) = samplesOf fractionBits (r .k) (r .v) ≡ record { number = 0; first = r .first; second = r .second }
 Holds (of-draw t word) = drawAt (record { s0 = 2; s1 = 8; s2 = 16 }) t ≡ word
 
 abbrev pub AllHold : List Check → Type 0

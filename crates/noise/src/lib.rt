@@ -1,10 +1,12 @@
-// A pair of samples, a block of them in lent memory, a look at a block, and the block that was asked for, from a generator record.
+// A pair of samples, a block of them in lent memory, a look at a block, and the block that was asked for, from a generator record; samples are of 16
+// bits, or of 18 in the calls whose names end so.
 ghost use mathlib.Core.Path.{_≡_};
 ghost use Prim.Native.Nat.{_+_, _*_, _/_, _%_, _≤_, min};
 ghost use lib.ListN.{length};
 ghost use Rattle.streams.specs.Streams.{lengthNumber, takenNumber, numberOf, pairsNumber, after};
 ghost use Rattle.streams.specs.Streams.Call.{a-take};
-ghost use Rattle.noise.specs.Noise.{sampledOf, pairOf, blockNumber, blockOf, blockHolds, lookOf, lookHolds, takeOf, takeHolds};
+ghost use Rattle.sample.specs.Steps.{fractionBits, fractionBits18};
+ghost use Rattle.noise.specs.Noise.{sampledOf, widePair, pairOf, blockNumber, blockOf, blockHolds, lookOf, lookHolds, takeOf, takeHolds};
 ghost use Rattle.noise.specs.Private.{stretchLength, numbers, PairsDrawn};
 use lanes::Both;
 use lanes::draw_pairs;
@@ -21,9 +23,16 @@ pub struct PairAnswer {
     pub next: Generator,
 }
 
+pub struct PairAnswer18 {
+    pub number: u32,
+    pub first: i32,
+    pub second: i32,
+    pub next: Generator,
+}
+
 // The samples of two numbers drawn, and the record after them.
 pub fn sampled(drawn: Uniforms) -> PairAnswer
-    ensures { λ r. ⌜ r ≡ sampledOf drawn ⌝ }
+    ensures { λ r. ⌜ r ≡ sampledOf fractionBits drawn ⌝ }
 {
     let next = drawn.next;
     if drawn.number != 0 {
@@ -43,12 +52,42 @@ pub fn sampled(drawn: Uniforms) -> PairAnswer
     }
 }
 
+// The same in 18 bits.
+pub fn sampled18(drawn: Uniforms) -> PairAnswer18
+    ensures { λ r. ⌜ r ≡ widePair (sampledOf fractionBits18 drawn) ⌝ }
+{
+    let next = drawn.next;
+    if drawn.number != 0 {
+        return PairAnswer18 {
+            number: drawn.number,
+            first: 0,
+            second: 0,
+            next,
+        };
+    }
+    let wide = sample::sample18(drawn.k, drawn.v);
+    PairAnswer18 {
+        number: 0,
+        first: wide.first,
+        second: wide.second,
+        next,
+    }
+}
+
 // The next pair of samples.
 pub fn pair(g: Generator) -> PairAnswer
-    ensures { λ r. ⌜ r ≡ pairOf g ⌝ }
+    ensures { λ r. ⌜ r ≡ pairOf fractionBits g ⌝ }
 {
     let drawn = g.uniforms();
     sampled(drawn)
+}
+
+// The next pair of samples in 18 bits.
+pub fn pair18(g: Generator) -> PairAnswer18
+    ensures { λ r. ⌜ r ≡ widePair (pairOf fractionBits18 g) ⌝ }
+{
+    let drawn = g.uniforms();
+    sampled18(drawn)
 }
 
 // The numbers 65536 k + v of as many pairs as z has elements, and the record after them: both streams are drawn side by side.
@@ -68,10 +107,20 @@ fn draw_numbers(g: Generator, z: &mut [u64]) -> Generator
 // The samples of as many pairs as z has elements, by way of their numbers in z.
 fn draw_samples(g: Generator, z: &mut [u64], out: &mut [i16]) -> Generator
     requires { ⌜ (pairsNumber g (length (now z)) ≡ 0) × (length (now out) ≡ 2 * length (now z)) ⌝ }
-    ensures { λ r. ⌜ PairsDrawn (length (now (z .entry))) g r (now (out .exit)) ⌝ }
+    ensures { λ r. ⌜ PairsDrawn fractionBits (length (now (z .entry))) g r (now (out .exit)) ⌝ }
 {
     let next = draw_numbers(g, z);
     sample::fill(z, out);
+    next
+}
+
+// The same in 18 bits.
+fn draw_samples18(g: Generator, z: &mut [u64], out: &mut [i32]) -> Generator
+    requires { ⌜ (pairsNumber g (length (now z)) ≡ 0) × (length (now out) ≡ 2 * length (now z)) ⌝ }
+    ensures { λ r. ⌜ PairsDrawn fractionBits18 (length (now (z .entry))) g r (now (out .exit)) ⌝ }
+{
+    let next = draw_numbers(g, z);
+    sample::fill18(z, out);
     next
 }
 
@@ -81,11 +130,21 @@ const STRETCH: usize = 64;
 // A stretch: its numbers stand in a local array, which is no longer than that, since it is zeroed at each call.
 fn stretch(g: Generator, out: &mut [i16]) -> Generator
     requires { ⌜ (pairsNumber g (length (now out) / 2) ≡ 0) × (length (now out) % 2 ≡ 0) × (length (now out) ≤ stretchLength) ⌝ }
-    ensures { λ r. ⌜ PairsDrawn (length (now (out .entry)) / 2) g r (now (out .exit)) ⌝ }
+    ensures { λ r. ⌜ PairsDrawn fractionBits (length (now (out .entry)) / 2) g r (now (out .exit)) ⌝ }
 {
     let mut z = [0u64; STRETCH / 2];
     let count = out.len() / 2;
     draw_samples(g, &mut z[0..count], out)
+}
+
+// The same in 18 bits.
+fn stretch18(g: Generator, out: &mut [i32]) -> Generator
+    requires { ⌜ (pairsNumber g (length (now out) / 2) ≡ 0) × (length (now out) % 2 ≡ 0) × (length (now out) ≤ stretchLength) ⌝ }
+    ensures { λ r. ⌜ PairsDrawn fractionBits18 (length (now (out .entry)) / 2) g r (now (out .exit)) ⌝ }
+{
+    let mut z = [0u64; STRETCH / 2];
+    let pairs = out.len() / 2;
+    draw_samples18(g, &mut z[0..pairs], out)
 }
 
 // Where the stretch that begins at a place of n ends.
@@ -99,7 +158,7 @@ fn stretch_end(at: usize, n: usize) -> usize
 // A block of even length on an accepted record, stretch by stretch.
 fn stretches(g: Generator, out: &mut [i16]) -> Generator
     requires { ⌜ (pairsNumber g (length (now out) / 2) ≡ 0) × (length (now out) % 2 ≡ 0) ⌝ }
-    ensures { λ r. ⌜ PairsDrawn (length (now (out .entry)) / 2) g r (now (out .exit)) ⌝ }
+    ensures { λ r. ⌜ PairsDrawn fractionBits (length (now (out .entry)) / 2) g r (now (out .exit)) ⌝ }
 {
     let mut state = g;
     let mut at = 0;
@@ -108,6 +167,22 @@ fn stretches(g: Generator, out: &mut [i16]) -> Generator
         let end = stretch_end(at, n);
         state = stretch(state, &mut out[at..end]);
         at = end;
+    }
+    state
+}
+
+// The same in 18 bits.
+fn stretches18(g: Generator, out: &mut [i32]) -> Generator
+    requires { ⌜ (pairsNumber g (length (now out) / 2) ≡ 0) × (length (now out) % 2 ≡ 0) ⌝ }
+    ensures { λ r. ⌜ PairsDrawn fractionBits18 (length (now (out .entry)) / 2) g r (now (out .exit)) ⌝ }
+{
+    let mut state = g;
+    let mut done = 0;
+    let n = out.len();
+    while done < n {
+        let end = stretch_end(done, n);
+        state = stretch18(state, &mut out[done..end]);
+        done = end;
     }
     state
 }
@@ -137,7 +212,7 @@ fn block_number(g: Generator, n: usize) -> u32
 // A block of samples, first and second of each pair alternating.
 pub fn block(g: Generator, out: &mut [i16]) -> RecordAnswer
     ensures { λ r. ⌜ r ≡ blockOf g (length (now (out .entry))) ⌝ }
-    ensures { λ r. ⌜ now (out .exit) ≡ blockHolds g (now (out .entry)) ⌝ }
+    ensures { λ r. ⌜ now (out .exit) ≡ blockHolds fractionBits g (now (out .entry)) ⌝ }
 {
     let number = block_number(g, out.len());
     if number != 0 {
@@ -147,13 +222,42 @@ pub fn block(g: Generator, out: &mut [i16]) -> RecordAnswer
     RecordAnswer { number, next }
 }
 
+// A block of samples of 18 bits.
+pub fn block18(g: Generator, out: &mut [i32]) -> RecordAnswer
+    ensures { λ r. ⌜ r ≡ blockOf g (length (now (out .entry))) ⌝ }
+    ensures { λ r. ⌜ now (out .exit) ≡ blockHolds fractionBits18 g (now (out .entry)) ⌝ }
+{
+    let number = block_number(g, out.len());
+    if number != 0 {
+        return RecordAnswer { number, next: g };
+    }
+    let moved = stretches18(g, out);
+    RecordAnswer {
+        number,
+        next: moved,
+    }
+}
+
 // A look at the block that would come next, as if no request were open: its samples, and the record as it is.
 pub fn look(g: Generator, out: &mut [i16]) -> RecordAnswer
     ensures { λ r. ⌜ r ≡ lookOf g (length (now (out .entry))) ⌝ }
-    ensures { λ r. ⌜ now (out .exit) ≡ lookHolds g (now (out .entry)) ⌝ }
+    ensures { λ r. ⌜ now (out .exit) ≡ lookHolds fractionBits g (now (out .entry)) ⌝ }
 {
     let free = g.without_note();
     let shown = block(free, out);
+    RecordAnswer {
+        number: shown.number,
+        next: g,
+    }
+}
+
+// A look at a block of samples of 18 bits.
+pub fn look18(g: Generator, out: &mut [i32]) -> RecordAnswer
+    ensures { λ r. ⌜ r ≡ lookOf g (length (now (out .entry))) ⌝ }
+    ensures { λ r. ⌜ now (out .exit) ≡ lookHolds fractionBits18 g (now (out .entry)) ⌝ }
+{
+    let free = g.without_note();
+    let shown = block18(free, out);
     RecordAnswer {
         number: shown.number,
         next: g,
@@ -189,7 +293,7 @@ fn take_number(g: Generator, n: usize) -> u32
 // The samples that were asked for; the request is closed.
 pub fn take(g: Generator, out: &mut [i16]) -> RecordAnswer
     ensures { λ r. ⌜ r ≡ takeOf g (length (now (out .entry))) ⌝ }
-    ensures { λ r. ⌜ now (out .exit) ≡ takeHolds g (now (out .entry)) ⌝ }
+    ensures { λ r. ⌜ now (out .exit) ≡ takeHolds fractionBits g (now (out .entry)) ⌝ }
 {
     let number = take_number(g, out.len());
     if number != 0 {
@@ -200,5 +304,25 @@ pub fn take(g: Generator, out: &mut [i16]) -> RecordAnswer
     RecordAnswer {
         number,
         next: taken,
+    }
+}
+
+// The samples that were asked for, in 18 bits.
+pub fn take18(g: Generator, out: &mut [i32]) -> RecordAnswer
+    ensures { λ r. ⌜ r ≡ takeOf g (length (now (out .entry))) ⌝ }
+    ensures { λ r. ⌜ now (out .exit) ≡ takeHolds fractionBits18 g (now (out .entry)) ⌝ }
+{
+    let refusal = take_number(g, out.len());
+    if refusal != 0 {
+        return RecordAnswer {
+            number: refusal,
+            next: g,
+        };
+    }
+    let free = g.without_note();
+    let next = stretches18(free, out);
+    RecordAnswer {
+        number: refusal,
+        next,
     }
 }

@@ -1,10 +1,11 @@
--- Demand 3: each sample is less than nine sixteenths of a unit from its member of the exact pair of (2k + 1) over 2^49 and v over 65536.
-use mathlib.Core.Path.{_≡_}
-use Prim.Native.Nat.{ℕ, _+_, _-_, _^_, _<_}
+-- Closeness of a sample to its member of the exact pair of (2k + 1) over 2^49 and v over 65536: for any number of fraction bits and any limit
+-- that leaves room beside the half for the margins of F and G.
+use mathlib.Core.Path.{_≡_, refl, _∙_}
+use Prim.Native.Nat.{ℕ, _+_, _-_, _*_, _^_, _≤_, _<_}
 use native.Mathlib.Nat.{le-refl, le-of-suc-le-suc}
 use native.Mathlib.Omega.{arith}
 use borrow.Author.Tests.{lt-leb, le-ltb}
-use Rattle.exact.specs.Fraction.{dyadic}
+use Rattle.exact.specs.Fraction.{Fraction, dyadic}
 use Rattle.exact.specs.Radius.{RadiusEnclosure}
 use Rattle.exact.specs.Pair.{Close, members}
 use Rattle.radius.specs.Steps.{numberBits, inverse, radiusOf}
@@ -12,34 +13,52 @@ use Rattle.radius.proofs.Ranges.{radius-of-range}
 use Rattle.radius.proofs.RadiusMargin.{radius-margin}
 use Rattle.angle.specs.Steps.{signedOf}
 use Rattle.angle.proofs.Members.{members-near}
-use Rattle.sample.specs.Steps.{fractionBits}
-use Rattle.sample.specs.Sample.{nineSixteenths, firstOf, secondOf, samplesOf}
+use Rattle.sample.specs.Steps.{fractionBits, fractionBits18}
+use Rattle.sample.specs.Sample.{nineSixteenths, threeQuarters, wide, firstOf, secondOf, samplesOf}
 use Rattle.sample.specs.declared.Samples.{Samples}
+use Rattle.sample.specs.declared.Samples18.{Samples18}
 use Rattle.sample.proofs.RoundingMargin.{member-close}
 
-pub samples-close : (k v : ℕ) → k < 2 ^ numberBits → v < 65536 → Close nineSixteenths fractionBits (inverse k) v (firstOf k v) (secondOf k v)
+-- "The error argument is made for a number of fraction bits and used at 11 and 13" (document 02, Job 8): with H half a unit of the
+-- product, the limit is more than (H + 21 × 2^30) over 2 H.
+abbrev pub Room : Fraction → ℕ → Type 0
+Room limit f = (f ≤ 49) × (limit .bottom * (2 ^ (49 - f) + 21 * 2 ^ 30) < 2 * 2 ^ (49 - f) * limit .top)
+
+-- 1/2 + 21/512 < 9/16, and 1/2 + 21/128 < 3/4
+pub room : Room nineSixteenths fractionBits
+room = (omega arith, omega arith)
+
+pub room18 : Room threeQuarters fractionBits18
+room18 = (omega arith, omega arith)
+
+pub samples-close : (limit : Fraction) (f k v : ℕ) → Room limit f → k < 2 ^ numberBits → v < 65536
+    → Close limit f (inverse k) v (firstOf f k v) (secondOf f k v)
 unfolding firstOf secondOf
-samples-close k v hk hv =
+samples-close limit f k v (few, enough) hk hv =
     let F = radiusOf k in
     let (low, high) = radius-margin k hk in
     let (first, second) = members-near v in
     let small : F < 2 ^ 24 = omega (arith, radius-of-range k) in
     let g : RadiusEnclosure (inverse k) = record { low = dyadic 20 (F - 8); high = dyadic 20 (F + 20); atMost = low; atLeast = high } in
-    let close = member-close fractionBits F (omega arith) g nineSixteenths in
+    let close = member-close f F few g limit in
     record {
       radius = g;
       bits = 96;
-      first = close (signedOf v .0) (members 96 v .0) small (le-refl _) (le-refl _) first (omega arith);
-      second = close (signedOf v .1) (members 96 v .1) small (le-refl _) (le-refl _) second (omega arith);
+      first = close (signedOf v .0) (members 96 v .0) small (le-refl _) (le-refl _) first enough;
+      second = close (signedOf v .1) (members 96 v .1) small (le-refl _) (le-refl _) second enough;
     }
 
--- what the call returns is document 01's answer, and so it is close
-pub answer-close : (k v : ℕ) (r : Samples) → r ≡ samplesOf k v
-    → (r ≡ samplesOf k v) × (k < 2 ^ numberBits → v < 65536 → Close nineSixteenths fractionBits (inverse k) v (r .first) (r .second))
+-- what the call accepts are the two samples of the steps
+pub accepts : (f k v : ℕ) → k < 2 ^ numberBits → v < 65536
+    → samplesOf f k v ≡ record { number = 0; first = firstOf f k v; second = secondOf f k v }
 unfolding samplesOf
-answer-close k v r e = (e, close)
-  where
-    close : k < 2 ^ numberBits → v < 65536 → Close nineSixteenths fractionBits (inverse k) v (r .first) (r .second)
-    close hk hv =
-        let accepted = rw (lt-leb (2 ^ numberBits) k hk, le-ltb 65535 v (le-of-suc-le-suc hv)) at e in
-        rw accepted (samples-close k v hk hv)
+accepts f k v hk hv = rw (samplesOf, lt-leb (2 ^ numberBits) k hk, le-ltb 65535 v (le-of-suc-le-suc hv))
+
+-- so what the call answers is close
+pub answer-close : (limit : Fraction) (f k v : ℕ) → Room limit f → (r : Samples) → r ≡ samplesOf f k v → k < 2 ^ numberBits → v < 65536
+    → Close limit f (inverse k) v (r .first) (r .second)
+answer-close limit f k v enough r e hk hv = rw (e ∙ accepts f k v hk hv) (samples-close limit f k v enough hk hv)
+
+pub answer-close18 : (limit : Fraction) (f k v : ℕ) → Room limit f → (r : Samples18) → r ≡ wide (samplesOf f k v) → k < 2 ^ numberBits → v < 65536
+    → Close limit f (inverse k) v (r .first) (r .second)
+answer-close18 limit f k v enough r e hk hv = rw e (answer-close limit f k v enough _ refl hk hv)

@@ -2,6 +2,8 @@
 pub mod RoundingLaws
 mod RoundingMargin
 pub mod FillLaws
+mod FillLoop
+mod PassLaws
 pub mod Closeness
 pub mod Theorems
 pub mod Sizes

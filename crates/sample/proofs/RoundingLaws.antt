@@ -1,8 +1,9 @@
 -- Laws of the rounding: the sign apart from the size, and the largest size.
 use mathlib.Core.Path.{_≡_, refl, sym, ap, _∙_}
 use mathlib.Core.Bool.{Bool, true, false}
-use Prim.Native.Nat.{ℕ, zero, suc, _+_, _-_, _*_, _^_, _≤_, _<_}
-use native.Mathlib.Nat.{mul-zero, zero-add, div-eq-of-lt, mul-le-mul, pow-suc}
+use mathlib.Core.Logic.{inl, inr}
+use Prim.Native.Nat.{ℕ, zero, suc, _+_, _-_, _*_, _/_, _^_, _≤_, _<_}
+use native.Mathlib.Nat.{mul-zero, zero-add, div-eq-of-lt, mul-le-mul, pow-suc, le-refl, le-trans, add-le-add, div-mul-le-self, le-div-iff-mul-le}
 use native.Mathlib.Numerals.{add-one}
 use native.Mathlib.Omega.{arith}
 use lib.IntN.{ℤ, pos, negsuc, negℤ, natAbs, negℤ-negℤ}
@@ -16,6 +17,8 @@ use Rattle.angle.proofs.Signs.{natAbs-neg}
 use Rattle.angle.proofs.Ranges.{signed-range}
 use Rattle.sample.specs.Steps.{fractionBits, size, rounded}
 use Rattle.sample.specs.Sample.{firstOf, secondOf}
+use Rattle.sample.specs.Private.{Scale, bitsAt}
+use Rattle.sample.specs.Theorems.{largest}
 
 -- a sine or cosine of 0 gives the sample 0
 pub size-zero : (f F : ℕ) → f ≤ 49 → size f F 0 ≡ 0
@@ -46,21 +49,36 @@ pub size-of : (f F : ℕ) (G : ℤ) → natAbs (rounded f F G) ≡ size f F (nat
 size-of f F (pos g) = refl
 size-of f F (negsuc g) = natAbs-neg (pos (size f F (suc g)))
 
--- the largest size
-pub size-range : (F G : ℕ) → F < radiusLimit → G ≤ 2 ^ 30 → size fractionBits F G ≤ 16879
+-- no size is above the largest
+pub size-range : (f F G : ℕ) → F < radiusLimit → G ≤ 2 ^ 30 → size f F G ≤ largest f
 unfolding size
-size-range F G h g =
+size-range f F G h g =
     let product : F * G ≤ (radiusLimit - 1) * 2 ^ 30 = mul-le-mul {n₁ = F} {m₁ = G} {n₂ = radiusLimit - 1} {m₂ = 2 ^ 30} (omega arith) g in
-    omega (arith, product)
+    le-div-iff-mul-le (pow-pos (50 - f)) .1 (le-trans (div-mul-le-self _ _) (add-le-add product (le-refl _)))
 
--- no sample's size is above 16879
-small : (k : ℕ) (G : ℤ) → natAbs G ≤ 2 ^ 30 → natAbs (rounded fractionBits (radiusOf k) G) ≤ 16879
-small k G h = rw (size-of fractionBits (radiusOf k) G) (size-range (radiusOf k) (natAbs G) (radius-of-range k) h)
+-- the size by the scale: F times as much, over the unit of 16 bits
+pub scaled-size : (s F G : ℕ) → Scale s → (F * s * G + 2 ^ 38) / 2 ^ 39 ≡ size (bitsAt s) F G
+unfolding size
+scaled-size s F G (inl e) = rw e (omega arith)
+scaled-size s F G (inr e) = rw e (omega arith)
 
-pub first-small : (k v : ℕ) → natAbs (firstOf k v) ≤ 16879
+-- at either scale
+pub few-bits : (s : ℕ) → Scale s → bitsAt s ≤ 13
+few-bits s (inl e) = rw e (omega arith)
+few-bits s (inr e) = rw e (omega arith)
+
+pub largest-range : (s : ℕ) → Scale s → largest (bitsAt s) ≤ 67517
+largest-range s (inl e) = rw e (omega arith)
+largest-range s (inr e) = rw e (omega arith)
+
+-- no sample's size is above the largest
+pub rounded-small : (f F : ℕ) (G : ℤ) → F < radiusLimit → natAbs G ≤ 2 ^ 30 → natAbs (rounded f F G) ≤ largest f
+rounded-small f F G h g = rw (size-of f F G) (size-range f F (natAbs G) h g)
+
+pub first-small : (f k v : ℕ) → natAbs (firstOf f k v) ≤ largest f
 unfolding firstOf
-first-small k v = small k (signedOf v .0) (signed-range v .0)
+first-small f k v = rounded-small f (radiusOf k) (signedOf v .0) (radius-of-range k) (signed-range v .0)
 
-pub second-small : (k v : ℕ) → natAbs (secondOf k v) ≤ 16879
+pub second-small : (f k v : ℕ) → natAbs (secondOf f k v) ≤ largest f
 unfolding secondOf
-second-small k v = small k (signedOf v .1) (signed-range v .1)
+second-small f k v = rounded-small f (radiusOf k) (signedOf v .1) (radius-of-range k) (signed-range v .1)

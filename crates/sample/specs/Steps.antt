@@ -3,9 +3,12 @@
 use Prim.Native.Nat.{ℕ, _+_, _-_, _*_, _/_, _^_}
 use lib.IntN.{ℤ, pos, negsuc, negℤ, natAbs}
 
--- "the 16-bit samples with 11 fraction bits": the f that is used
+-- The two f that are used: "the 16-bit samples with 11 fraction bits", and "5 integer bits and 13 fraction bits" (document 02, Job 8).
 abbrev pub fractionBits : ℕ
 fractionBits = 11
+
+abbrev pub fractionBits18 : ℕ
+fractionBits18 = 13
 
 -- A sample's size: floor((F × |G| + 2^(49-f)) / 2^(50-f)).
 unfoldable pub size : (f F G : ℕ) → ℕ

@@ -1,4 +1,5 @@
-// Two samples from k and v (document 01, 'Angle and sample').
+// Two samples from k and v (document 01, 'Angle and sample'), of 16 bits, 11 of them fraction bits, or of 18 bits and 13 (document 02,
+// Job 8).
 ghost use mathlib.Core.Path.{_≡_};
 ghost use mathlib.Core.List.{map};
 ghost use Prim.Native.Nat.{_+_, _*_, _/_, _^_, _≤_, _<_, min};
@@ -7,16 +8,24 @@ ghost use lib.ListN.{length};
 ghost use Rattle.exact.specs.Pair.{Close};
 ghost use Rattle.radius.specs.Steps.{numberBits, inverse, radiusLimit};
 ghost use Rattle.angle.specs.Steps.{signedOf};
-ghost use Rattle.sample.specs.Steps.{fractionBits, size, rounded};
-ghost use Rattle.sample.specs.Private.{underRootAt, partLength};
-ghost use Rattle.sample.specs.Sample.{samplesOf, samplesAt, nineSixteenths, filled};
+ghost use Rattle.sample.specs.Steps.{fractionBits, fractionBits18, size, rounded};
+ghost use Rattle.sample.specs.Private.{Scale, bitsAt, underRootAt, partLength};
+ghost use Rattle.sample.specs.Sample.{samplesOf, wide, samplesAt, nineSixteenths, threeQuarters, filled};
 
-// The fraction bits of a sample, its unit in the product of F and a sine or cosine, and half of it.
+// The fraction bits of a sample of 16 bits, its unit in the product of F and a sine or cosine, and half of it.
 const FRACTION_BITS: u32 = 11;
 
 const UNIT: u64 = 1 << (50 - FRACTION_BITS);
 
 const HALF: u64 = 1 << (49 - FRACTION_BITS);
+
+// The fraction bits of a sample of 18 bits.
+const FRACTION_BITS_18: u32 = 13;
+
+// How many units of a sample make one of 16 bits.
+const SCALE: u64 = 1;
+
+const SCALE_18: u64 = 1 << (FRACTION_BITS_18 - FRACTION_BITS);
 
 pub struct Samples {
     pub number: u32,
@@ -24,29 +33,40 @@ pub struct Samples {
     pub second: i16,
 }
 
-// A sample's size: the nearest whole number of units, halves up, of the radius F times the size of a sine or cosine.
-fn units(f: u64, g: u64) -> u32
-    requires { ⌜ (f < radiusLimit) × (g ≤ 2 ^ 30) ⌝ }
-    ensures { λ r. ⌜ (r ≡ size fractionBits f g) × (r ≤ 16879) ⌝ }
+pub struct Samples18 {
+    pub number: u32,
+    pub first: i32,
+    pub second: i32,
+}
+
+// A sample's size: the nearest whole number of units, halves up, of the radius F times the size of a sine or cosine. (A product with
+// the scale takes less time than a shift by a number that varies.)
+fn units(scale: u64, f: u64, g: u64) -> u32
+    requires { ⌜ Scale scale × (f < radiusLimit) × (g ≤ 2 ^ 30) ⌝ }
+    ensures { λ r. ⌜ r ≡ size (bitsAt scale) f g ⌝ }
 {
-    ((f * g + HALF) / UNIT) as u32
+    ((f * scale * g + HALF) / UNIT) as u32
 }
 
 struct Pair {
-    first: i16,
-    second: i16,
+    first: i32,
+    second: i32,
 }
 
 // The two samples of a radius F and v: sizes are rounded first, since rounding keeps the sign.
-fn pair_of(f: u64, v: u64) -> Pair
-    requires { ⌜ f < radiusLimit ⌝ }
-    ensures { λ r. ⌜ (r .first ≡ rounded fractionBits f (signedOf v .0)) × (r .second ≡ rounded fractionBits f (signedOf v .1)) ⌝ }
+fn pair_of(scale: u64, f: u64, v: u64) -> Pair
+    requires { ⌜ Scale scale × (f < radiusLimit) ⌝ }
+    ensures { λ r. ⌜ (r .first ≡ rounded (bitsAt scale) f (signedOf v .0)) × (r .second ≡ rounded (bitsAt scale) f (signedOf v .1)) ⌝ }
 {
     let angle = angle::angle_of(v % 16384);
-    let turned = angle::turn(v / 16384, units(f, angle.sine), units(f, angle.cosine));
+    let turned = angle::turn(
+        v / 16384,
+        units(scale, f, angle.sine),
+        units(scale, f, angle.cosine),
+    );
     Pair {
-        first: turned.first as i16,
-        second: turned.second as i16,
+        first: turned.first as i32,
+        second: turned.second as i32,
     }
 }
 
@@ -72,17 +92,34 @@ fn under_roots(z: &[u64], x: &mut [u64])
 // The samples of each z, from its 2Q and any guess at the root of that.
 fn sample_each(z: &[u64], x: &[u64], g: &[u64], out: &mut [i16])
     requires { ⌜ (now x ≡ map underRootAt (now z)) × (length (now g) ≡ length (now z)) × (length (now out) ≡ 2 * length (now z)) ⌝ }
-    ensures { λ r. ⌜ now (out .exit) ≡ samplesAt (now (z .entry)) ⌝ }
+    ensures { λ r. ⌜ now (out .exit) ≡ samplesAt fractionBits (now (z .entry)) ⌝ }
 {
     let mut i = 0;
     while 2 * i + 1 < out.len() {
         let f = roots::root(x[i], g[i]);
-        let pair = pair_of(f, z[i] % 65536);
-        let first = pair.first;
-        let second = pair.second;
+        let pair = pair_of(SCALE, f, z[i] % 65536);
+        let first = pair.first as i16;
+        let second = pair.second as i16;
         out[2 * i] = first;
         out[2 * i + 1] = second;
         i += 1;
+    }
+}
+
+// The same in 18 bits.
+fn sample_each18(z: &[u64], x: &[u64], g: &[u64], out: &mut [i32])
+    requires { ⌜ (now x ≡ map underRootAt (now z)) × (length (now g) ≡ length (now z)) × (length (now out) ≡ 2 * length (now z)) ⌝ }
+    ensures { λ r. ⌜ now (out .exit) ≡ samplesAt fractionBits18 (now (z .entry)) ⌝ }
+{
+    let mut j = 0;
+    while 2 * j + 1 < out.len() {
+        let f = roots::root(x[j], g[j]);
+        let pair = pair_of(SCALE_18, f, z[j] % 65536);
+        let wide_first = pair.first;
+        let wide_second = pair.second;
+        out[2 * j] = wide_first;
+        out[2 * j + 1] = wide_second;
+        j += 1;
     }
 }
 
@@ -90,11 +127,21 @@ fn sample_each(z: &[u64], x: &[u64], g: &[u64], out: &mut [i16])
 // matter.
 fn by_passes(z: &[u64], x: &mut [u64], g: &mut [u64], out: &mut [i16])
     requires { ⌜ (length (now x) ≡ length (now z)) × (length (now g) ≡ length (now z)) × (length (now out) ≡ 2 * length (now z)) ⌝ }
-    ensures { λ r. ⌜ now (out .exit) ≡ samplesAt (now (z .entry)) ⌝ }
+    ensures { λ r. ⌜ now (out .exit) ≡ samplesAt fractionBits (now (z .entry)) ⌝ }
 {
     under_roots(z, x);
     roots::guesses(x, g);
     sample_each(z, x, g, out)
+}
+
+// The same in 18 bits.
+fn by_passes18(z: &[u64], x: &mut [u64], g: &mut [u64], out: &mut [i32])
+    requires { ⌜ (length (now x) ≡ length (now z)) × (length (now g) ≡ length (now z)) × (length (now out) ≡ 2 * length (now z)) ⌝ }
+    ensures { λ r. ⌜ now (out .exit) ≡ samplesAt fractionBits18 (now (z .entry)) ⌝ }
+{
+    under_roots(z, x);
+    roots::guesses(x, g);
+    sample_each18(z, x, g, out)
 }
 
 // The most pairs in a part.
@@ -104,7 +151,7 @@ const PART: usize = 32;
 // them, and a block is faster by it.)
 fn part(z: &[u64], out: &mut [i16])
     requires { ⌜ (length (now z) ≤ partLength) × (length (now out) ≡ 2 * length (now z)) ⌝ }
-    ensures { λ r. ⌜ now (out .exit) ≡ samplesAt (now (z .entry)) ⌝ }
+    ensures { λ r. ⌜ now (out .exit) ≡ samplesAt fractionBits (now (z .entry)) ⌝ }
 {
     let mut x = [0u64; PART];
     let mut g = [0u64; PART];
@@ -112,10 +159,21 @@ fn part(z: &[u64], out: &mut [i16])
     by_passes(z, &mut x[0..n], &mut g[0..n], out)
 }
 
+// The same in 18 bits.
+fn part18(z: &[u64], out: &mut [i32])
+    requires { ⌜ (length (now z) ≤ partLength) × (length (now out) ≡ 2 * length (now z)) ⌝ }
+    ensures { λ r. ⌜ now (out .exit) ≡ samplesAt fractionBits18 (now (z .entry)) ⌝ }
+{
+    let mut x = [0u64; PART];
+    let mut g = [0u64; PART];
+    let n = z.len();
+    by_passes18(z, &mut x[0..n], &mut g[0..n], out)
+}
+
 // The two samples of k and v: document 01's steps with the half step (demand 2), and so each less than nine sixteenths of a unit of
 // 2^-11 from its member of the exact pair of (2k + 1) over 2^49, k from 0, and v over 65536 (demand 3).
 pub fn sample(k: u64, v: u32) -> Samples
-    ensures steps { λ r. ⌜ r ≡ samplesOf k v ⌝ }
+    ensures steps { λ r. ⌜ r ≡ samplesOf fractionBits k v ⌝ }
     ensures close { λ r. ⌜ (k < 2 ^ numberBits → v < 65536 → Close nineSixteenths fractionBits (inverse k) v (r .first) (r .second)) ⌝ }
 {
     if radius::LIMIT <= k {
@@ -142,6 +200,40 @@ pub fn sample(k: u64, v: u32) -> Samples
     }
 }
 
+// The refusals of `sample`.
+const K_TOO_LARGE: u32 = 2;
+
+const V_TOO_LARGE: u32 = 3;
+
+// The same in 18 bits: each less than three quarters of a unit of 2^-13 from its member of that exact pair (document 02, Job 8).
+pub fn sample18(k: u64, v: u32) -> Samples18
+    ensures steps { λ r. ⌜ r ≡ wide (samplesOf fractionBits18 k v) ⌝ }
+    ensures close { λ r. ⌜ (k < 2 ^ numberBits → v < 65536 → Close threeQuarters fractionBits18 (inverse k) v (r .first) (r .second)) ⌝ }
+{
+    if k >= radius::LIMIT {
+        return Samples18 {
+            number: K_TOO_LARGE,
+            first: 0,
+            second: 0,
+        };
+    }
+    if v > 65535 {
+        return Samples18 {
+            number: V_TOO_LARGE,
+            first: 0,
+            second: 0,
+        };
+    }
+    let z = [k * 65536 + v as u64];
+    let mut pair = [0i32; 2];
+    part18(&z, &mut pair);
+    Samples18 {
+        number: 0,
+        first: pair[0],
+        second: pair[1],
+    }
+}
+
 // How many pairs there are to fill, of so many z and so many elements.
 fn pairs(count: usize, room: usize) -> usize
     ensures { λ r. ⌜ r ≡ min count (room / 2) ⌝ }
@@ -160,7 +252,7 @@ fn part_end(at: usize, n: usize) -> usize
 // The two samples of each z = 65536 k + v, first and second alternating, as far as there is room for both; every other element
 // stays.
 pub fn fill(z: &[u64], out: &mut [i16])
-    ensures { λ r. ⌜ now (out .exit) ≡ filled (now (z .entry)) (now (out .entry)) ⌝ }
+    ensures { λ r. ⌜ now (out .exit) ≡ filled fractionBits (now (z .entry)) (now (out .entry)) ⌝ }
 {
     let n = pairs(z.len(), out.len());
     let mut at = 0;
@@ -168,6 +260,19 @@ pub fn fill(z: &[u64], out: &mut [i16])
         let end = part_end(at, n);
         part(&z[at..end], &mut out[2 * at..2 * end]);
         at = end;
+    }
+}
+
+// The same in 18 bits.
+pub fn fill18(z: &[u64], out: &mut [i32])
+    ensures { λ r. ⌜ now (out .exit) ≡ filled fractionBits18 (now (z .entry)) (now (out .entry)) ⌝ }
+{
+    let n = pairs(z.len(), out.len());
+    let mut done = 0;
+    while done < n {
+        let end = part_end(done, n);
+        part18(&z[done..end], &mut out[2 * done..2 * end]);
+        done = end;
     }
 }
 

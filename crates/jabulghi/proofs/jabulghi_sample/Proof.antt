@@ -16,7 +16,7 @@ returns c =
     let s = c .before .before .sample in
     let first : SFits w16 (s .result .first) = record { sfits = given .1 .0 .1 } in
     let second : SFits w16 (s .result .second) = record { sfits = given .1 .1 .0 .1 } in
-    rw (← (s .ensures .0)) (refl, (stored first second, s .ensures .1))
+    rw (← (s .ensures .0)) (refl, (stored w16 first second, s .ensures .1))
 
 pub jabulghi-sample-spec : {M : Type 1} → statement M
 jabulghi-sample-spec = tie.close (tie.spec sample-requires returns)

@@ -12,21 +12,13 @@ use Rattle.streams.specs.declared.Generator.{Generator}
 use Rattle.streams.specs.Streams.{mostCount}
 use Rattle.streams.specs.Recurrence.{Sound}
 use Rattle.streams.proofs.Theorems.{sound, pairs-accepted}
-use Rattle.sample.specs.Sample.{filled}
-use Rattle.sample.proofs.FillLaws.{filled-whole}
-use Rattle.noise.proofs.Laws.{length-numbers, samples-numbers}
+use Rattle.sample.specs.Steps.{fractionBits}
+use Rattle.noise.proofs.Laws.{filled-samples}
 use Rattle.noise.proofs.draw_samples.Statement.{statement}
 use Rattle.noise.proofs.draw_samples.Tie as tie
 
 start-sound : (c : tie.Start) → Sound (c .args .g)
 start-sound c = sound (c .args .g) (omega arith) (omega arith) (pairs-accepted _ _ .0 (c .pre .0) .0)
-
--- the slice has room for just the pairs, so it is filled with their samples
-whole : {zs : List ℕ} {out : List ℤ} (old : List ℤ) (n : ℕ) (g : Generator) → Sound g → g .waiting ≡ 0 → g .count + n ≤ mostCount
-    → zs ≡ numbers n g
-    → length old ≡ 2 * n → out ≡ filled zs old → out ≡ samples n g
-whole old n g h none room e l f =
-    f ∙ rw e (filled-whole (numbers n g) old (rw (length-numbers n g) l)) ∙ sym (samples-numbers n g h none room)
 
 draw-numbers-requires : tie.Need-draw-numbers-requires
 draw-numbers-requires c κs = search needs
@@ -47,7 +39,7 @@ returns c =
     let n = length (start .args .z .now) in
     let filled-by = c .before .fill .ensures in
     let (_, room, none) = pairs-accepted _ n .0 (start .pre .0) in
-    (drawn .0, whole (start .args .out .now) n (start .args .g) (start-sound start) none room (drawn .1) (start .pre .1) filled-by)
+    (drawn .0, filled-samples fractionBits n (start .args .g) (start .args .out .now) (start-sound start) none room (drawn .1) (start .pre .1) filled-by)
 
 pub draw-samples-spec : {M : Type 1} → statement M
 draw-samples-spec =

@@ -8,17 +8,11 @@ use lib.ListN.{length, take, length-take}
 use borrow.Author.Needs.{needs}
 use Rattle.streams.specs.declared.Generator.{Generator}
 use Rattle.streams.specs.Streams.{pairsNumber, after}
+use Rattle.sample.specs.Steps.{fractionBits}
 use Rattle.noise.specs.Noise.{samples}
+use Rattle.noise.proofs.StretchLaws.{lent-size, asked}
 use Rattle.noise.proofs.stretch.Statement.{statement}
 use Rattle.noise.proofs.stretch.Tie as tie
-
--- as many numbers are lent as there are pairs
-size : (n : ℕ) (z : List ℕ) → length z ≡ 32 → n ≤ 32 → length (take (n - 0) z) ≡ n
-size n z e h = simp length-take (omega arith)
-
-asked : (g : Generator) (n : ℕ) (z : List ℕ) (out : List ℤ) → length z ≡ 32 → n ≤ 32 → pairsNumber g n ≡ 0 → length out ≡ 2 * n
-    → (pairsNumber g (length (take (n - 0) z)) ≡ 0) × (length out ≡ 2 * length (take (n - 0) z))
-asked g n z out e h p l = rw (size n z e h) (p, l)
 
 sub-draw-samples : tie.Need-sub-draw-samples
 sub-draw-samples c = search needs
@@ -47,7 +41,7 @@ returns c =
     let drawn = c .before .before .draw-samples .ensures in
     let room : length (c .before .before .before .before .before .args .out .now) / 2 ≤ 32
     = omega (arith, c .before .before .before .before .before .pre .2) in
-    (drawn .0 ∙ ap (λ (n : ℕ). after n g) (size _ _ refl room), drawn .1 ∙ ap (λ (n : ℕ). samples n g) (size _ _ refl room))
+    (drawn .0 ∙ ap (λ (n : ℕ). after n g) (lent-size _ _ refl room), drawn .1 ∙ ap (λ (n : ℕ). samples fractionBits n g) (lent-size _ _ refl room))
 
 pub stretch-spec : {M : Type 1} → statement M
 stretch-spec =

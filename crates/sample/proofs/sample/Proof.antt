@@ -1,28 +1,36 @@
 -- `sample::sample` meets its contract: the two refusals, then the samples of the one z = 65536 k + v.
 use mathlib.Core.Path.{_≡_, refl, ap₂, _∙_}
-use Prim.Native.Nat.{ℕ, _+_, _*_, _/_, _%_, _^_, _≤_}
+use Prim.Native.Nat.{ℕ, _+_, _*_, _/_, _%_, _^_, _≤_, _<_}
 use native.Mathlib.Omega.{arith}
 use borrow.Author.Needs.{needs}
 use borrow.Author.Tests.{le-leb, lt-leb, lt-ltb, le-ltb}
 use lib.IntN.{ℤ}
 use mir.Syntax.{w16}
 use mir.Facts.{toZ-ofZ}
-use Rattle.radius.specs.Steps.{numberBits}
+use Rattle.exact.specs.Pair.{Close}
+use Rattle.radius.specs.Steps.{numberBits, inverse}
 use Rattle.angle.proofs.Signs.{size-fits}
-use Rattle.sample.specs.Sample.{firstOf, secondOf, samplesOf, samplesAt}
+use Rattle.sample.specs.Steps.{fractionBits}
+use Rattle.sample.specs.Sample.{firstOf, secondOf, samplesOf, samplesAt, nineSixteenths}
+use Rattle.sample.specs.declared.Samples.{Samples}
 use Rattle.sample.proofs.RoundingLaws.{first-small, second-small}
-use Rattle.sample.proofs.Closeness.{answer-close}
+use Rattle.sample.proofs.Closeness.{room, answer-close}
 use Rattle.sample.proofs.sample.Statement.{statement}
 use Rattle.sample.proofs.sample.Tie as tie
 
+-- both clauses from the first
+closely : {k v : ℕ} {r : Samples} → r ≡ samplesOf fractionBits k v
+    → (r ≡ samplesOf fractionBits k v) × (k < 2 ^ numberBits → v < 65536 → Close nineSixteenths fractionBits (inverse k) v (r .first) (r .second))
+closely e = (e, answer-close nineSixteenths fractionBits _ _ room _ e)
+
 returns : tie.Need-returns
 unfolding samplesOf
-returns c = answer-close _ _ _ (rw (le-leb (2 ^ numberBits) (c .before .args .k) (omega arith)) refl)
+returns c = closely (rw (le-leb (2 ^ numberBits) (c .before .args .k) (omega arith)) refl)
 
 returns-2 : tie.Need-returns-2
 unfolding samplesOf
 returns-2 c =
-    answer-close _ _ _
+    closely
     (rw (lt-leb (2 ^ numberBits) (c .before .before .args .k) (omega arith), lt-ltb 65535 (c .before .before .args .v) (omega arith)) refl)
 
 mul-t6 : tie.Need-mul-t6
@@ -57,11 +65,12 @@ returns-3 c =
     let k = tested .before .before .args .k in
     let v = tested .before .before .args .v in
     let a = apart k v (tested .if2 .left) in
-    answer-close _ _ _
+    let z = k * 65536 + v in
+    closely
     (rw (c .before .before .before .part .ensures, lt-leb (2 ^ numberBits) k (tested .before .if1 .left), le-ltb 65535 v (tested .if2 .left))
     (ap₂ (λ (x y : ℤ). record { number = 0; first = x; second = y })
-    (toZ-ofZ {w = w16} (size-fits w16 _ (omega (arith, first-small ((k * 65536 + v) / 65536) ((k * 65536 + v) % 65536)))) ∙ ap₂ firstOf (a .0) (a .1))
-    (toZ-ofZ {w = w16} (size-fits w16 _ (omega (arith, second-small ((k * 65536 + v) / 65536) ((k * 65536 + v) % 65536)))) ∙ ap₂ secondOf (a .0) (a .1))))
+    (toZ-ofZ {w = w16} (size-fits w16 _ (omega (arith, first-small fractionBits (z / 65536) (z % 65536)))) ∙ ap₂ (firstOf fractionBits) (a .0) (a .1))
+    (toZ-ofZ {w = w16} (size-fits w16 _ (omega (arith, second-small fractionBits (z / 65536) (z % 65536)))) ∙ ap₂ (secondOf fractionBits) (a .0) (a .1))))
 
 pub sample-spec : {M : Type 1} → statement M
 sample-spec =

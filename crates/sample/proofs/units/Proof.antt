@@ -1,34 +1,51 @@
--- `sample::units` meets its contract: a size is at most 16879.
-use mathlib.Core.Path.{refl}
+-- `sample::units` meets its contract.
+use mathlib.Core.Path.{_≡_}
+use mathlib.Core.Logic.{inl, inr}
 use Prim.Native.Nat.{ℕ, _+_, _*_, _/_, _≤_, _<_, _^_}
 use native.Mathlib.Nat.{mul-le-mul, le-of-lt}
 use native.Mathlib.Omega.{arith}
 use Rattle.radius.specs.Steps.{radiusLimit}
-use Rattle.sample.specs.Steps.{size}
-use Rattle.sample.proofs.RoundingLaws.{size-range}
+use Rattle.sample.specs.Private.{Scale}
+use Rattle.sample.proofs.RoundingLaws.{scaled-size}
 use borrow.Author.Needs.{needs}
 use Rattle.sample.proofs.units.Statement.{statement}
 use Rattle.sample.proofs.units.Tie as tie
 
-product : (c : tie.Start) → c .args .f * c .args .g ≤ radiusLimit * 2 ^ 30
-product c = mul-le-mul (le-of-lt (c .pre .0)) (c .pre .1)
+most : (s : ℕ) → Scale s → s ≤ 4
+most s (inl e) = omega arith
+most s (inr e) = omega arith
 
--- with at most half a unit added the quotient is a number of 32 bits
-fits : (c : tie.Start) (half : ℕ) → half ≤ 2 ^ 38 → (c .args .f * c .args .g + half) / 2 ^ 39 < 2 ^ 32
-fits c half h = omega (arith, product c)
+-- every product of F, the scale, G and a size
+record Products (F s G : ℕ) : Type 0 where
+  few : s ≤ 4
+  scaled : F * s ≤ radiusLimit * 4
+  product : F * G ≤ radiusLimit * 2 ^ 30
+  both : F * s * G ≤ radiusLimit * 4 * 2 ^ 30
+  size : (F * G + 2 ^ 38) / 2 ^ 39 * s ≤ 16880 * 4
+
+products : (c : tie.Start) → Products (c .args .f) (c .args .scale) (c .args .g)
+products c =
+    let (scale, below, member) = c .pre in
+    let few = most _ scale in
+    let product = mul-le-mul (le-of-lt below) member in
+    let scaled = mul-le-mul (le-of-lt below) few in
+    let size : (c .args .f * c .args .g + 2 ^ 38) / 2 ^ 39 ≤ 16880 = omega (arith, product) in
+    record { few = few; scaled = scaled; product = product; both = mul-le-mul scaled member; size = mul-le-mul size few }
 
 mul-result : tie.Need-mul-result
-mul-result c = omega (arith, product c)
+mul-result c = omega (arith, products c)
+
+mul-result-2 : tie.Need-mul-result-2
+mul-result-2 c = omega (arith, products c)
 
 add-result : tie.Need-add-result
-add-result c = omega (arith, product c)
+add-result c = omega (arith, products c)
 
 cast-result : tie.Need-cast-result
-cast-result c = record { fits = fits c _ (omega arith) }
+cast-result c = omega (arith, products c)
 
 returns : tie.Need-returns
-unfolding size
-returns c = (refl, size-range (c .args .f) (c .args .g) (c .pre .0) (c .pre .1))
+returns c = scaled-size (c .args .scale) (c .args .f) (c .args .g) (c .pre .0)
 
 pub units-spec : {M : Type 1} → statement M
-units-spec = tie.close (tie.spec mul-result add-result cast-result returns)
+units-spec = tie.close (tie.spec mul-result mul-result-2 add-result cast-result returns)

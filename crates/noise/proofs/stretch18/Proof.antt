@@ -1,0 +1,49 @@
+-- `stretch18` lends as many numbers as its slice has pairs.
+use mathlib.Core.Path.{_≡_, refl, ap, _∙_}
+use mathlib.Core.List.{List}
+use Prim.Native.Nat.{ℕ, _-_, _*_, _/_, _≤_}
+use native.Mathlib.Omega.{arith}
+use lib.IntN.{ℤ}
+use lib.ListN.{length, take, length-take}
+use borrow.Author.Needs.{needs}
+use Rattle.streams.specs.declared.Generator.{Generator}
+use Rattle.streams.specs.Streams.{pairsNumber, after}
+use Rattle.sample.specs.Steps.{fractionBits18}
+use Rattle.noise.specs.Noise.{samples}
+use Rattle.noise.proofs.StretchLaws.{lent-size, asked}
+use Rattle.noise.proofs.stretch18.Statement.{statement}
+use Rattle.noise.proofs.stretch18.Tie as tie
+
+sub-draw-samples18 : tie.Need-sub-draw-samples18
+sub-draw-samples18 c = search needs
+
+part-z-start : tie.Need-part-z-start
+part-z-start c = search needs
+
+part-z-end : tie.Need-part-z-end
+part-z-end c = search needs
+
+draw-samples18-requires : tie.Need-draw-samples18-requires
+draw-samples18-requires c κs =
+    let start = c .before .before in
+    let out = start .args .out .now in
+    let n = length out / 2 in
+    let small : n ≤ 32 = omega (arith, start .pre .2) in
+    let whole : length out ≡ 2 * n = omega (arith, start .pre .1) in
+    asked (start .args .g) n _ out refl small (start .pre .0) whole
+
+same-length : tie.Need-same-length
+same-length c = search needs
+
+returns : tie.Need-returns
+returns c =
+    let g = c .before .before .before .before .before .args .g in
+    let drawn = c .before .before .draw-samples18 .ensures in
+    let room : length (c .before .before .before .before .before .args .out .now) / 2 ≤ 32
+    = omega (arith, c .before .before .before .before .before .pre .2) in
+    (drawn .0 ∙ ap (λ (n : ℕ). after n g) (lent-size _ _ refl room), drawn .1 ∙ ap (λ (n : ℕ). samples fractionBits18 n g) (lent-size _ _ refl room))
+
+pub stretch18-spec : {M : Type 1} → statement M
+stretch18-spec =
+    tie.close
+    (tie.spec sub-draw-samples18 part-z-start part-z-end draw-samples18-requires same-length returns)

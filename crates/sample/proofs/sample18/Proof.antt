@@ -1,0 +1,88 @@
+-- `sample::sample18` meets its contract: the two refusals, then the samples of the one z = 65536 k + v.
+use mathlib.Core.Path.{_≡_, refl, ap₂, _∙_}
+use Prim.Native.Nat.{ℕ, _+_, _*_, _/_, _%_, _^_, _≤_, _<_}
+use native.Mathlib.Omega.{arith}
+use borrow.Author.Needs.{needs}
+use borrow.Author.Tests.{le-leb, lt-leb, lt-ltb, le-ltb}
+use lib.IntN.{ℤ}
+use mir.Syntax.{w32}
+use mir.Facts.{toZ-ofZ}
+use Rattle.exact.specs.Pair.{Close}
+use Rattle.radius.specs.Steps.{numberBits, inverse}
+use Rattle.angle.proofs.Signs.{size-fits}
+use Rattle.sample.specs.Steps.{fractionBits18}
+use Rattle.sample.specs.Sample.{firstOf, secondOf, samplesOf, samplesAt, threeQuarters, wide}
+use Rattle.sample.specs.declared.Samples18.{Samples18}
+use Rattle.sample.proofs.RoundingLaws.{first-small, second-small}
+use Rattle.sample.proofs.Closeness.{room18, answer-close18}
+use Rattle.sample.proofs.sample18.Statement.{statement}
+use Rattle.sample.proofs.sample18.Tie as tie
+
+-- both clauses from the first
+closely : {k v : ℕ} {r : Samples18} → r ≡ wide (samplesOf fractionBits18 k v)
+    → (r ≡ wide (samplesOf fractionBits18 k v)) × (k < 2 ^ numberBits → v < 65536 → Close threeQuarters fractionBits18 (inverse k) v (r .first) (r .second))
+closely e = (e, answer-close18 threeQuarters fractionBits18 _ _ room18 _ e)
+
+returns : tie.Need-returns
+unfolding samplesOf
+returns c = closely (rw (le-leb (2 ^ numberBits) (c .before .args .k) (omega arith)) refl)
+
+returns-2 : tie.Need-returns-2
+unfolding samplesOf
+returns-2 c =
+    closely
+    (rw (lt-leb (2 ^ numberBits) (c .before .before .args .k) (omega arith), lt-ltb 65535 (c .before .before .args .v) (omega arith)) refl)
+
+mul-t6 : tie.Need-mul-t6
+mul-t6 c = search needs
+
+add-t8 : tie.Need-add-t8
+add-t8 c = search needs
+
+slice-aggregate-part18 : tie.Need-slice-aggregate-part18
+slice-aggregate-part18 c = search needs
+
+slice-aggregate-part18-2 : tie.Need-slice-aggregate-part18-2
+slice-aggregate-part18-2 c = search needs
+
+part18-requires : tie.Need-part18-requires
+part18-requires c κs = search needs
+
+array-copy-out-t16 : tie.Need-array-copy-out-t16
+array-copy-out-t16 c = search needs
+
+array-copy-out-t19 : tie.Need-array-copy-out-t19
+array-copy-out-t19 c = search needs
+
+-- k and v from z
+apart : (k v : ℕ) → v ≤ 65535 → ((k * 65536 + v) / 65536 ≡ k) × ((k * 65536 + v) % 65536 ≡ v)
+apart k v h = (omega arith, omega arith)
+
+returns-3 : tie.Need-returns-3
+unfolding samplesOf samplesAt
+returns-3 c =
+    let tested = c .before .before .before .before .before .before in
+    let k = tested .before .before .args .k in
+    let v = tested .before .before .args .v in
+    let a = apart k v (tested .if2 .left) in
+    let z = k * 65536 + v in
+    closely
+    (rw (c .before .before .before .part18 .ensures, lt-leb (2 ^ numberBits) k (tested .before .if1 .left), le-ltb 65535 v (tested .if2 .left))
+    (ap₂ (λ (x y : ℤ). record { number = 0; first = x; second = y })
+    (toZ-ofZ {w = w32} (size-fits w32 _ (omega (arith, first-small fractionBits18 (z / 65536) (z % 65536)))) ∙ ap₂ (firstOf fractionBits18) (a .0) (a .1))
+    (toZ-ofZ {w = w32} (size-fits w32 _ (omega (arith, second-small fractionBits18 (z / 65536) (z % 65536)))) ∙ ap₂ (secondOf fractionBits18) (a .0) (a .1))))
+
+pub sample18-spec : {M : Type 1} → statement M
+sample18-spec =
+    tie.close
+    (tie.spec
+    returns
+    returns-2
+    mul-t6
+    add-t8
+    slice-aggregate-part18
+    slice-aggregate-part18-2
+    part18-requires
+    array-copy-out-t16
+    array-copy-out-t19
+    returns-3)
