@@ -14,7 +14,7 @@ test:
 	.ci/run
 
 lib:
-	rt staticlib jabulghi
+	tools/library
 
 bench:
 	bench/run

@@ -28,13 +28,16 @@ static const int RUNS = 1001;
 
 static const char ZIGGURAT[] = "GSL `gsl_ran_gaussian_ziggurat` over `gsl_rng_taus`"; // what the others are compared with
 
+static const std::string WIDE = "`jabulghi_block18` of " + std::to_string(LENGTH);
+
 static int16_t buffer[LENGTH];
+static int32_t wide[LENGTH];
 
 struct Unit {
     const char *name;
     double in_a_second;
 };
-static const Unit A_SAMPLE = {"ns a sample", 1e9}, A_PAIR = {"ns a pair", 1e9}, A_CALL = {"µs a call", 1e6};
+static const Unit A_SAMPLE = {"ns a sample", 1e9}, A_WIDE_SAMPLE = A_SAMPLE, A_PAIR = {"ns a pair", 1e9}, A_CALL = {"µs a call", 1e6};
 
 // One of those that take turns: what its time is of and how many of these a run has; then the seconds of one, least first.
 struct Contestant {
@@ -103,6 +106,11 @@ static void add_ours(Contestants &all) {
     for (size_t length : {LENGTH, (size_t)64, (size_t)16, (size_t)2}) {
         all.push_back({"`jabulghi_block` of " + std::to_string(length), A_SAMPLE, LENGTH, [length] { fill_by(length); }});
     }
+}
+
+// Samples of 18 bits, beside the block of as many samples of 16 bits.
+static void add_wide(Contestants &all) {
+    all.push_back({WIDE, A_WIDE_SAMPLE, LENGTH, [] { jabulghi_block18(&ours, wide, LENGTH); }});
 }
 
 static void add_plain(Contestants &all) {
@@ -250,6 +258,17 @@ static void check_skips() {
     if (skipped.count != UINT64_MAX || jabulghi_skip(&skipped, 1) != JABULGHI_COUNT_FULL) fail("the count of the most pairs");
 }
 
+// Samples of 18 bits are normal and end in the record that those of 16 bits end in.
+static void check_wide() {
+    jabulghi_record narrow_end = seeded(), wide_end = narrow_end;
+    jabulghi_block(&narrow_end, buffer, LENGTH);
+    jabulghi_block18(&wide_end, wide, LENGTH);
+    if (!same_record(narrow_end, wide_end)) fail("the record after a block of 18 bits");
+    for (size_t j = 0; j < LENGTH; j++) {
+        if (abs(wide[j] - 4 * buffer[j]) > 2) fail("samples of 18 bits");
+    }
+}
+
 // What is timed a sample leaves normal samples in the buffer: their mean square is about 1.
 static void check_spread(const Contestants &all) {
     for (const Contestant &each : all) {
@@ -321,6 +340,7 @@ static void print_quiet(double load, double share, const Contestant &loop) {
 static Contestants contestants() {
     Contestants all;
     add_ours(all);
+    add_wide(all);
     add_plain(all);
     add_others(all);
     add_pairs(all);
@@ -336,6 +356,7 @@ int main() {
     check_plain();
     check_others();
     check_skips();
+    check_wide();
     Contestants all = contestants();
     check_spread(all);
     all.push_back({"a fixed loop", A_CALL, 1, calibrate});
@@ -345,6 +366,9 @@ int main() {
     Contestant loop = all.back();
     all.pop_back();
     print_table(all);
+    const Contestant *eighteen = named(all, WIDE);
+    printf("\nA block of samples of 18 bits takes %.2f of the time of one of 16 bits by the least and %.2f by the median.\n",
+           eighteen->least() / all[0].least(), eighteen->median() / all[0].median());
     printf("\nSamples of others are rounded to i16, in units of 2^-11. All take turns; a time is the least or the median of %d short runs.\n"
            "To draw 2^64 - 1 pairs by blocks of %zu would take %.0f years.\n",
            RUNS, LENGTH, 2 * all[0].least() * UINT64_MAX / (365.25 * 86400));

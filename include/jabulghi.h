@@ -78,6 +78,14 @@ uint32_t jabulghi_take(jabulghi_record *record, int16_t *block, size_t length);
 
 /* Clears the note and moves nothing. Refused: 11, 12, 15. */
 uint32_t jabulghi_give_up(jabulghi_record *record);
+/* Samples of 18 bits, 5 integer bits and 13 fraction bits, for converters that take them: each call is the one of the same name without the 18, with
+ * samples in units of 2^-13 of a standard deviation. It returns the same number and leaves the same record; one jabulghi_ask serves jabulghi_take and
+ * jabulghi_take18. A sample is less than three quarters of 2^-13 from its member of the exact pair, and no size is above 67517. */
+uint32_t jabulghi_sample18(uint64_t k, uint32_t v, int32_t *samples);
+uint32_t jabulghi_pair18(jabulghi_record *record, int32_t *samples);
+uint32_t jabulghi_block18(jabulghi_record *record, int32_t *block, size_t length);
+uint32_t jabulghi_look18(const jabulghi_record *record, int32_t *block, size_t length);
+uint32_t jabulghi_take18(jabulghi_record *record, int32_t *block, size_t length);
 
 /* The listing of a job's text, its line and its length. Accepted, line is 0 and the first length bytes of listing are the listing;
  * the bytes beyond it keep their contents. Refused (5 to 12), length is 0, line is the bad line, or 0 for 5 and 10, and listing

@@ -20,6 +20,7 @@ mod sample;
 mod skips;
 mod stream;
 mod texts;
+mod wide;
 
 use cases::{same, Call, Called, History, Sample, Seed};
 use library::record_of;
@@ -46,6 +47,7 @@ fn main() {
     let plain: [Group; 6] = [seeds, roots::places, samples, histories, pairs, blocks];
     let skips: [Group; 6] = [skips::skips, skips::drawn, skips::two, skips::blocks, counts::runs, counts::noted];
     let groups = plain.into_iter().chain(skips).chain([listings::jobs as Group, program::program]);
+    let groups = groups.chain([wide::samples as Group, wide::runs]);
     for (j, group) in groups.enumerate() {
         let start = Instant::now();
         let said = group(&tables, &mut Random(seed ^ (j as u64) << 56));

@@ -85,26 +85,42 @@ impl Tables {
 
     /// The answer of the call from k and v: number, first sample, second sample.
     pub fn sample(&self, k: u64, v: u32) -> (u32, i16, i16) {
+        let (number, (first, second)) = self.answer(k, v, Tables::turned);
+        (number, first, second)
+    }
+
+    /// The same in 18 bits, 13 of them fraction bits (document 02, Job 8).
+    pub fn sample18(&self, k: u64, v: u32) -> (u32, i32, i32) {
+        let (number, (first, second)) = self.answer(k, v, Tables::turned18);
+        (number, first, second)
+    }
+
+    fn answer<T: Default>(&self, k: u64, v: u32, turned: fn(&Tables, i128, u32) -> (T, T)) -> (u32, (T, T)) {
         if k >= 1 << 48 {
-            return (2, 0, 0);
+            return (2, Default::default());
         }
         if v > 65535 {
-            return (3, 0, 0);
+            return (3, Default::default());
         }
-        let (first, second) = self.turned(root(self.under_root(&Cell::of(k))), v);
-        (0, first, second)
+        (0, turned(self, root(self.under_root(&Cell::of(k))), v))
     }
 
     /// The samples of F and a v at most 65535.
     pub fn turned(&self, f: i128, v: u32) -> (i16, i16) {
         let (first, second) = self.rotation(v);
-        (scaled(f, first), scaled(f, second))
+        (i16::try_from(scaled(f, first, 11)).unwrap(), i16::try_from(scaled(f, second, 11)).unwrap())
+    }
+
+    fn turned18(&self, f: i128, v: u32) -> (i32, i32) {
+        let (first, second) = self.rotation(v);
+        (i32::try_from(scaled(f, first, 13)).unwrap(), i32::try_from(scaled(f, second, 13)).unwrap())
     }
 }
 
-fn scaled(f: i128, g: i128) -> i16 {
-    let size = (f * g.abs() + (1 << 38)) >> 39;
-    i16::try_from(g.signum() * size).unwrap()
+/// A sample with so many fraction bits, as F has 20 and g 30.
+fn scaled(f: i128, g: i128, bits: u32) -> i128 {
+    let size = (f * g.abs() + (1 << (49 - bits))) >> (50 - bits);
+    g.signum() * size
 }
 
 /// The whole part of the square root, by bits from the top. Of 2Q it is F, the radius times 2^20.
