@@ -1,0 +1,5 @@
+pub mod Signed
+pub mod Fitness
+pub mod Runs
+pub mod Latest
+pub mod Theorems
