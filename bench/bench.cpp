@@ -37,7 +37,7 @@ struct Unit {
     const char *name;
     double in_a_second;
 };
-static const Unit A_SAMPLE = {"ns a sample", 1e9}, A_WIDE_SAMPLE = A_SAMPLE, A_PAIR = {"ns a pair", 1e9}, A_CALL = {"µs a call", 1e6};
+static const Unit A_SAMPLE = {"ns a sample", 1e9}, A_WIDE_SAMPLE = A_SAMPLE, A_PAIR = {"ns a pair", 1e9}, A_CALL = {"µs a call", 1e6}, A_PUSH = {"ns a push", 1e9};
 
 // One of those that take turns: what its time is of and how many of these a run has; then the seconds of one, least first.
 struct Contestant {
@@ -193,6 +193,25 @@ static void add_skips(Contestants &all) {
     all.push_back({"`jabulghi_block` of 1000 pairs", A_CALL, 1, [] { jabulghi_block(&ours, buffer, 2000); }});
 }
 
+// Pushes onto a full window; what is pushed are samples of ours.
+static void add_windows(Contestants &all) {
+    static jabulghi_window window;
+    static std::vector<int16_t> samples(LENGTH);
+    jabulghi_record record = seeded();
+    jabulghi_block(&record, samples.data(), LENGTH);
+    for (uint32_t n : {1000, 4096}) {
+        std::string of = " onto a window of " + std::to_string(n);
+        all.push_back({"`jabulghi_window_push_all` of 4096" + of, A_PUSH, LENGTH, [n] {
+            if (window.size != n) jabulghi_window_make(&window, n);
+            jabulghi_window_push_all(&window, samples.data(), LENGTH);
+        }});
+        all.push_back({"`jabulghi_window_push`" + of, A_PUSH, LENGTH, [n] {
+            if (window.size != n) jabulghi_window_make(&window, n);
+            for (int16_t sample : samples) jabulghi_window_push(&window, sample);
+        }});
+    }
+}
+
 // ---- what has to be equal first
 
 static void check_plain() {
@@ -266,6 +285,26 @@ static void check_wide() {
     if (!same_record(narrow_end, wide_end)) fail("the record after a block of 18 bits");
     for (size_t j = 0; j < LENGTH; j++) {
         if (abs(wide[j] - 4 * buffer[j]) > 2) fail("samples of 18 bits");
+    }
+}
+
+// Many at once and one by one leave the same window, with the sums of the last N.
+static void check_windows() {
+    static jabulghi_window at_once, one_by_one;
+    jabulghi_record record = seeded();
+    const uint32_t n = 1000;
+    jabulghi_window_make(&at_once, n);
+    jabulghi_window_make(&one_by_one, n);
+    jabulghi_block(&record, buffer, LENGTH);
+    if (jabulghi_window_push_all(&at_once, buffer, LENGTH) != JABULGHI_OK) fail("many pushes");
+    for (int16_t sample : buffer) jabulghi_window_push(&one_by_one, sample);
+    int64_t sum = 0, squares = 0;
+    for (size_t j = LENGTH - n; j < LENGTH; j++) {
+        sum += buffer[j];
+        squares += (int64_t)buffer[j] * buffer[j];
+    }
+    for (const jabulghi_window *each : {&at_once, &one_by_one}) {
+        if (each->held != n || each->sum != sum || each->squares != squares) fail("the sums of a window");
     }
 }
 
@@ -346,6 +385,7 @@ static Contestants contestants() {
     add_pairs(all);
     add_job(all);
     add_skips(all);
+    add_windows(all);
     return all;
 }
 
@@ -357,6 +397,7 @@ int main() {
     check_others();
     check_skips();
     check_wide();
+    check_windows();
     Contestants all = contestants();
     check_spread(all);
     all.push_back({"a fixed loop", A_CALL, 1, calibrate});

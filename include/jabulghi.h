@@ -1,4 +1,4 @@
-/* Gaussian noise for a simulated laser logger: the calls of document 01 from C. Link target/staticlib/libjabulghi.a.
+/* Gaussian noise for a simulated laser logger: the calls of documents 01 and 02 from C. Link target/staticlib/libjabulghi.a.
  *
  * No argument need be tested first. A pointer is aligned and not null, also where its length is 0, it points to as many elements as
  * are named, and memory that a call may write overlaps nothing else that it is given. Calls keep nothing and allocate nothing. */
@@ -30,7 +30,8 @@ enum {
     JABULGHI_COUNT_FULL = 13,       /* the count would pass 2^64 - 1 */
     JABULGHI_REQUEST_OPEN = 14,     /* a request is open: take it or give it up first */
     JABULGHI_NO_REQUEST = 15,       /* no request is open */
-    JABULGHI_WRONG_REQUEST = 16     /* more than 1,000,000 pairs, asked or noted, or a block not of two samples for each */
+    JABULGHI_WRONG_REQUEST = 16,    /* more than 1,000,000 pairs, asked or noted, or a block not of two samples for each */
+    JABULGHI_UNFIT_WINDOW = 17      /* a window's N outside 1 to 4096, more than N held, a place outside it, or a sum beyond 2^42 in size */
 };
 
 /* The most pairs that one request may ask for. */
@@ -91,6 +92,34 @@ uint32_t jabulghi_take18(jabulghi_record *record, int32_t *block, size_t length)
  * the bytes beyond it keep their contents. Refused (5 to 12), length is 0, line is the bad line, or 0 for 5 and 10, and listing
  * stays. A listing has at most 20,024 bytes. */
 uint32_t jabulghi_list(const uint8_t *text, size_t text_length, uint8_t *listing, size_t listing_length, uint32_t *line, size_t *length);
+
+/* A window that the caller keeps, for a drift display: the sum and the sum of squares of the latest N samples. size is N, from 1 to 4096, held how many
+ * samples are held, place the place that the next one takes. Once N are held, each new sample pushes out the oldest. After any run of samples from its
+ * making both sums are those of the last N, or of all that came where fewer came, and no push is refused. A window from elsewhere is taken as passed where
+ * it is fit. A call that is refused (17) leaves zeros in every member: N 0, none held, every place and both sums 0. */
+typedef struct { uint32_t size, held, place; int16_t places[4096]; int64_t sum, squares; } jabulghi_window;
+
+/* The exported functions take a window's members one by one, for any language; from C and C++ use the inline functions below. places: 4096 elements. */
+uint32_t jabulghi_window_make_members(uint32_t *size, uint32_t *held, uint32_t *place, int16_t *places, int64_t *sum, int64_t *squares, uint32_t n);
+uint32_t jabulghi_window_push_members(uint32_t *size, uint32_t *held, uint32_t *place, int16_t *places, int64_t *sum, int64_t *squares, int16_t sample);
+uint32_t jabulghi_window_push_all_members(uint32_t *size, uint32_t *held, uint32_t *place, int16_t *places, int64_t *sum, int64_t *squares,
+                                          const int16_t *samples, size_t length);
+
+/* Makes a window for the latest n samples, with none held. */
+static inline uint32_t jabulghi_window_make(jabulghi_window *window, uint32_t n) {
+    return jabulghi_window_make_members(&window->size, &window->held, &window->place, window->places, &window->sum, &window->squares, n);
+}
+
+/* One sample. */
+static inline uint32_t jabulghi_window_push(jabulghi_window *window, int16_t sample) {
+    return jabulghi_window_push_members(&window->size, &window->held, &window->place, window->places, &window->sum, &window->squares, sample);
+}
+
+/* Many samples, as if they were pushed one by one; the number is that of the last. With length 0 the window is tested and stays where it is fit. */
+static inline uint32_t jabulghi_window_push_all(jabulghi_window *window, const int16_t *samples, size_t length) {
+    return jabulghi_window_push_all_members(&window->size, &window->held, &window->place, window->places, &window->sum, &window->squares,
+                                            samples, length);
+}
 
 #ifdef __cplusplus
 }

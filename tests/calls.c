@@ -11,6 +11,13 @@ typedef char b_comes_after[offsetof(jabulghi_record, b) == 12 ? 1 : -1];
 typedef char count_comes_third[offsetof(jabulghi_record, count) == 24 ? 1 : -1];
 typedef char open_comes_fourth[offsetof(jabulghi_record, open) == 32 ? 1 : -1];
 typedef char asked_comes_last[offsetof(jabulghi_record, asked) == 36 ? 1 : -1];
+typedef char window_has_8224_bytes[sizeof(jabulghi_window) == 8224 ? 1 : -1];
+typedef char size_comes_first[offsetof(jabulghi_window, size) == 0 ? 1 : -1];
+typedef char held_comes_after[offsetof(jabulghi_window, held) == 4 ? 1 : -1];
+typedef char place_is_third[offsetof(jabulghi_window, place) == 8 ? 1 : -1];
+typedef char places_come_next[offsetof(jabulghi_window, places) == 12 ? 1 : -1];
+typedef char sum_is_aligned[offsetof(jabulghi_window, sum) == 8208 ? 1 : -1];
+typedef char squares_come_last[offsetof(jabulghi_window, squares) == 8216 ? 1 : -1];
 
 static void show_record(const jabulghi_record *r) {
     printf(" %" PRIu32 " %" PRIu32 " %" PRIu32 " %" PRIu32 " %" PRIu32 " %" PRIu32, r->a[0], r->a[1], r->a[2], r->b[0], r->b[1], r->b[2]);
@@ -142,6 +149,80 @@ static void list_shots(int shots) {
     printf("%d shots %" PRIu32 ": line %" PRIu32 ", length %zu\n", shots, number, line, written);
 }
 
+/* A window's numbers, its first four places and its last, and how many others are not 0. */
+static void show_window(const char *call, uint32_t number, const jabulghi_window *w) {
+    int others = 0;
+    for (int j = 4; j < 4095; j++) others += w->places[j] != 0;
+    printf("%s %" PRIu32 ": N %" PRIu32 ", held %" PRIu32 ", place %" PRIu32 ", sums %" PRId64 " %" PRId64, call, number, w->size, w->held, w->place,
+           w->sum, w->squares);
+    printf(", places %d %d %d %d .. %d, %d others\n", w->places[0], w->places[1], w->places[2], w->places[3], w->places[4095], others);
+}
+
+static void make(jabulghi_window *w, uint32_t n) {
+    uint32_t number = jabulghi_window_make(w, n);
+    show_window("make", number, w);
+}
+
+static void push(jabulghi_window *w, int16_t sample) {
+    uint32_t number = jabulghi_window_push(w, sample);
+    show_window("push", number, w);
+}
+
+static void push_all(jabulghi_window *w, const int16_t *samples, size_t length) {
+    uint32_t number = jabulghi_window_push_all(w, samples, length);
+    show_window("push all", number, w);
+}
+
+/* A window of 3 that is full and has this sum, or this many held, or this place. */
+static jabulghi_window full(uint32_t held, uint32_t place, int64_t sum) {
+    jabulghi_window w;
+    memset(&w, 0, sizeof w);
+    w.size = 3;
+    w.held = held;
+    w.place = place;
+    w.sum = sum;
+    w.squares = 21;
+    w.places[0] = 1;
+    w.places[1] = 2;
+    w.places[2] = 4;
+    w.places[4095] = 9;
+    return w;
+}
+
+static void windows(void) {
+    static jabulghi_window w, marked;
+    const int16_t samples[5] = {5, -6, 7, -32768, 32767};
+    const int64_t limit = (int64_t)1 << 42;
+    memset(&marked, 7, sizeof marked);
+    w = marked;
+    make(&w, 0);
+    w = marked;
+    make(&w, 4097);
+    w = marked;
+    make(&w, 4096);
+    push_all(&w, samples, 5);
+    make(&w, 3);
+    push(&w, 100);
+    push_all(&w, samples, 0);
+    push_all(&w, samples, 1);
+    push_all(&w, samples, 5);
+    push(&w, -1);
+    w = full(3, 1, 7);
+    push(&w, 8);
+    w = full(4, 1, 7);
+    push(&w, 8);
+    w = full(3, 3, 7);
+    push_all(&w, samples, 0);
+    w = full(3, 1, limit);
+    push(&w, 3);
+    push(&w, 3);
+    push(&w, 3);
+    w = full(3, 1, -limit - 1);
+    push(&w, 3);
+    w = full(3, 1, limit - 1);
+    push_all(&w, samples, 4);
+}
+
 #define SHOTS 500
 #define SEEDS "(seeds (a 2 8 16) (b 2 8 16))\n"
 #define EXAMPLE SEEDS "(sigma 4 10)\n(shot A1 A2 12345 4500)\n(shot A2 A3 9000 65530)\n"
@@ -198,4 +279,5 @@ int main(void) {
     memset(text, '\n', 60001);
     list(60000, JABULGHI_LISTING_ROOM);
     list(60001, JABULGHI_LISTING_ROOM);
+    windows();
 }

@@ -21,6 +21,7 @@ mod skips;
 mod stream;
 mod texts;
 mod wide;
+mod windows;
 
 use cases::{same, Call, Called, History, Sample, Seed};
 use library::record_of;
@@ -39,15 +40,15 @@ fn main() {
     }
     println!("the other implementation gives document 01's readings and example; inputs from seed {seed}");
     type Group = fn(&Tables, &mut Random) -> String;
-    let edges: [fn(&Tables) -> String; 6] =
-        [edges::cells, edges::records, edges::lengths, skips::given, counts::given, listings::given];
+    let edges: [fn(&Tables) -> String; 7] =
+        [edges::cells, edges::records, edges::lengths, skips::given, counts::given, listings::given, windows::given];
     for group in edges {
         println!("{}, all equal", group(&tables));
     }
     let plain: [Group; 6] = [seeds, roots::places, samples, histories, pairs, blocks];
     let skips: [Group; 6] = [skips::skips, skips::drawn, skips::two, skips::blocks, counts::runs, counts::noted];
     let groups = plain.into_iter().chain(skips).chain([listings::jobs as Group, program::program]);
-    let groups = groups.chain([wide::samples as Group, wide::runs]);
+    let groups = groups.chain([wide::samples as Group, wide::runs, windows::pushes, windows::runs]);
     for (j, group) in groups.enumerate() {
         let start = Instant::now();
         let said = group(&tables, &mut Random(seed ^ (j as u64) << 56));
