@@ -1,5 +1,6 @@
 -- The exact pair and the distance of a sample from it. Document 01, 'What "exact" means', and demand 3.
 use mathlib.Core.Path.{_≡_}
+use mathlib.Core.Logic.{_⊎_}
 use mathlib.Core.Bool.{Bool, true, false, not}
 use Prim.Native.Nat.{ℕ, zero, suc, _/_, _%_, _^_}
 use lib.IntN.{ℤ, pos, negsuc, negℤ}
@@ -60,6 +61,11 @@ unfoldable pub Within : Fraction → ℕ → ℤ → Fraction → Type 0
 Within limit f s x =
     (whole (above s) <ᶠ x *ᶠ whole (2 ^ f) +ᶠ limit +ᶠ whole (below s)) × (x *ᶠ whole (2 ^ f) +ᶠ whole (below s) <ᶠ whole (above s) +ᶠ limit)
 
+-- |s - x 2^f| > limit, "more than [limit] away" (document 02, Job 10): x 2^f + limit < s or s + limit < x 2^f
+unfoldable pub Beyond : Fraction → ℕ → ℤ → Fraction → Type 0
+Beyond limit f s x =
+    (x *ᶠ whole (2 ^ f) +ᶠ limit +ᶠ whole (below s) <ᶠ whole (above s)) ⊎ (whole (above s) +ᶠ limit <ᶠ x *ᶠ whole (2 ^ f) +ᶠ whole (below s))
+
 -- s with the sign turned where the enclosure is negative
 abbrev pub along : Bool → ℤ → ℤ
 along true s = negℤ s
@@ -68,6 +74,10 @@ along false s = s
 -- the sample s is less than `limit` units of 2 ^ -f from every point of the enclosure
 unfoldable pub CloseTo : Fraction → ℕ → ℤ → Enclosure → Type 0
 CloseTo limit f s e = (x : Fraction) → e .low ≤ᶠ x → x ≤ᶠ e .high → Within limit f (along (e .negative) s) x
+
+-- the sample s is more than `limit` units of 2 ^ -f from every point of the enclosure
+unfoldable pub FarFrom : Fraction → ℕ → ℤ → Enclosure → Type 0
+FarFrom limit f s e = (x : Fraction) → e .low ≤ᶠ x → x ≤ᶠ e .high → Beyond limit f (along (e .negative) s) x
 
 -- demand 3, for a first number 1 over z and a second number v: "the first sample is less than [limit] of a unit from every point of some
 -- enclosure of the first product, and the second likewise from the second"

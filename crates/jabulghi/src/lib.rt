@@ -8,6 +8,7 @@ ghost use Rattle.streams.specs.Streams.{seedOf, skipOf, askOf, giveUpOf};
 ghost use Rattle.radius.specs.Steps.{numberBits, inverse};
 ghost use Rattle.sample.specs.Steps.{fractionBits};
 ghost use Rattle.sample.specs.Sample.{samplesOf, nineSixteenths};
+ghost use Rattle.sample.specs.DataSheet.{thirtyThreeSixtyFourths};
 ghost use Rattle.exact.specs.Pair.{Close};
 ghost use Rattle.noise.specs.Noise.{pairOf, blockOf, blockHolds, lookOf, lookHolds, takeOf, takeHolds};
 ghost use Rattle.job.specs.Job.{jobOf, answerOf, bufferAfter};
@@ -95,6 +96,7 @@ pub extern "C" fn jabulghi_sample(k: u64, v: u32, samples: &mut [i16; 2]) -> u32
     ensures { λ r. ⌜ r ≡ samplesOf fractionBits k v .number ⌝ }
     ensures { λ _. ⌜ now (samples .exit) ≡ samplesOf fractionBits k v .first ∷ samplesOf fractionBits k v .second ∷ [] ⌝ }
     ensures close { λ _. ⌜ (k < 2 ^ numberBits → v < 65536 → Close nineSixteenths fractionBits (inverse k) v (samplesOf fractionBits k v .first) (samplesOf fractionBits k v .second)) ⌝ }
+    ensures closer { λ _. ⌜ (k < 2 ^ numberBits → v < 65536 → Close thirtyThreeSixtyFourths fractionBits (inverse k) v (samplesOf fractionBits k v .first) (samplesOf fractionBits k v .second)) ⌝ }
 {
     let s = sample::sample(k, v);
     *samples = [s.first, s.second];

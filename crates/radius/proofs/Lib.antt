@@ -2,5 +2,6 @@
 pub mod StepLaws
 mod Cells
 pub mod Ranges
+mod LastCell
 mod LogarithmMargin
 pub mod RadiusMargin

@@ -5,7 +5,7 @@ use native.Mathlib.Nat.{mul-pos, mul-lt-mul-of-pos-right, div-add-mod, mod-lt}
 use native.Mathlib.Omega.{arith}
 use lib.Pow.{pow-pos, pow-add}
 use Rattle.exact.specs.Fraction.{Fraction, whole, dyadic}
-use Rattle.exact.specs.Radius.{AtMostRadius, AtLeastRadius}
+use Rattle.exact.specs.Radius.{AtMostRadius, AtLeastRadius, RadiusEnclosure}
 use Rattle.tables.specs.Promise.{NearestLn}
 use Rattle.tables.specs.Tables.{logCoarse, logFine, lnTwo, entryOf}
 use Rattle.tables.proofs.Promise.{promise}
@@ -13,7 +13,8 @@ use Rattle.roots.specs.Root.{wholeRoot}
 use Rattle.roots.proofs.RootLaws.{whole-root}
 use Rattle.radius.specs.Steps.{numberBits, width, inverse, underRoot, radiusOf}
 use Rattle.radius.specs.Steps.{numerator, topBit, mantissa, coarseIndex, rest, fineIndex, remainder, correction, logarithm}
-use Rattle.radius.proofs.StepLaws.{forty, top-below, mantissa-split, coarse-range, fine-range, rest-split}
+use Rattle.radius.proofs.StepLaws.{power, forty, top-below, mantissa-split, coarse-range, fine-range, rest-split}
+use Rattle.radius.proofs.LastCell.{last-top, last-remainder}
 use Rattle.radius.proofs.LogarithmMargin.{Numbers, radius-at-most, radius-at-least}
 
 -- r 2^(65-b) over h (65536 + i), with both sides times 2^(b-25)
@@ -41,11 +42,6 @@ module _ (b m : ℕ) (wide : 25 ≤ b) (narrow : b ≤ 64) (above : 0 < m) (belo
       sym (pow-add 2 b (b - 1 - topBit m)) ∙ ap (λ (x : ℕ). 2 ^ x) e ∙ pow-add 2 (b - topBit m) (24 + (b - 25))
       ∙ ap (λ (x : ℕ). 2 ^ (b - topBit m) * x) (pow-add 2 24 (b - 25))
 
-  sixteen : 2 ^ (b - 9) ≡ 65536 * 2 ^ (b - 25)
-  sixteen =
-      let e : b - 9 ≡ 16 + (b - 25) = omega arith in
-      ap (λ (x : ℕ). 2 ^ x) e ∙ pow-add 2 16 (b - 25)
-
   some-product : 0 < coarseIndex b m * 2 ^ (b - 25)
   some-product = mul-pos (omega (arith, coarse-range b m wide narrow above below .0)) (pow-pos (b - 25))
 
@@ -63,7 +59,7 @@ module _ (b m : ℕ) (wide : 25 ≤ b) (narrow : b ≤ 64) (above : 0 < m) (belo
   -- M = h × 65536 × 2^(b-25) + i × h × 2^(b-25) + r
   mantissa-parts : mantissa b m ≡ coarseIndex b m * (65536 * 2 ^ (b - 25)) + (fineIndex b m * (coarseIndex b m * 2 ^ (b - 25)) + remainder b m)
   mantissa-parts =
-      mantissa-split b m wide narrow above below .0 ∙ ap (λ (x : ℕ). coarseIndex b m * x + rest b m) sixteen
+      mantissa-split b m wide narrow above below .0 ∙ ap (λ (x : ℕ). coarseIndex b m * x + rest b m) (power b wide 9 (omega arith))
       ∙ ap (λ (x : ℕ). coarseIndex b m * (65536 * 2 ^ (b - 25)) + x) (rest-split b m wide narrow above below .0)
 
 -- three differences, each 0 where it would be below 0
@@ -80,7 +76,7 @@ pub record Logs (A B : ℕ → ℕ) (K : ℕ) : Type 0 where
   pub fine : (i : ℕ) → i < 256 → NearestLn 40 (dyadic 16 (65536 + i)) (B i)
 
 -- F for a first number m over 2 ^ b, with tables A, B and K
-module _ (A B : ℕ → ℕ) (K b m : ℕ) (wide : 25 ≤ b) (narrow : b ≤ 60) (positive : 0 < m) (below : m < 2 ^ b) (logs : Logs A B K) where
+module _ (A B : ℕ → ℕ) (K b m : ℕ) (wide : 25 ≤ b) (narrow : b ≤ 49) (positive : 0 < m) (below : m < 2 ^ b) (logs : Logs A B K) where
   narrower : b ≤ 64
   narrower = omega arith
 
@@ -108,6 +104,7 @@ module _ (A B : ℕ → ℕ) (K b m : ℕ) (wide : 25 ≤ b) (narrow : b ≤ 60)
             whole-power (2 ^ b) (2 ^ (b - topBit m)) (2 ^ (b - 1 - topBit m)) (2 ^ (b - 25)) (coarseIndex b m) (fineIndex b m) (remainder b m) m (mantissa b m)
             (mantissa-parts b m wide narrower positive below) refl (powers b m wide narrower positive below);
         rest = omega (arith, rest-split b m wide narrower positive below .1);
+        last = λ near. (last-top b m wide narrower positive below near, last-remainder b m wide narrower positive below near);
         correction-low = s .0;
         correction-high = s .1;
         difference-high = difference-above ((b - topBit m) * K) (A (coarseIndex b m)) (B (fineIndex b m)) (correction b m);
@@ -124,18 +121,18 @@ module _ (A B : ℕ → ℕ) (K b m : ℕ) (wide : 25 ≤ b) (narrow : b ≤ 60)
   abbrev pub over-first : Fraction
   over-first = record { top = 2 ^ b; bottom = m; positive = positive }
 
-  -- F at 2^20 is at most 8 above and at most 20 below the exact radius
-  pub enclosure-low : AtMostRadius over-first (dyadic 20 (wholeRoot (2 * logarithm A B K b m) - 8))
+  -- F at 2^20 is at most 7 from the exact radius
+  pub enclosure-low : AtMostRadius over-first (dyadic 20 (wholeRoot (2 * logarithm A B K b m) - 7))
   unfolding logarithm numbers
-  enclosure-low = radius-at-most numbers narrow (omega arith) _ (whole-root _ .0)
+  enclosure-low = radius-at-most numbers (omega arith) (omega arith) _ (whole-root _ .0)
 
-  pub enclosure-high : AtLeastRadius over-first (dyadic 20 (wholeRoot (2 * logarithm A B K b m) + 20))
+  pub enclosure-high : AtLeastRadius over-first (dyadic 20 (wholeRoot (2 * logarithm A B K b m) + 7))
   unfolding logarithm numbers
-  enclosure-high = radius-at-least numbers (omega arith) _ (whole-root _ .1)
+  enclosure-high = radius-at-least numbers narrow (omega arith) _ (whole-root _ .1)
 
 -- at the tables, from nothing of them but their promise: (2k + 1) over 2^49
 pub radius-margin : (k : ℕ) → k < 2 ^ numberBits →
-    AtMostRadius (inverse k) (dyadic 20 (radiusOf k - 8)) × AtLeastRadius (inverse k) (dyadic 20 (radiusOf k + 20))
+    AtMostRadius (inverse k) (dyadic 20 (radiusOf k - 7)) × AtLeastRadius (inverse k) (dyadic 20 (radiusOf k + 7))
 unfolding radiusOf underRoot
 radius-margin k h = (
   enclosure-low (entryOf logCoarse 256) (entryOf logFine 0) lnTwo width (numerator k) (omega arith) (omega arith) (omega arith) (omega arith) logs,
@@ -144,3 +141,9 @@ radius-margin k h = (
   where
     logs : Logs (entryOf logCoarse 256) (entryOf logFine 0) lnTwo
     logs = record { two = promise .ln-two; coarse = promise .log-coarse; fine = promise .log-fine }
+
+-- and so an enclosure of the exact radius
+abbrev pub radiusWithin : (k : ℕ) → k < 2 ^ numberBits → RadiusEnclosure (inverse k)
+radiusWithin k h =
+    let (low, high) = radius-margin k h in
+    record { low = dyadic 20 (radiusOf k - 7); high = dyadic 20 (radiusOf k + 7); atMost = low; atLeast = high }

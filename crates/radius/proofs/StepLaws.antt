@@ -42,7 +42,7 @@ top-bit-odd k h =
 
 -- the powers of 2 in the steps, as multiples of 2^(b-25)
 module _ (b : ℕ) (wide : 25 ≤ b) where
-  power : (j : ℕ) → j ≤ 25 → 2 ^ (b - j) ≡ 2 ^ (25 - j) * 2 ^ (b - 25)
+  pub power : (j : ℕ) → j ≤ 25 → 2 ^ (b - j) ≡ 2 ^ (25 - j) * 2 ^ (b - 25)
   power j h =
       let e : b - j ≡ 25 - j + (b - 25) = omega arith in
       rw e (pow-add 2 (25 - j) (b - 25))

@@ -5,28 +5,31 @@ use Prim.Native.Nat.{ℕ, _+_, _-_, _*_, _^_, _≤_, _<_}
 use native.Mathlib.Nat.{le-refl, le-of-suc-le-suc}
 use native.Mathlib.Omega.{arith}
 use borrow.Author.Tests.{lt-leb, le-ltb}
-use Rattle.exact.specs.Fraction.{Fraction, dyadic}
-use Rattle.exact.specs.Radius.{RadiusEnclosure}
+use Rattle.exact.specs.Fraction.{Fraction}
 use Rattle.exact.specs.Pair.{Close, members}
 use Rattle.radius.specs.Steps.{numberBits, inverse, radiusOf}
 use Rattle.radius.proofs.Ranges.{radius-of-range}
-use Rattle.radius.proofs.RadiusMargin.{radius-margin}
+use Rattle.radius.proofs.RadiusMargin.{radiusWithin}
 use Rattle.angle.specs.Steps.{signedOf}
 use Rattle.angle.proofs.Members.{members-near}
 use Rattle.sample.specs.Steps.{fractionBits, fractionBits18}
 use Rattle.sample.specs.Sample.{nineSixteenths, threeQuarters, wide, firstOf, secondOf, samplesOf}
+use Rattle.sample.specs.DataSheet.{thirtyThreeSixtyFourths}
 use Rattle.sample.specs.declared.Samples.{Samples}
 use Rattle.sample.specs.declared.Samples18.{Samples18}
-use Rattle.sample.proofs.RoundingMargin.{member-close}
+use Rattle.sample.proofs.RoundingMargin.{slack, member-close}
 
 -- "The error argument is made for a number of fraction bits and used at 11 and 13" (document 02, Job 8): with H half a unit of the
--- product, the limit is more than (H + 21 × 2^30) over 2 H.
+-- product, the limit is more than (H + slack) over 2 H.
 abbrev pub Room : Fraction → ℕ → Type 0
-Room limit f = (f ≤ 49) × (limit .bottom * (2 ^ (49 - f) + 21 * 2 ^ 30) < 2 * 2 ^ (49 - f) * limit .top)
+Room limit f = (f ≤ 49) × (limit .bottom * (2 ^ (49 - f) + slack) < 2 * 2 ^ (49 - f) * limit .top)
 
--- 1/2 + 21/512 < 9/16, and 1/2 + 21/128 < 3/4
+-- 1/2 + 15/1024 < 33/64 < 9/16, and 1/2 + 15/256 < 3/4
 pub room : Room nineSixteenths fractionBits
 room = (omega arith, omega arith)
+
+pub closer-room : Room thirtyThreeSixtyFourths fractionBits
+closer-room = (omega arith, omega arith)
 
 pub room18 : Room threeQuarters fractionBits18
 room18 = (omega arith, omega arith)
@@ -36,10 +39,9 @@ pub samples-close : (limit : Fraction) (f k v : ℕ) → Room limit f → k < 2 
 unfolding firstOf secondOf
 samples-close limit f k v (few, enough) hk hv =
     let F = radiusOf k in
-    let (low, high) = radius-margin k hk in
     let (first, second) = members-near v in
     let small : F < 2 ^ 24 = omega (arith, radius-of-range k) in
-    let g : RadiusEnclosure (inverse k) = record { low = dyadic 20 (F - 8); high = dyadic 20 (F + 20); atMost = low; atLeast = high } in
+    let g = radiusWithin k hk in
     let close = member-close f F few g limit in
     record {
       radius = g;

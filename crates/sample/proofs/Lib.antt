@@ -5,5 +5,6 @@ pub mod FillLaws
 mod FillLoop
 mod PassLaws
 pub mod Closeness
+pub mod DataSheet
 pub mod Theorems
 pub mod Sizes

@@ -11,6 +11,7 @@ ghost use Rattle.angle.specs.Steps.{signedOf};
 ghost use Rattle.sample.specs.Steps.{fractionBits, fractionBits18, size, rounded};
 ghost use Rattle.sample.specs.Private.{Scale, bitsAt, underRootAt, partLength};
 ghost use Rattle.sample.specs.Sample.{samplesOf, wide, samplesAt, nineSixteenths, threeQuarters, filled};
+ghost use Rattle.sample.specs.DataSheet.{thirtyThreeSixtyFourths};
 
 // The fraction bits of a sample of 16 bits, its unit in the product of F and a sine or cosine, and half of it.
 const FRACTION_BITS: u32 = 11;
@@ -171,10 +172,12 @@ fn part18(z: &[u64], out: &mut [i32])
 }
 
 // The two samples of k and v: document 01's steps with the half step (demand 2), and so each less than nine sixteenths of a unit of
-// 2^-11 from its member of the exact pair of (2k + 1) over 2^49, k from 0, and v over 65536 (demand 3).
+// 2^-11 from its member of the exact pair of (2k + 1) over 2^49, k from 0, and v over 65536 (demand 3), and less than 33/64 (document
+// 02, Job 10).
 pub fn sample(k: u64, v: u32) -> Samples
     ensures steps { λ r. ⌜ r ≡ samplesOf fractionBits k v ⌝ }
     ensures close { λ r. ⌜ (k < 2 ^ numberBits → v < 65536 → Close nineSixteenths fractionBits (inverse k) v (r .first) (r .second)) ⌝ }
+    ensures closer { λ r. ⌜ (k < 2 ^ numberBits → v < 65536 → Close thirtyThreeSixtyFourths fractionBits (inverse k) v (r .first) (r .second)) ⌝ }
 {
     if radius::LIMIT <= k {
         return Samples {

@@ -7,21 +7,27 @@ use borrow.Author.Tests.{le-leb, lt-leb, lt-ltb, le-ltb}
 use lib.IntN.{ℤ}
 use mir.Syntax.{w16}
 use mir.Facts.{toZ-ofZ}
+use Rattle.exact.specs.Fraction.{Fraction}
 use Rattle.exact.specs.Pair.{Close}
 use Rattle.radius.specs.Steps.{numberBits, inverse}
 use Rattle.angle.proofs.Signs.{size-fits}
 use Rattle.sample.specs.Steps.{fractionBits}
 use Rattle.sample.specs.Sample.{firstOf, secondOf, samplesOf, samplesAt, nineSixteenths}
+use Rattle.sample.specs.DataSheet.{thirtyThreeSixtyFourths}
 use Rattle.sample.specs.declared.Samples.{Samples}
 use Rattle.sample.proofs.RoundingLaws.{first-small, second-small}
-use Rattle.sample.proofs.Closeness.{room, answer-close}
+use Rattle.sample.proofs.Closeness.{room, closer-room, answer-close}
 use Rattle.sample.proofs.sample.Statement.{statement}
 use Rattle.sample.proofs.sample.Tie as tie
 
--- both clauses from the first
+abbrev Near : Fraction → ℕ → ℕ → Samples → Type 0
+Near limit k v r = k < 2 ^ numberBits → v < 65536 → Close limit fractionBits (inverse k) v (r .first) (r .second)
+
+-- all clauses from the first
 closely : {k v : ℕ} {r : Samples} → r ≡ samplesOf fractionBits k v
-    → (r ≡ samplesOf fractionBits k v) × (k < 2 ^ numberBits → v < 65536 → Close nineSixteenths fractionBits (inverse k) v (r .first) (r .second))
-closely e = (e, answer-close nineSixteenths fractionBits _ _ room _ e)
+    → (r ≡ samplesOf fractionBits k v) × (Near nineSixteenths k v r × Near thirtyThreeSixtyFourths k v r)
+closely e =
+    (e, (answer-close nineSixteenths fractionBits _ _ room _ e, answer-close thirtyThreeSixtyFourths fractionBits _ _ closer-room _ e))
 
 returns : tie.Need-returns
 unfolding samplesOf
