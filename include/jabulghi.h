@@ -50,7 +50,7 @@ typedef struct { uint32_t a[3], b[3]; uint64_t count; uint32_t open, asked; } ja
 uint32_t jabulghi_seed(uint32_t a0, uint32_t a1, uint32_t a2, uint32_t b0, uint32_t b1, uint32_t b2, jabulghi_record *record);
 
 /* The two samples of k, from 0 to 2^48 - 1, and v, from 0 to 65535, in units of 2^-11 of a standard deviation. Each is less than
- * nine sixteenths of a unit from its member of the exact Box-Muller pair of (2k + 1) over 2^49, the middle of k's cell, and v over
+ * 33/64 of a unit from its member of the exact Box-Muller pair of (2k + 1) over 2^49, the middle of k's cell, and v over
  * 65536. Refused (2, 3), the samples are 0 0. samples: 2 elements. */
 uint32_t jabulghi_sample(uint64_t k, uint32_t v, int16_t *samples);
 
