@@ -1,0 +1,79 @@
+-- A label has one name and no other.
+use mathlib.Core.Path.{_≡_, refl, sym, ap₂, _∙_}
+use mathlib.Core.Bool.{Bool, true, false, not, _&&_, false≢true}
+use mathlib.Core.List.{List, [], _∷_, _++_}
+use Prim.Native.Nat.{ℕ, _+_, _≤_}
+use native.Mathlib.Omega.{arith}
+use native.Mathlib.Nat.{min-eq-left, zero-add}
+use lib.Dec.{leb, ltb, eqb}
+use lib.ListN.{length, take, drop, replicate}
+use lib.Seq.{sets, sets-eq, take-append-seam}
+use borrow.Author.Tests.{eq-eqb, eqb-true, le-leb, leb-true}
+use Rattle.text.specs.Limits.{nameLength}
+use Rattle.text.specs.Fields.{name, letterOrDigit, all}
+use Rattle.text.specs.Buffer.{written}
+use Rattle.marks.specs.declared.Label.{Label}
+use Rattle.marks.specs.Marks.{same, hasName, labelOf}
+
+-- both of two tests
+pub and-true : (s t : Bool) → s && t ≡ true → (s ≡ true) × (t ≡ true)
+and-true true t e = (refl, e)
+and-true false t e = absurd (false≢true e)
+
+-- a test that is not passed
+pub not-passed : (t : Bool) → (t ≡ true → ⊥) → t ≡ false
+not-passed true h = absurd (h refl)
+not-passed false h = refl
+
+pub same-self : (l : List ℕ) → same l l ≡ true
+unfolding same
+same-self [] = refl
+same-self (x ∷ l) = rw (eq-eqb x x refl) (same-self l)
+
+pub same-equal : (a b : List ℕ) → same a b ≡ true → a ≡ b
+unfolding same
+same-equal [] [] e = refl
+same-equal [] (y ∷ b) e = absurd (false≢true e)
+same-equal (x ∷ a) [] e = absurd (false≢true e)
+same-equal (x ∷ a) (y ∷ b) e =
+    let (first, rest) = and-true (eqb x y) (same a b) e in
+    ap₂ (λ (h : ℕ) (t : List ℕ). h ∷ t) (eqb-true x y first) (same-equal a b rest)
+
+-- what a place with a name says of itself
+pub record Has (bytes : List ℕ) (label : Label) : Type 0 where
+  pub used : label .used ≡ true
+  pub short : label .length ≤ nameLength
+  pub is : take (label .length) (label .bytes) ≡ bytes
+
+pub has : (bytes : List ℕ) (label : Label) → hasName bytes label ≡ true → Has bytes label
+unfolding hasName
+has bytes label e =
+    let (used, rest) = and-true (label .used) _ e in
+    let (short, is) = and-true (leb (label .length) nameLength) _ rest in
+    record { used = used; short = leb-true _ _ short; is = same-equal _ _ is }
+
+-- "Names are 1 to 12 letters or digits"
+pub name-short : (bytes : List ℕ) → name bytes ≡ true → length bytes ≤ nameLength
+unfolding name
+name-short bytes e =
+    let (sized, letters) = and-true (ltb 0 (length bytes) && leb (length bytes) nameLength) (all letterOrDigit bytes) e in
+    leb-true _ _ (and-true (ltb 0 (length bytes)) (leb (length bytes) nameLength) sized .1)
+
+-- The label of a name has that name,
+pub own-name : (bytes : List ℕ) → length bytes ≤ nameLength → hasName bytes (labelOf bytes) ≡ true
+unfolding hasName labelOf written
+own-name bytes short =
+    let all-of-it : sets (replicate nameLength 0) 0 bytes ≡ bytes ++ drop (0 + length bytes) (replicate nameLength 0)
+    = sets-eq bytes (replicate nameLength 0) 0 (omega (arith, short, zero-add (length bytes))) in
+    rw (labelOf, written, min-eq-left short, le-leb (length bytes) nameLength short, all-of-it, take-append-seam bytes _)
+    (same-self bytes)
+
+-- and a place that has a name has no other;
+pub one-name : (x y : List ℕ) (label : Label) → (x ≡ y → ⊥) → hasName y label ≡ true → hasName x label ≡ false
+one-name x y label other e =
+    not-passed (hasName x label) (λ h. other (sym (has x label h .is) ∙ has y label e .is))
+
+-- a free place has none.
+pub free-name : (x : List ℕ) (label : Label) → label .used ≡ false → hasName x label ≡ false
+unfolding hasName
+free-name x label e = rw (hasName, e)

@@ -1,0 +1,137 @@
+-- Marks to come back to (document 02, Job 11): "Keep up to 16 marks, each a name of the station kind with a record."
+use Prim.Native.Nat.{ℕ, suc, min}
+use mathlib.Core.Path.{_≡_}
+use mathlib.Core.Bool.{Bool, true, false, cond, not, _&&_}
+use mathlib.Core.List.{List, [], _∷_}
+use lib.Dec.{leb, ltb, eqb}
+use lib.ListN.{length, getD, take, set, replicate}
+use Rattle.streams.specs.declared.Generator.{Generator}
+use Rattle.streams.specs.declared.RecordAnswer.{RecordAnswer}
+use Rattle.streams.specs.Streams.{recordNumber, openNumber, firstCause, ifAccepted, seedOf}
+use Rattle.text.specs.Limits.{nameLength}
+use Rattle.text.specs.Fields.{name}
+use Rattle.text.specs.Buffer.{written}
+use Rattle.marks.specs.declared.Label.{Label}
+use Rattle.marks.specs.declared.Marks.{Marks}
+use Rattle.marks.specs.declared.SetAnswer.{SetAnswer}
+use Rattle.marks.specs.declared.Placed.{Placed}
+
+-- "A set has 16 places"
+abbrev pub places : ℕ
+places = 16
+
+-- ---- Labels
+
+-- two names are the same bytes
+unfoldable pub same : List ℕ → List ℕ → Bool
+same [] [] = true
+same [] (y ∷ b) = false
+same (x ∷ a) [] = false
+same (x ∷ a) (y ∷ b) = eqb x y && same a b
+
+-- The place is used, and its name is these bytes. A length above 12 is no name's.
+unfoldable pub hasName : List ℕ → Label → Bool
+hasName bytes label =
+    label .used && (leb (label .length) nameLength && same (take (label .length) (label .bytes)) bytes)
+
+abbrev pub isFree : Label → Bool
+isFree label = not (label .used)
+
+-- the label of a name: as many of its bytes as fit, and 0 after them
+unfoldable pub labelOf : List ℕ → Label
+labelOf bytes =
+    record { used = true; length = min (length bytes) nameLength; bytes = written (replicate nameLength 0) 0 bytes }
+
+-- ---- Free places
+
+abbrev pub noLabel : Label
+noLabel = record { used = false; length = 0; bytes = replicate nameLength 0 }
+
+-- the record that a refused seeding returns
+unfoldable pub noRecord : Generator
+noRecord = seedOf 0 0 0 0 0 0 .next
+
+-- the set of free places
+abbrev pub empty : Marks
+empty = record { labels = replicate places noLabel; records = replicate places noRecord }
+
+-- ---- Places
+
+-- the first place whose label passes the test, or the number of places
+unfoldable pub firstPlace : (Label → Bool) → List Label → ℕ
+firstPlace test [] = 0
+firstPlace test (label ∷ labels) = cond (test label) 0 (suc (firstPlace test labels))
+
+-- "Where a set passed in holds a name twice, the first is meant"
+abbrev pub placeOf : List Label → List ℕ → ℕ
+placeOf labels bytes = firstPlace (hasName bytes) labels
+
+-- "Saving under a held name replaces it", "a new name takes the first free one"
+unfoldable pub savePlace : List Label → List ℕ → ℕ
+savePlace labels bytes = cond (ltb (placeOf labels bytes) places) (placeOf labels bytes) (firstPlace isFree labels)
+
+-- ---- Numbers
+
+-- "Saving and returning wait until no request is open; 11 and 12 apply to the record passed in .. before 14"
+unfoldable pub idleNumber : Generator → ℕ
+idleNumber g = firstCause (recordNumber g ∷ openNumber g ∷ [])
+
+-- "18: name malformed"
+unfoldable pub nameNumber : List ℕ → ℕ
+nameNumber bytes = cond (name bytes) 0 18
+
+-- that number where the set has no such place
+unfoldable pub placeNumber : ℕ → ℕ → ℕ
+placeNumber place number = cond (ltb place places) 0 number
+
+-- "20: 16 held and the name is new"
+unfoldable pub placeToSave : List Label → Generator → List ℕ → Placed
+placeToSave labels g bytes =
+    record {
+      number = firstCause (idleNumber g ∷ nameNumber bytes ∷ placeNumber (savePlace labels bytes) 20 ∷ []);
+      place = savePlace labels bytes;
+    }
+
+-- "19: name not held, on return or drop"
+unfoldable pub placeToReturn : List Label → Generator → List ℕ → Placed
+placeToReturn labels g bytes =
+    record {
+      number = firstCause (idleNumber g ∷ nameNumber bytes ∷ placeNumber (placeOf labels bytes) 19 ∷ []);
+      place = placeOf labels bytes;
+    }
+
+unfoldable pub placeToDrop : List Label → List ℕ → Placed
+placeToDrop labels bytes =
+    record {
+      number = firstCause (nameNumber bytes ∷ placeNumber (placeOf labels bytes) 19 ∷ []);
+      place = placeOf labels bytes;
+    }
+
+-- ---- The calls: "refused, all comes back as passed"
+
+abbrev pub stored : Marks → ℕ → Label → Generator → Marks
+stored marks place label g = record { labels = set (marks .labels) place label; records = set (marks .records) place g }
+
+unfoldable pub savedOf : Marks → Generator → List ℕ → SetAnswer
+savedOf marks g bytes =
+    let placed : Placed = placeToSave (marks .labels) g bytes in
+    record { number = placed .number; next = ifAccepted (placed .number) (stored marks (placed .place) (labelOf bytes) g) marks }
+
+-- "Returning gives the saved record exactly"
+unfoldable pub returnedOf : Marks → Generator → List ℕ → RecordAnswer
+returnedOf marks g bytes =
+    let placed : Placed = placeToReturn (marks .labels) g bytes in
+    record { number = placed .number; next = ifAccepted (placed .number) (getD (marks .records) (placed .place) noRecord) g }
+
+-- "dropping a mark makes its place usable again"
+unfoldable pub droppedOf : Marks → List ℕ → SetAnswer
+droppedOf marks bytes =
+    let placed : Placed = placeToDrop (marks .labels) bytes in
+    record { number = placed .number; next = ifAccepted (placed .number) (stored marks (placed .place) noLabel noRecord) marks }
+
+-- ---- For theorems
+
+-- What a program's types say of a set.
+pub record Sized (marks : Marks) : Type 0 where
+  pub labels-size : length (marks .labels) ≡ places
+  pub records-size : length (marks .records) ≡ places

@@ -1,0 +1,70 @@
+-- Runs of calls on a record and a set of marks, each passed what the one before returned.
+use mathlib.Core.Path.{_≡_}
+use mathlib.Core.List.{List, [], _∷_}
+use Prim.Native.Nat.{ℕ, _+_}
+use lib.ListN.{getD}
+use Rattle.streams.specs.declared.Generator.{Generator}
+use Rattle.streams.specs.Streams.{Call, ifAccepted}
+use Rattle.noise.specs.Runs.{returned, handed}
+use Rattle.marks.specs.declared.Marks.{Marks}
+use Rattle.marks.specs.Marks.{noRecord, placeOf, savedOf, returnedOf, droppedOf}
+
+-- What a maker keeps.
+pub record State : Type 0 where
+  pub generator : Generator
+  pub marks : Marks
+
+-- A call on the record alone, or a save, a return or a drop under a name.
+pub data MarkCall : Type 0 where
+  on-record : Call → MarkCall
+  a-save a-return a-drop : List ℕ → MarkCall
+
+-- Its number, and what it leaves: a return leaves the set, a save and a drop leave the record.
+unfoldable pub numberIn : MarkCall → State → ℕ
+numberIn (on-record c) s = returned c (s .generator) .number
+numberIn (a-save x) s = savedOf (s .marks) (s .generator) x .number
+numberIn (a-return x) s = returnedOf (s .marks) (s .generator) x .number
+numberIn (a-drop x) s = droppedOf (s .marks) x .number
+
+unfoldable pub nextIn : MarkCall → State → State
+nextIn (on-record c) s = record { generator = returned c (s .generator) .next; marks = s .marks }
+nextIn (a-save x) s = record { generator = s .generator; marks = savedOf (s .marks) (s .generator) x .next }
+nextIn (a-return x) s = record { generator = returnedOf (s .marks) (s .generator) x .next; marks = s .marks }
+nextIn (a-drop x) s = record { generator = s .generator; marks = droppedOf (s .marks) x .next }
+
+-- What a run of calls leaves.
+unfoldable pub run : List MarkCall → State → State
+run [] s = s
+run (c ∷ l) s = run l (nextIn c s)
+
+-- ---- The count ("The count of Job 4 is then the saved count plus what was drawn and skipped since the return.")
+
+-- the count of the record that is saved under a name
+abbrev pub savedCount : Marks → List ℕ → ℕ
+savedCount marks x = getD (marks .records) (placeOf (marks .labels) x) noRecord .count
+
+-- where the count began, and the pairs handed out or skipped since
+pub record Tally : Type 0 where
+  pub base : ℕ
+  pub since : ℕ
+
+-- A call hands out or skips pairs; an accepted return begins anew at the saved count; a save and a drop are no part of it.
+unfoldable pub tallied : MarkCall → State → Tally → Tally
+tallied (on-record c) s t = record { base = t .base; since = t .since + handed c (s .generator) }
+tallied (a-save x) s t = t
+tallied (a-return x) s t = ifAccepted (numberIn (a-return x) s) (record { base = savedCount (s .marks) x; since = 0 }) t
+tallied (a-drop x) s t = t
+
+unfoldable pub tally : List MarkCall → State → Tally → Tally
+tally [] s t = t
+tally (c ∷ l) s t = tally l (nextIn c s) (tallied c s t)
+
+-- ---- Calls that do not touch a mark
+
+-- no save and no drop under that name
+abbrev pub Untouched : List ℕ → List MarkCall → Type 0
+Untouched x [] = Unit {0}
+Untouched x (on-record c ∷ l) = Untouched x l
+Untouched x (a-save y ∷ l) = (x ≡ y → ⊥) × Untouched x l
+Untouched x (a-return y ∷ l) = Untouched x l
+Untouched x (a-drop y ∷ l) = (x ≡ y → ⊥) × Untouched x l
