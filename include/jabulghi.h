@@ -31,7 +31,10 @@ enum {
     JABULGHI_REQUEST_OPEN = 14,     /* a request is open: take it or give it up first */
     JABULGHI_NO_REQUEST = 15,       /* no request is open */
     JABULGHI_WRONG_REQUEST = 16,    /* more than 1,000,000 pairs, asked or noted, or a block not of two samples for each */
-    JABULGHI_UNFIT_WINDOW = 17      /* a window's N outside 1 to 4096, more than N held, a place outside it, or a sum beyond 2^42 in size */
+    JABULGHI_UNFIT_WINDOW = 17,     /* a window's N outside 1 to 4096, more than N held, a place outside it, or a sum beyond 2^42 in size */
+    JABULGHI_BAD_NAME = 18,         /* a mark's name is not 1 to 12 letters or digits */
+    JABULGHI_NAME_NOT_HELD = 19,    /* no mark has that name */
+    JABULGHI_MARKS_FULL = 20        /* all 16 places are used, and the name is new */
 };
 
 /* The most pairs that one request may ask for. */
@@ -119,6 +122,36 @@ static inline uint32_t jabulghi_window_push(jabulghi_window *window, int16_t sam
 static inline uint32_t jabulghi_window_push_all(jabulghi_window *window, const int16_t *samples, size_t length) {
     return jabulghi_window_push_all_members(&window->size, &window->held, &window->place, window->places, &window->sum, &window->squares,
                                             samples, length);
+}
+
+/* Up to 16 marks to come back to, that the caller keeps, each a name of 1 to 12 letters or digits with a record. A set of zeros is the empty one. A place
+ * is used where its word in used is not 0; its name is the first bytes of names, as many as length. Where a set from elsewhere holds a name twice, the
+ * first is meant; a malformed name there matches none, and takes up its place. A call that is refused changes nothing; an accepted one changes its own
+ * place alone. */
+typedef struct { uint32_t used[16], length[16]; uint8_t names[16][12]; jabulghi_record records[16]; } jabulghi_marks;
+
+/* The exported functions take a set's members one by one, for any language; from C and C++ use the inline functions below. used, lengths: 16 elements;
+ * names: 192; records: 16. */
+uint32_t jabulghi_marks_save_members(uint32_t *used, uint32_t *lengths, uint8_t *names, jabulghi_record *records, const jabulghi_record *record,
+                                     const uint8_t *name, size_t length);
+uint32_t jabulghi_marks_return_members(const uint32_t *used, const uint32_t *lengths, const uint8_t *names, const jabulghi_record *records,
+                                       jabulghi_record *record, const uint8_t *name, size_t length);
+uint32_t jabulghi_marks_drop_members(uint32_t *used, uint32_t *lengths, uint8_t *names, jabulghi_record *records, const uint8_t *name, size_t length);
+
+/* Saves the record under a name: in the place that holds it, else in the first free one. Refused: 11, 12, 14 (a request is open), 18, 20. */
+static inline uint32_t jabulghi_marks_save(jabulghi_marks *marks, const jabulghi_record *record, const char *name, size_t length) {
+    return jabulghi_marks_save_members(marks->used, marks->length, &marks->names[0][0], marks->records, record, (const uint8_t *)name, length);
+}
+
+/* The record becomes the one that was saved under the name, its count and its note included, so that the samples after it are those that followed the
+ * save. Refused, for the record passed in: 11, 12, 14; then 18, 19. */
+static inline uint32_t jabulghi_marks_return(const jabulghi_marks *marks, jabulghi_record *record, const char *name, size_t length) {
+    return jabulghi_marks_return_members(marks->used, marks->length, &marks->names[0][0], marks->records, record, (const uint8_t *)name, length);
+}
+
+/* Drops the mark of that name: its place becomes zeros, and usable again. Refused: 18, 19. */
+static inline uint32_t jabulghi_marks_drop(jabulghi_marks *marks, const char *name, size_t length) {
+    return jabulghi_marks_drop_members(marks->used, marks->length, &marks->names[0][0], marks->records, (const uint8_t *)name, length);
 }
 
 #ifdef __cplusplus

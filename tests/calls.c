@@ -227,6 +227,71 @@ static void windows(void) {
 #define SEEDS "(seeds (a 2 8 16) (b 2 8 16))\n"
 #define EXAMPLE SEEDS "(sigma 4 10)\n(shot A1 A2 12345 4500)\n(shot A2 A3 9000 65530)\n"
 
+/* A set of marks is its members with nothing between them. */
+typedef char marks_have_960_bytes[sizeof(jabulghi_marks) == 960 ? 1 : -1];
+typedef char lengths_come_after[offsetof(jabulghi_marks, length) == 64 ? 1 : -1];
+typedef char names_come_after[offsetof(jabulghi_marks, names) == 128 ? 1 : -1];
+typedef char records_come_last[offsetof(jabulghi_marks, records) == 320 ? 1 : -1];
+
+static jabulghi_marks set;
+
+/* The used places, their names and their counts. */
+static void show_set(void) {
+    for (int j = 0; j < 16; j++) {
+        if (set.used[j]) printf(" %d %.12s %" PRIu64 ";", j, (const char *)set.names[j], set.records[j].count);
+    }
+    printf("\n");
+}
+
+static void save(const jabulghi_record *r, const char *name) {
+    printf("save %s %" PRIu32 ":", name, jabulghi_marks_save(&set, r, name, strlen(name)));
+    show_set();
+}
+
+static void return_to(jabulghi_record *r, const char *name) {
+    uint32_t number = jabulghi_marks_return(&set, r, name, strlen(name));
+    printf("return %s %" PRIu32 ": count %" PRIu64 "\n", name, number, r->count);
+}
+
+static void drop(const char *name) {
+    printf("drop %s %" PRIu32 ":", name, jabulghi_marks_drop(&set, name, strlen(name)));
+    show_set();
+}
+
+static void marks(void) {
+    jabulghi_record r, a = {{2, 7, 16}, {2, 8, 15}, 7, 1, 0}, b = {{2, 8, 16}, {2, 8, 15}, 7, 1, 0};
+    int16_t first[4], again[4];
+    char name[] = "S0";
+    jabulghi_seed(2, 8, 16, 5, 60, 700, &r);
+    save(&r, "D7");
+    jabulghi_block(&r, first, 4);
+    save(&r, "ABCDEFGHIJKL");
+    return_to(&r, "D7");
+    jabulghi_block(&r, again, 4);
+    printf("the same samples: %s\n", memcmp(first, again, sizeof first) ? "no" : "yes");
+    save(&r, "");
+    save(&r, "ABCDEFGHIJKLM");
+    save(&r, "D-7");
+    return_to(&r, "E1");
+    return_to(&r, "E 1");
+    drop("E1");
+    drop("");
+    save(&a, "");
+    return_to(&b, "");
+    jabulghi_ask(&r, 1);
+    save(&r, "");
+    return_to(&r, "D7");
+    jabulghi_give_up(&r);
+    for (; name[1] < '9'; name[1]++) jabulghi_marks_save(&set, &r, name, 2);
+    for (name[0] = 'T'; name[1] > '4'; name[1]--) jabulghi_marks_save(&set, &r, name, 2);
+    save(&r, "T2");
+    jabulghi_skip(&r, 5);
+    save(&r, "D7");
+    drop("S0");
+    save(&r, "T2");
+    return_to(&r, "T9");
+}
+
 int main(void) {
     jabulghi_record r = {{7, 7, 7}, {7, 7, 7}, 7, 7, 7}, unfit = {{2, 8, 16}, {2, 8, 15}, UINT64_MAX, 0, 0},
                     both_unfit = {{2, 7, 16}, {2, 8, 15}, 7, 0, 0};
@@ -266,6 +331,7 @@ int main(void) {
     skip(&r, 0);
     skip(&r, 1);
     requests();
+    marks();
     list_text(EXAMPLE, JABULGHI_LISTING_ROOM);
     list_text(EXAMPLE, 51);
     list_text(SEEDS "(sigma 4 10)\n", 24);

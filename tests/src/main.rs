@@ -12,6 +12,7 @@ mod job;
 mod jump;
 mod library;
 mod listings;
+mod marks;
 mod program;
 mod random;
 mod readings;
@@ -40,14 +41,15 @@ fn main() {
     }
     println!("the other implementation gives document 01's readings and example; inputs from seed {seed}");
     type Group = fn(&Tables, &mut Random) -> String;
-    let edges: [fn(&Tables) -> String; 7] =
-        [edges::cells, edges::records, edges::lengths, skips::given, counts::given, listings::given, windows::given];
+    let edges: [fn(&Tables) -> String; 8] =
+        [edges::cells, edges::records, edges::lengths, skips::given, counts::given, marks::given, listings::given, windows::given];
     for group in edges {
         println!("{}, all equal", group(&tables));
     }
     let plain: [Group; 6] = [seeds, roots::places, samples, histories, pairs, blocks];
     let skips: [Group; 6] = [skips::skips, skips::drawn, skips::two, skips::blocks, counts::runs, counts::noted];
-    let groups = plain.into_iter().chain(skips).chain([listings::jobs as Group, program::program]);
+    let marks: [Group; 2] = [marks::calls, marks::runs];
+    let groups = plain.into_iter().chain(skips).chain(marks).chain([listings::jobs as Group, program::program]);
     let groups = groups.chain([wide::samples as Group, wide::runs, windows::pushes, windows::runs]);
     for (j, group) in groups.enumerate() {
         let start = Instant::now();
