@@ -99,7 +99,7 @@ abbrev pub Told : Outcome → Type 0
 Told (refused number line) = 0 < number
 Told (listed bytes) = Unit {0}
 
-onto-told : (bytes : List ℕ) (o : Outcome) → Told o → Told (onto bytes o)
+pub onto-told : (bytes : List ℕ) (o : Outcome) → Told o → Told (onto bytes o)
 onto-told bytes (refused n k) h = h
 onto-told bytes (listed rest) h = tt
 

@@ -40,7 +40,7 @@ unfolding feedForm isEmpty oneOf seedsForm sigmaForm shotForm
 all-feed = (refl, refl, refl)
 
 -- a line that can be printed is one line
-line-printed : (x : Form) (rest : List ℕ) → Printable x → lines (printLine x ++ rest) ≡ printLine x ∷ lines rest
+pub line-printed : (x : Form) (rest : List ℕ) → Printable x → lines (printLine x ++ rest) ≡ printLine x ∷ lines rest
 unfolding printLine Printable
 line-printed (seeds a0 a1 a2 b0 b1 b2) rest h =
     line-form seedsForm (decimal a0 ∷ decimal a1 ∷ decimal a2 ∷ decimal b0 ∷ decimal b1 ∷ decimal b2 ∷ []) rest (all-feed .0)
@@ -146,7 +146,7 @@ pub onto-listed : (a : List ℕ) (o : Outcome) (b : List ℕ) → onto a o ≡ l
 onto-listed a (refused n k) b e = absurd (refused-not-listed n k b e)
 onto-listed a (listed r) b e = (r, refl, (cc))
 
-not-noForm : (k : ℕ) (x : Form) → refusal k x ≡ 0 → x ≡ noForm → ⊥
+pub not-noForm : (k : ℕ) (x : Form) → refusal k x ≡ 0 → x ≡ noForm → ⊥
 unfolding refusal formless
 not-noForm k x h e = let t = rw e at h in omega (arith, t)
 

@@ -62,5 +62,5 @@ pub fn print_job(text: &[u8], out: &mut [u8]) -> usize
     if answer.number == 0 {
         return answer.length;
     }
-    put_refused(out, answer.number, answer.line)
+    put_refused(out, answer.number, answer.line as u64)
 }

@@ -69,11 +69,11 @@ pub fn put_end(out: &mut [u8], at: usize, count: u32) -> usize
     put_numeral(out, a, count as u64, b'\n')
 }
 
-// The one line of a refused job.
-pub fn put_refused(out: &mut [u8], number: u32, line: u32) -> usize
+// The one line of a refused text.
+pub fn put_refused(out: &mut [u8], number: u32, line: u64) -> usize
     ensures { λ r. ⌜ Puts (now (out .entry)) 0 (refusedRow number line) r (now (out .exit)) ⌝ }
 {
     let a = put_field(out, 0, b"REFUSED", b' ');
     let b = put_numeral(out, a, number as u64, b' ');
-    put_numeral(out, b, line as u64, b'\n')
+    put_numeral(out, b, line, b'\n')
 }

@@ -195,7 +195,7 @@ decimal-value (x ∷ xs) h =
     first (y ∷ ys) a z l m (no p) =
         let e : x ≡ 48 = omega (arith, p) in absurd (zero-alone (length ys) (rw e at z))
 
-value-below : (n : ℕ) (xs : List ℕ) → all digit xs ≡ true → value n xs < (n + 1) * 10 ^ length xs
+pub value-below : (n : ℕ) (xs : List ℕ) → all digit xs ≡ true → value n xs < (n + 1) * 10 ^ length xs
 unfolding value all
 value-below n [] h = omega arith
 value-below n (x ∷ xs) h =

@@ -40,6 +40,11 @@ pub written-length : (d : List ℕ) (at : ℕ) (s : List ℕ) → length (writte
 unfolding written
 written-length d at s = length-sets d at s
 
+-- a write after another, where the first would end in a room without end
+pub written-on : (d s t : List ℕ) → written (written d 0 s) (length s) t ≡ written d 0 (s ++ t)
+unfolding written
+written-on d s t = ap (λ (n : ℕ). sets (sets d 0 s) n t) {x = length s} {y = 0 + length s} (omega arith) ∙ sym (sets-append d 0 s t)
+
 pub written-none : (d : List ℕ) (at : ℕ) → (at ≡ placeAfter d at []) × (d ≡ written d at [])
 unfolding written placeAfter
 written-none d at = (omega arith, refl)

@@ -38,6 +38,10 @@ unfoldable pub numeral : List ℕ → Bool
 numeral l =
     ltb 0 (length l) && leb (length l) numeralLength && all digit l && (eqb (length l) 1 || not (eqb (getD l 0 0) (byte "0")))
 
+-- digits alone, as many as a numeral may have
+unfoldable pub fewDigits : List ℕ → Bool
+fewDigits l = leb (length l) numeralLength && all digit l
+
 -- the number that digits spell after those of n
 unfoldable pub value : ℕ → List ℕ → ℕ
 value n [] = n

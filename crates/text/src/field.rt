@@ -6,7 +6,7 @@ ghost use mathlib.Core.Path.{_≡_};
 ghost use mathlib.Core.Bool.{_&&_};
 ghost use lib.ListN.{length};
 ghost use Rattle.text.specs.Limits.{numeralLength};
-ghost use Rattle.text.specs.Fields.{within, all, digit, letterOrDigit, name, numeral, partOf, Spells, SpellThree};
+ghost use Rattle.text.specs.Fields.{within, all, digit, letterOrDigit, name, numeral, fewDigits, partOf, Spells, SpellThree};
 
 // Where a field stands in its line.
 pub struct Place {
@@ -139,6 +139,19 @@ pub fn numeral_of(part: &[u8]) -> Numeral
         return spelled(part);
     }
     if part[0] == b'0' {
+        return Numeral {
+            ok: false,
+            value: 0,
+        };
+    }
+    spelled(part)
+}
+
+// The number that a field of digits spells, as many digits as a numeral may have; zeros may lead.
+pub fn digits_value(part: &[u8]) -> Numeral
+    ensures { λ r. ⌜ Spells (fewDigits (now (part .entry))) (now (part .entry)) r ⌝ }
+{
+    if NUMERAL_LENGTH < part.len() {
         return Numeral {
             ok: false,
             value: 0,

@@ -26,6 +26,9 @@ returns c =
     let puts = printed-listed o out (job-told (start .args .text .now)) accepted in
     rw (list .ensures .0, list .ensures .1 .0) (puts, puts-within out 0 (outputOf o (length out)) (omega arith) puts)
 
+cast-put-refused : tie.Need-cast-put-refused
+cast-put-refused c = search needs
+
 put-refused-requires : tie.Need-put-refused-requires
 put-refused-requires c κs = search needs
 
@@ -34,15 +37,15 @@ same-length-2 c = search needs
 
 returns-2 : tie.Need-returns-2
 returns-2 c =
-    let start = c .before .before .before .before .before .before .before .before .before .before .before .before in
+    let start = c .before .before .before .before .before .before .before .before .before .before .before .before .before in
     let out = start .args .out .now in
     let o = jobOf (start .args .text .now) in
-    let list = c .before .before .before .before .before .before .before .before .list in
-    let (same, row) = printed-refused o out (λ z. c .before .before .before .before .if1 .left (ap (λ (r : JobAnswer). r .number) (list .ensures .0) ∙ z)) in
+    let list = c .before .before .before .before .before .before .before .before .before .list in
+    let (same, row) = printed-refused o out (λ z. c .before .before .before .before .before .if1 .left (ap (λ (r : JobAnswer). r .number) (list .ensures .0) ∙ z)) in
     let puts = rw (list .ensures .1 .0 ∙ same, list .ensures .0, row) at (c .before .before .put-refused .ensures) in
     (puts, puts-within out 0 (outputOf o (length out)) (omega arith) puts)
 
 pub print-job-spec : {M : Type 1} → statement M
 print-job-spec =
     tie.close
-    (tie.spec list-requires same-length returns put-refused-requires same-length-2 returns-2)
+    (tie.spec list-requires same-length returns cast-put-refused put-refused-requires same-length-2 returns-2)

@@ -1,0 +1,23 @@
+-- `jabulghi_legs::jabulghi_legs` meets its contract: number, line, length and shot lines are those of the call below it.
+use mathlib.Core.Path.{ap}
+use borrow.Author.Needs.{needs}
+use Rattle.survex.specs.declared.LegsAnswer.{LegsAnswer}
+use Rattle.jabulghi_legs.proofs.jabulghi_legs.Statement.{statement}
+use Rattle.jabulghi_legs.proofs.jabulghi_legs.Tie as tie
+
+legs-requires : tie.Need-legs-requires
+legs-requires c κs = search needs
+
+same-length : tie.Need-same-length
+same-length c = search needs
+
+returns : tie.Need-returns
+returns c =
+    let legs = c .before .before .legs in
+    let e = legs .ensures .0 in (
+      ap (λ (x : LegsAnswer). x .number) e,
+      (ap (λ (x : LegsAnswer). x .line) e, (ap (λ (x : LegsAnswer). x .length) e, legs .ensures .1 .0)),
+    )
+
+pub jabulghi-legs-spec : {M : Type 1} → statement M
+jabulghi-legs-spec = tie.close (tie.spec legs-requires same-length returns)

@@ -1,0 +1,5 @@
+pub mod ShotLines
+pub mod Measures
+pub mod Walks
+pub mod Answers
+pub mod Theorems

@@ -1,0 +1,3 @@
+pub mod Survex
+pub mod Theorems
+pub mod Private

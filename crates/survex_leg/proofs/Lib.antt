@@ -1,0 +1,5 @@
+pub mod Words
+pub mod Numbers
+pub mod Legs
+pub mod Facts
+pub mod Theorems

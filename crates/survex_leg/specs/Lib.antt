@@ -1,0 +1,4 @@
+pub mod Limits
+pub mod Legs
+pub mod Theorems
+pub mod Private
