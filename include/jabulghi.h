@@ -13,7 +13,7 @@ extern "C" {
 #endif
 
 /* Every call returns one of these numbers. Order: 2 before 3; 11, 12, 15, 14, 16, 4, 13; for a job 5, then the first bad line, within it 6, 8, 9, 7, 11, 12;
- * last 10. */
+ * last 10; for a Survex text the first bad line, within it 21, 22; last 10. */
 enum {
     JABULGHI_OK = 0,
     JABULGHI_K_TOO_LARGE = 2,       /* k of 2^48 or more */
@@ -24,7 +24,7 @@ enum {
     JABULGHI_NUMBER_TOO_LARGE = 7,  /* number beyond its range */
     JABULGHI_WRONG_PLACE = 8,       /* form in the wrong place, or text ends before line 2 */
     JABULGHI_TOO_MANY_SHOTS = 9,    /* 501st shot */
-    JABULGHI_LISTING_TOO_LONG = 10, /* listing longer than the buffer lent */
+    JABULGHI_LISTING_TOO_LONG = 10, /* listing or shot lines longer than the buffer lent */
     JABULGHI_UNFIT_STREAM_A = 11,   /* a register of stream a below its minimum */
     JABULGHI_UNFIT_STREAM_B = 12,   /* a register of stream b below its minimum, stream a being fit */
     JABULGHI_COUNT_FULL = 13,       /* the count would pass 2^64 - 1 */
@@ -34,7 +34,9 @@ enum {
     JABULGHI_UNFIT_WINDOW = 17,     /* a window's N outside 1 to 4096, more than N held, a place outside it, or a sum beyond 2^42 in size */
     JABULGHI_BAD_NAME = 18,         /* a mark's name is not 1 to 12 letters or digits */
     JABULGHI_NAME_NOT_HELD = 19,    /* no mark has that name */
-    JABULGHI_MARKS_FULL = 20        /* all 16 places are used, and the name is new */
+    JABULGHI_MARKS_FULL = 20,       /* all 16 places are used, and the name is new */
+    JABULGHI_NO_LEG = 21,           /* Survex: line is no data line or leg, a name or number has not its form, or no line feed */
+    JABULGHI_LEG_OUT_OF_RANGE = 22  /* Survex: tape above 1000 m, compass above 360 degrees, or clino not the single digit 0 */
 };
 
 /* The most pairs that one request may ask for. */
@@ -153,6 +155,12 @@ static inline uint32_t jabulghi_marks_return(const jabulghi_marks *marks, jabulg
 static inline uint32_t jabulghi_marks_drop(jabulghi_marks *marks, const char *name, size_t length) {
     return jabulghi_marks_drop_members(marks->used, marks->length, &marks->names[0][0], marks->records, (const uint8_t *)name, length);
 }
+
+/* The shot lines of a Survex text's level legs, one a leg in order, as a job has them after its first two lines. The text may have any length; its
+ * first line that is left once comments, blanks and empty lines are passed over is "*data normal from to tape compass clino". Accepted, line is 0 and
+ * the first length bytes of shots are the shot lines; the bytes beyond them keep their contents. Refused (21, 22, 10), length is 0, line is the
+ * bad line, or 0 for 10, and shots stays. */
+uint32_t jabulghi_legs(const uint8_t *text, size_t text_length, uint8_t *shots, size_t shots_length, size_t *line, size_t *length);
 
 #ifdef __cplusplus
 }

@@ -223,6 +223,15 @@ static void windows(void) {
     push_all(&w, samples, 4);
 }
 
+#define DATA "*data normal from to tape compass clino\n"
+static void legs(const char *lines, size_t room) {
+    static uint8_t shots[64];
+    memset(shots, '-', sizeof shots);
+    size_t line = 7, written = 7;
+    uint32_t number = jabulghi_legs((const uint8_t *)lines, strlen(lines), shots, room, &line, &written);
+    printf("legs %" PRIu32 ": line %zu, length %zu, shots '%.*s'\n", number, line, written, (int)written + 3, (char *)shots);
+}
+
 #define SHOTS 500
 #define SEEDS "(seeds (a 2 8 16) (b 2 8 16))\n"
 #define EXAMPLE SEEDS "(sigma 4 10)\n(shot A1 A2 12345 4500)\n(shot A2 A3 9000 65530)\n"
@@ -346,4 +355,9 @@ int main(void) {
     list(60000, JABULGHI_LISTING_ROOM);
     list(60001, JABULGHI_LISTING_ROOM);
     windows();
+    legs("; c\n" DATA "A B 1000 360 0\n", 26);
+    legs("; c\n" DATA "A B 1000 360 0\n", 20);
+    legs("; c\n" DATA "A B 1000 360 0", 26);
+    legs("; c\n" DATA "A B 1000.001 360 0\n", 26);
+    legs("; c\n", 26);
 }

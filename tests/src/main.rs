@@ -1,4 +1,4 @@
-//! Runs the static library and the listing program beside another implementation of documents 01 and 02, written from them alone.
+//! Runs the static library and the programs beside another implementation of documents 01 and 02, written from them alone.
 //! JABULGHI_SEED gives the generated inputs another seed. With the words `checks FOLDER` it writes what the program crates/checks reads and
 //! has to print.
 mod cases;
@@ -10,6 +10,7 @@ mod given;
 mod inputs;
 mod job;
 mod jump;
+mod legs;
 mod library;
 mod listings;
 mod marks;
@@ -20,6 +21,7 @@ mod roots;
 mod sample;
 mod skips;
 mod stream;
+mod survex;
 mod texts;
 mod wide;
 mod windows;
@@ -51,6 +53,7 @@ fn main() {
     let marks: [Group; 2] = [marks::calls, marks::runs];
     let groups = plain.into_iter().chain(skips).chain(marks).chain([listings::jobs as Group, program::program]);
     let groups = groups.chain([wide::samples as Group, wide::runs, windows::pushes, windows::runs]);
+    let groups = groups.chain([legs::calls as Group, legs::program, legs::peer]);
     for (j, group) in groups.enumerate() {
         let start = Instant::now();
         let said = group(&tables, &mut Random(seed ^ (j as u64) << 56));
