@@ -1,2 +1,2 @@
 pub mod RoundTrip
-mod Reading
+pub mod Reading

@@ -24,7 +24,7 @@ no-place line = rw (leb·zero (length line))
 
 module _ (line : List ℕ) (c : Found) where
   -- the fields that were found, place by place
-  field-place : (n i : ℕ) → i < n → getD (fieldsAt line (take n (c .places))) i [] ≡ partAt line c i
+  pub field-place : (n i : ℕ) → i < n → getD (fieldsAt line (take n (c .places))) i [] ≡ partAt line c i
   field-place n i h =
       ap (λ (d : List ℕ). getD (fieldsAt line (take n (c .places))) i d) (no-place line)
       ∙ List·getD-map (partOf line) (take n (c .places)) i (record { from = 0; to = 0 })

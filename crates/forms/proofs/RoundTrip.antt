@@ -131,7 +131,7 @@ read-printed (shot from to d b) h =
 read-printed noForm h = absurd h
 
 -- n fields from place j on, place by place
-abbrev places : List (List ℕ) → ℕ → ℕ → List (List ℕ)
+abbrev pub places : List (List ℕ) → ℕ → ℕ → List (List ℕ)
 places vs j zero = []
 places vs j (suc n) = getD vs j [] ∷ places vs (suc j) n
 
@@ -141,7 +141,7 @@ drop-places vs (suc n) j h = drop-cons vs j [] (omega (arith, h)) ∙ ap (λ (l 
     (drop-places vs n (suc j) (omega (arith, h)))
 
 -- the fields that a form readForm, place by place, give the line back
-print-places : (form l : List ℕ) (vs : List (List ℕ)) (n : ℕ) → n ≡ marks form → readForm form l ≡ some vs → printForm form
+pub print-places : (form l : List ℕ) (vs : List (List ℕ)) (n : ℕ) → n ≡ marks form → readForm form l ≡ some vs → printForm form
     (places vs 0 n) ≡ l
 print-places form l vs n k h = ap (λ (ws : List (List ℕ)). printForm form ws)
     (sym (drop-places vs n 0 (omega (arith, read-count form l vs h)))) ∙ form-printed form l vs h
@@ -162,11 +162,11 @@ four a b c d h =
     let v = and-eq-true-iff a b .0 (u .0) in (v .0, v .1, u .1, t .1)
 
 module _ (l : List ℕ) (vs : List (List ℕ)) where
-  v : ℕ → List ℕ
+  abbrev pub v : ℕ → List ℕ
   v i = getD vs i []
 
   seeds-read : readForm seedsForm l ≡ some vs → (seedsOf vs ≡ noForm → ⊥) → Printed l (seedsOf vs)
-  unfolding seedsOf Printed Printable printLine v
+  unfolding seedsOf Printed Printable printLine
   seeds-read h k = split (three 0 && three 3) refl k
     where
       three : ℕ → Bool
@@ -194,7 +194,7 @@ module _ (l : List ℕ) (vs : List (List ℕ)) where
           )
 
   sigma-read : readForm sigmaForm l ≡ some vs → (sigmaOf vs ≡ noForm → ⊥) → Printed l (sigmaOf vs)
-  unfolding sigmaOf Printed Printable printLine v
+  unfolding sigmaOf Printed Printable printLine
   sigma-read h k = split (numeral (v 0) && numeral (v 1)) refl k
     where
       x : Form
@@ -208,21 +208,34 @@ module _ (l : List ℕ) (vs : List (List ℕ)) where
             rw (decimal-value (v 0) (n .0), decimal-value (v 1) (n .1)) (print-places sigmaForm l vs 2 (all-marks .1) h),
           )
 
-  shot-read : readForm shotForm l ≡ some vs → (shotOf vs ≡ noForm → ⊥) → Printed l (shotOf vs)
-  unfolding shotOf Printed Printable printLine v
-  shot-read h k = split (name (v 0) && name (v 1) && numeral (v 2) && numeral (v 3)) refl k
+  -- four fields that give a shot are its names and the numerals of its numbers
+  pub shot-case : (shotOf vs ≡ noForm → ⊥) → Printable (shot (v 0) (v 1) (value 0 (v 2)) (value 0 (v 3)))
+      × (shotOf vs ≡ shot (v 0) (v 1) (value 0 (v 2)) (value 0 (v 3))) × (decimal (value 0 (v 2)) ≡ v 2) × (decimal (value 0 (v 3)) ≡ v 3)
+  unfolding shotOf Printable
+  shot-case k = split (name (v 0) && name (v 1) && numeral (v 2) && numeral (v 3)) refl k
     where
       x : Form
       x = shot (v 0) (v 1) (value 0 (v 2)) (value 0 (v 3))
 
-      split : (b : Bool) → name (v 0) && name (v 1) && numeral (v 2) && numeral (v 3) ≡ b → (cond b x noForm ≡ noForm → ⊥) →
-          Printed l (cond b x noForm)
+      split : (b : Bool) → name (v 0) && name (v 1) && numeral (v 2) && numeral (v 3) ≡ b → (cond b x noForm ≡ noForm → ⊥)
+          → Printable x × (cond b x noForm ≡ x) × (decimal (value 0 (v 2)) ≡ v 2) × (decimal (value 0 (v 3)) ≡ v 3)
       split false e k = absurd (k refl)
       split true e k =
           let n = four (name (v 0)) (name (v 1)) (numeral (v 2)) (numeral (v 3)) e in (
             (n .0, n .1, numeral-below (v 2) (n .2), numeral-below (v 3) (n .3)),
-            rw (decimal-value (v 2) (n .2), decimal-value (v 3) (n .3)) (print-places shotForm l vs 4 (all-marks .2) h),
+            refl,
+            decimal-value (v 2) (n .2),
+            decimal-value (v 3) (n .3),
           )
+
+  shot-read : readForm shotForm l ≡ some vs → (shotOf vs ≡ noForm → ⊥) → Printed l (shotOf vs)
+  unfolding Printed printLine
+  shot-read h k =
+      let (p, e, a, b) = shot-case k in
+      rw e (p, rw (a, b) (print-places shotForm l vs 4 (all-marks .2) h))
+
+pub shot-not-none : (from to : List ℕ) (d b : ℕ) → shot from to d b ≡ noForm → ⊥
+shot-not-none from to d b e = let z : _≡_ {A = ℕ} 0 1 = cc in omega arith
 
 -- What is read is what would be printed.
 pub printed-read : (l : List ℕ) → (readLine l ≡ noForm → ⊥) → Printable (readLine l) × (printLine (readLine l) ≡ l)

@@ -16,7 +16,7 @@ use Rattle.job.specs.Job.{printed, settingAfter}
 use Rattle.job.specs.Private.{taken, takenOf, bufferOf}
 use Rattle.job.specs.declared.state.State.{State}
 use Rattle.job.specs.declared.state.Taken.{Taken}
-use Rattle.forms.proofs.RoundTrip.{printed-read}
+use Rattle.forms.proofs.RoundTrip.{printed-read, shot-not-none}
 
 -- a line that prints nothing leaves the buffer and the place in it as they were
 module _ (s : State) (x : Form) (out : List ℕ) (e : printed x (s .setting) ≡ []) where
@@ -31,9 +31,6 @@ module _ (s : State) (x : Form) (out : List ℕ) (e : printed x (s .setting) ≡
       case : (b : Bool) → out ≡ cond b (written out (s .used) []) out
       case true = written-none out (s .used) .1
       case false = refl
-
-shot-not-none : (from to : List ℕ) (d b : ℕ) → shot from to d b ≡ noForm → ⊥
-shot-not-none from to d b e = let z : _≡_ {A = ℕ} 0 1 = cc in omega arith
 
 -- the names of a shot that was read
 pub names-short : (l from to : List ℕ) (d b : ℕ) → readLine l ≡ shot from to d b → (length from ≤ nameLength) × (length to ≤ nameLength)

@@ -1,0 +1,2 @@
+-- What is read back from lent memory.
+mod Stored

@@ -1,0 +1,3 @@
+pub mod Misclosure
+pub mod Theorems
+pub mod Private

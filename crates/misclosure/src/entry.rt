@@ -1,0 +1,151 @@
+// A listing, line by line: what each line after the header adds, or why it is refused.
+use crate::limits::LAST_LINE;
+use crate::limits::MOST_DISTANCE;
+use crate::limits::MOST_STEP;
+use crate::sum::added;
+use angle::signed_of;
+use entries::Entry;
+use entries::is_same;
+use entries::read_entry;
+use forms::Shot;
+use text::field::Place;
+use text::field::part;
+ghost use mathlib.Core.Path.{_≡_};
+ghost use mathlib.Core.Bool.{cond};
+ghost use lib.Dec.{eqb};
+ghost use Rattle.text.specs.Fields.{partOf};
+ghost use Rattle.misclosure.specs.Private.{Small, Ranged, limitNumber, stationNumber, Takes, Moved, shotSaid};
+ghost use Rattle.entries.specs.Entries.{readEntry, last};
+
+// The number of the next line, where the last station stands in the line before it, and the sums so far.
+pub struct State {
+    pub line: u32,
+    pub station: Place,
+    pub east: i64,
+    pub north: i64,
+}
+
+// The number of a line, 0 where it is accepted; whether it is the end; and after an accepted shot the state.
+pub struct Taken {
+    pub number: u32,
+    pub ended: bool,
+    pub next: State,
+}
+
+// 24 for a shot beyond a limit, else 0.
+fn limit_number(line: u32, x: Shot) -> u32
+    ensures { λ r. ⌜ r ≡ limitNumber line (x .distance) (x .bearing) ⌝ }
+{
+    if LAST_LINE < line {
+        return 24;
+    }
+    if MOST_DISTANCE < x.distance {
+        return 24;
+    }
+    if MOST_STEP < x.bearing {
+        return 24;
+    }
+    0
+}
+
+// 23 for a shot that does not start at the station, else 0: any may be the first.
+fn station_number(station: &[u8], from: &[u8]) -> u32
+    ensures { λ r. ⌜ r ≡ stationNumber (now (station .entry)) (now (from .entry)) ⌝ }
+{
+    if station.len() == 0 {
+        return 0;
+    }
+    if is_same(station, from) {
+        return 0;
+    }
+    23
+}
+
+// The first of two numbers that is not 0.
+fn first_of(first: u32, second: u32) -> u32
+    ensures { λ r. ⌜ r ≡ cond (eqb first 0) second first ⌝ }
+{
+    if first == 0 {
+        return second;
+    }
+    first
+}
+
+// A shot within its ranges is added.
+fn moved(x: Shot, s: State) -> State
+    requires { ⌜ Small s ⌝ }
+    requires { ⌜ Ranged (s .line) x ⌝ }
+    ensures { λ r. ⌜ Moved x s r ⌝ }
+{
+    let turned = signed_of(x.bearing as u32);
+    let east = added(s.east, x.distance, turned.sine);
+    let north = added(s.north, x.distance, turned.cosine);
+    let station = x.to;
+    State {
+        line: s.line + 1,
+        station,
+        east,
+        north,
+    }
+}
+
+fn on_shot(previous: &[u8], line: &[u8], x: Shot, s: State) -> Taken
+    requires { ⌜ Small s ⌝ }
+    ensures { λ r. ⌜ Takes (partOf (now (previous .entry)) (s .station)) (now (line .entry)) s (shotSaid (now (line .entry)) x) r ⌝ }
+{
+    let station = s.station;
+    let from = x.from;
+    let limit = limit_number(s.line, x);
+    let place = station_number(part(previous, station), part(line, from));
+    let number = first_of(limit, place);
+    if number != 0 {
+        return Taken {
+            number,
+            ended: false,
+            next: s,
+        };
+    }
+    let next = moved(x, s);
+    Taken {
+        number: 0,
+        ended: false,
+        next,
+    }
+}
+
+// The end has the count of the shots: all lines before it but the header.
+fn on_end(previous: &[u8], line: &[u8], count: u64, s: State) -> Taken
+    requires { ⌜ Small s ⌝ }
+    ensures { λ r. ⌜ Takes (partOf (now (previous .entry)) (s .station)) (now (line .entry)) s (last count) r ⌝ }
+{
+    let shots = (s.line - 2) as u64;
+    if count != shots {
+        return Taken {
+            number: 6,
+            ended: true,
+            next: s,
+        };
+    }
+    Taken {
+        number: 0,
+        ended: true,
+        next: s,
+    }
+}
+
+// One line after the header, the line before it besides.
+pub fn take_line(previous: &[u8], line: &[u8], s: State) -> Taken
+    requires { ⌜ Small s ⌝ }
+    ensures { λ r. ⌜ Takes (partOf (now (previous .entry)) (s .station)) (now (line .entry)) s (readEntry (now (line .entry))) r ⌝ }
+{
+    let said = read_entry(line);
+    match said {
+        Entry::Shot(x) => on_shot(previous, line, x, s),
+        Entry::End(count) => on_end(previous, line, count, s),
+        Entry::NoEntry => Taken {
+            number: 6,
+            ended: false,
+            next: s,
+        },
+    }
+}

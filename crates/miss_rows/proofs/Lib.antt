@@ -1,0 +1,2 @@
+mod SignedDecimal
+pub mod Printed

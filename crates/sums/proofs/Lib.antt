@@ -1,0 +1,6 @@
+-- The laws of specs/: points, whole numbers by their parts, sums and their enclosures, how near they are.
+pub mod PointLaws
+pub mod Parts
+pub mod SumLaws
+pub mod Nearness
+pub mod Theorems
