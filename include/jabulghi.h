@@ -13,14 +13,15 @@ extern "C" {
 #endif
 
 /* Every call returns one of these numbers. Order: 2 before 3; 11, 12, 15, 14, 16, 4, 13; for a job 5, then the first bad line, within it 6, 8, 9, 7, 11, 12;
- * last 10; for a Survex text the first bad line, within it 21, 22; last 10. */
+ * last 10; for a Survex text the first bad line, within it 21, 22; last 10; for a listing the first bad line,
+ * within it 6, 24, 23. */
 enum {
     JABULGHI_OK = 0,
     JABULGHI_K_TOO_LARGE = 2,       /* k of 2^48 or more */
     JABULGHI_V_TOO_LARGE = 3,       /* v above 65535 */
     JABULGHI_ODD_LENGTH = 4,        /* block of odd length */
     JABULGHI_JOB_TOO_LONG = 5,      /* job over 60,000 bytes */
-    JABULGHI_NO_FORM = 6,           /* line is none of the three forms, or lacks its line feed */
+    JABULGHI_NO_FORM = 6,           /* line is none of the three forms, or lacks its line feed; in a listing: unlike its lines, or missing */
     JABULGHI_NUMBER_TOO_LARGE = 7,  /* number beyond its range */
     JABULGHI_WRONG_PLACE = 8,       /* form in the wrong place, or text ends before line 2 */
     JABULGHI_TOO_MANY_SHOTS = 9,    /* 501st shot */
@@ -36,7 +37,9 @@ enum {
     JABULGHI_NAME_NOT_HELD = 19,    /* no mark has that name */
     JABULGHI_MARKS_FULL = 20,       /* all 16 places are used, and the name is new */
     JABULGHI_NO_LEG = 21,           /* Survex: line is no data line or leg, a name or number has not its form, or no line feed */
-    JABULGHI_LEG_OUT_OF_RANGE = 22  /* Survex: tape above 1000 m, compass above 360 degrees, or clino not the single digit 0 */
+    JABULGHI_LEG_OUT_OF_RANGE = 22, /* Survex: tape above 1000 m, compass above 360 degrees, or clino not the single digit 0 */
+    JABULGHI_OTHER_STATION = 23,    /* a shot that does not start where the one before ended */
+    JABULGHI_SHOT_TOO_LARGE = 24    /* a listing's 501st shot, distance above 1,008,242 mm or step above 65535 */
 };
 
 /* The most pairs that one request may ask for. */
@@ -161,6 +164,12 @@ static inline uint32_t jabulghi_marks_drop(jabulghi_marks *marks, const char *na
  * the first length bytes of shots are the shot lines; the bytes beyond them keep their contents. Refused (21, 22, 10), length is 0, line is the
  * bad line, or 0 for 10, and shots stays. */
 uint32_t jabulghi_legs(const uint8_t *text, size_t text_length, uint8_t *shots, size_t shots_length, size_t *line, size_t *length);
+
+/* How far the loop of a listing misses: the sums of distance times sine (east) and times cosine (north) of its shots, each of which
+ * starts where the one before ended. sums has them at 2^30, millimetres each rounded once, halves away from zero, and less than 3 from
+ * the exact sum. Accepted, line is 0. Refused (6, 24, 23), line is the bad line, or the next one where a line is missing, and all sums are 0.
+ * A text may have any length. sums and millimetres: 2 elements each, east and north. */
+uint32_t jabulghi_misclosure(const uint8_t *text, size_t text_length, int64_t *sums, int64_t *millimetres, uint32_t *line);
 
 #ifdef __cplusplus
 }

@@ -301,6 +301,14 @@ static void marks(void) {
     return_to(&r, "T9");
 }
 
+static void miss(const char *t) {
+    int64_t sums[2] = {7, 7}, mm[2] = {7, 7};
+    uint32_t line = 7;
+    uint32_t number = jabulghi_misclosure((const uint8_t *)t, strlen(t), sums, mm, &line);
+    printf("misclosure %" PRIu32 ": line %" PRIu32 ", east %" PRId64 ", north %" PRId64, number, line, sums[0], sums[1]);
+    printf(", in mm %" PRId64 " and %" PRId64 "\n", mm[0], mm[1]);
+}
+
 int main(void) {
     jabulghi_record r = {{7, 7, 7}, {7, 7, 7}, 7, 7, 7}, unfit = {{2, 8, 16}, {2, 8, 15}, UINT64_MAX, 0, 0},
                     both_unfit = {{2, 7, 16}, {2, 8, 15}, 7, 0, 0};
@@ -360,4 +368,14 @@ int main(void) {
     legs("; c\n" DATA "A B 1000 360 0", 26);
     legs("; c\n" DATA "A B 1000.001 360 0\n", 26);
     legs("; c\n", 26);
+    miss("FROM TO MM STEP\nA1 A2 12356 4527\nA2 A3 9011 8\nEND 2\n");
+    miss("FROM TO MM STEP\nA1 A2 12356 40000\nA2 A1 12356 7232\nEND 2\n");
+    miss("FROM TO MM STEP\nA1 A2 1 32768\nEND 1\n");
+    miss("FROM TO MM STEP\nEND 0\n");
+    miss("FROM TO MM STEP\nA1 A2 5 5\nEND 2\n");
+    miss("FROM TO MM STEP\nA1 A2 5 5\n");
+    miss("FROM TO MM STEP\nEND 0\nEND 0\n");
+    miss("FROM TO MM STEP\nA1 A2 5 5\na2 A3 5 5\nEND 2\n");
+    miss("FROM TO MM STEP\nA1 A2 5 5\na2 A3 1008243 5\nEND 2\n");
+    miss("FROM TO LOW HIGH STEP\nEND 0\n");
 }

@@ -14,6 +14,8 @@ mod legs;
 mod library;
 mod listings;
 mod marks;
+mod misclosure;
+mod misses;
 mod program;
 mod random;
 mod readings;
@@ -43,8 +45,8 @@ fn main() {
     }
     println!("the other implementation gives document 01's readings and example; inputs from seed {seed}");
     type Group = fn(&Tables, &mut Random) -> String;
-    let edges: [fn(&Tables) -> String; 8] =
-        [edges::cells, edges::records, edges::lengths, skips::given, counts::given, marks::given, listings::given, windows::given];
+    let edges: [fn(&Tables) -> String; 9] =
+        [edges::cells, edges::records, edges::lengths, skips::given, counts::given, marks::given, listings::given, windows::given, misses::given];
     for group in edges {
         println!("{}, all equal", group(&tables));
     }
@@ -54,6 +56,7 @@ fn main() {
     let groups = plain.into_iter().chain(skips).chain(marks).chain([listings::jobs as Group, program::program]);
     let groups = groups.chain([wide::samples as Group, wide::runs, windows::pushes, windows::runs]);
     let groups = groups.chain([legs::calls as Group, legs::program, legs::peer]);
+    let groups = groups.chain([misses::listings as Group, misses::program]);
     for (j, group) in groups.enumerate() {
         let start = Instant::now();
         let said = group(&tables, &mut Random(seed ^ (j as u64) << 56));

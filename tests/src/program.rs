@@ -29,9 +29,9 @@ fn expected(tables: &Tables, text: &[u8]) -> Vec<u8> {
     }
 }
 
-/// Runs the program on a text that comes in pieces, with a pause after each.
-fn run(text: &[u8], piece: usize, pause: Duration) -> Output {
-    let mut child = command().stdin(Stdio::piped()).spawn().expect("target/bin/listing is built");
+/// Runs a program on a text that comes in pieces, with a pause after each.
+pub fn run(program: &str, text: &[u8], piece: usize, pause: Duration) -> Output {
+    let mut child = command(program).stdin(Stdio::piped()).spawn().expect("the program is built");
     let mut input = child.stdin.take().unwrap();
     for part in text.chunks(piece) {
         // a text that is longer than the program reads may find the pipe closed
@@ -44,13 +44,13 @@ fn run(text: &[u8], piece: usize, pause: Duration) -> Output {
     child.wait_with_output().unwrap()
 }
 
-fn command() -> Command {
-    let mut command = Command::new(PROGRAM);
+fn command(program: &str) -> Command {
+    let mut command = Command::new(program);
     command.stdout(Stdio::piped()).stderr(Stdio::piped());
     command
 }
 
-fn writes(output: &Output, stdout: &[u8], stderr: &str, what: &str) {
+pub fn writes(output: &Output, stdout: &[u8], stderr: &str, what: &str) {
     let (out, err) = (output.stdout.escape_ascii(), output.stderr.escape_ascii());
     assert_eq!(out.to_string(), stdout.escape_ascii().to_string(), "standard output of {what}");
     assert_eq!(err.to_string(), stderr.as_bytes().escape_ascii().to_string(), "standard error of {what}");
@@ -80,31 +80,30 @@ fn rows() -> Vec<(String, String)> {
 }
 
 /// Reads and writes that fail: nothing on standard output but what is right, and one line on standard error.
-fn failures() -> u32 {
-    let reading = "listing: reading standard input: ";
-    let writing = "listing: writing standard output: ";
-    let text = format!("{SEEDS}{SIGMA}{SHOT}");
+pub fn failures(program: &str, name: &str, text: &str) -> u32 {
+    let reading = format!("{name}: reading standard input: ");
+    let writing = format!("{name}: writing standard output: ");
 
-    let from_directory = command().stdin(File::open("/").unwrap()).output().unwrap();
+    let from_directory = command(program).stdin(File::open("/").unwrap()).output().unwrap();
     writes(&from_directory, b"", &format!("{reading}Is a directory\n"), "a directory as input");
 
-    let closed = Command::new("sh").args(["-c", "exec \"$0\" <&-", PROGRAM]).output().unwrap();
+    let closed = Command::new("sh").args(["-c", "exec \"$0\" <&-", program]).output().unwrap();
     writes(&closed, b"", &format!("{reading}Bad file descriptor\n"), "a closed input");
 
     // a pipe that does not wait, and pauses after the first shot
     let (reader, mut writer) = std::io::pipe().unwrap();
     assert_eq!(unsafe { fcntl(reader.as_raw_fd(), F_SETFL, O_NONBLOCK) }, 0);
     writer.write_all(text.as_bytes()).unwrap();
-    let child = command().stdin(reader).spawn().unwrap();
+    let child = command(program).stdin(reader).spawn().unwrap();
     let paused = child.wait_with_output().unwrap();
     writes(&paused, b"", &format!("{reading}Resource temporarily unavailable\n"), "a pipe that does not wait");
     drop(writer);
 
-    let full = ["-c", "printf '(seeds (a 2 8 16) (b 2 8 16))\\n(sigma 4 10)\\n' | \"$0\" >/dev/full", PROGRAM];
+    let full = ["-c", "printf %s \"$1\" | \"$0\" >/dev/full", program, text];
     writes(&Command::new("sh").args(full).output().unwrap(), b"", &format!("{writing}No space left on device\n"), "a full device");
 
     // nobody reads the output, and the program is told so instead of being ended by a signal
-    let broken = ["-c", "trap '' PIPE; sleep 0.2; exec \"$0\"", PROGRAM];
+    let broken = ["-c", "trap '' PIPE; sleep 0.2; exec \"$0\"", program];
     let mut child = Command::new("sh").args(broken).stdin(Stdio::piped()).stdout(Stdio::piped()).stderr(Stdio::piped()).spawn().unwrap();
     drop(child.stdout.take());
     child.stdin.take().unwrap().write_all(text.as_bytes()).unwrap();
@@ -113,7 +112,7 @@ fn failures() -> u32 {
 }
 
 pub fn program(tables: &Tables, random: &mut Random) -> String {
-    let at_once = |text: &[u8]| run(text, text.len().max(1), Duration::ZERO);
+    let at_once = |text: &[u8]| run(PROGRAM, text, text.len().max(1), Duration::ZERO);
     let rows = rows();
     for (text, printed) in &rows {
         writes(&at_once(text.as_bytes()), printed.as_bytes(), "", "a row of README's table");
@@ -127,8 +126,8 @@ pub fn program(tables: &Tables, random: &mut Random) -> String {
     // the longest job that is read whole, and slow pipes of a few bytes at a time
     let longest = format!("{SEEDS}{SIGMA}{}", "(shot ABCDEFGHIJKL MNOPQRSTUVWX 1000000 65535)\n".repeat(SHOTS));
     for (text, piece, pause) in [(longest.as_str(), 4096, 1), (rows[0].0.as_str(), 1, 1), (rows[0].0.as_str(), 40, 50)] {
-        let said = run(text.as_bytes(), piece, Duration::from_millis(pause));
+        let said = run(PROGRAM, text.as_bytes(), piece, Duration::from_millis(pause));
         writes(&said, &expected(tables, text.as_bytes()), "", "a slow pipe");
     }
-    format!("the listing program on {} texts and {} failed reads and writes", rows.len() + texts.len() + 3, failures())
+    format!("the listing program on {} texts and {} failed reads and writes", rows.len() + texts.len() + 3, failures(PROGRAM, "listing", &format!("{SEEDS}{SIGMA}{SHOT}")))
 }

@@ -69,7 +69,7 @@ impl Tables {
     }
 
     /// Sine and cosine at 2^30 of v/65536 of a turn, v at most 65535.
-    fn rotation(&self, v: u32) -> (i128, i128) {
+    pub fn rotation(&self, v: u32) -> (i128, i128) {
         let (quarter, w) = (v / 16384, v % 16384);
         let (big_c, big_d) = self.coarse[w as usize / 128];
         let (c, s) = self.fine[w as usize % 128];

@@ -3,7 +3,7 @@ use crate::inputs::seeds;
 use crate::job::SHOTS;
 use crate::random::Random;
 
-fn name(random: &mut Random) -> String {
+pub fn name(random: &mut Random) -> String {
     let most = if random.one_in(8) { 12 } else { 4 };
     let length = 1 + random.below(most);
     let letter = |random: &mut Random| char::from(*random.of(b"ABYZabyz0189Mm5"));
@@ -88,7 +88,7 @@ const WORDS: [&str; 25] = [
 ];
 const BYTES: &[u8] = b" ()\n\r\t\00129:/@AZ[`az{~\x7f\x80\xff";
 
-fn damage(random: &mut Random, text: &mut Vec<u8>) {
+pub fn damage(random: &mut Random, text: &mut Vec<u8>) {
     let at = random.below(text.len() + 1);
     let byte = if random.one_in(4) { random.next() as u8 } else { *random.of(BYTES) };
     match random.below(8) {

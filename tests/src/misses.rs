@@ -1,0 +1,233 @@
+//! Listings, whole and damaged, through the call and the program that tell how far their loop misses.
+use crate::cases::{same, Case};
+use crate::job;
+use crate::misclosure::{miss, Miss, FARTHEST, SHOTS};
+use crate::program::{failures, run, writes};
+use crate::random::Random;
+use crate::sample::Tables;
+use crate::texts;
+use std::fmt;
+use std::time::Duration;
+
+const PROGRAM: &str = concat!(env!("CARGO_MANIFEST_DIR"), "/../target/bin/misses");
+const HEADER: &str = "FROM TO MM STEP\n";
+
+extern "C" {
+    fn jabulghi_misclosure(text: *const u8, length: usize, sums: *mut i64, millimetres: *mut i64, line: *mut u32) -> u32;
+}
+
+/// Elements on either side of what is lent, and what it holds before the call.
+const MARK: i64 = 0x5AA5_5AA5_5AA5_5AA5;
+
+#[derive(Clone)]
+struct Listing(Vec<u8>);
+
+impl fmt::Debug for Listing {
+    fn fmt(&self, f: &mut fmt::Formatter) -> fmt::Result {
+        write!(f, "\"{}\"", self.0.escape_ascii())
+    }
+}
+
+impl Case for Listing {
+    type Answer = Miss;
+
+    fn library(&self) -> Miss {
+        let (mut sums, mut rounded, mut line) = ([MARK; 4], [MARK; 4], [7u32; 3]);
+        let number = unsafe {
+            jabulghi_misclosure(self.0.as_ptr(), self.0.len(), sums[..].as_mut_ptr().add(1), rounded[..].as_mut_ptr().add(1), line[..].as_mut_ptr().add(1))
+        };
+        let kept = [sums[0], sums[3], rounded[0], rounded[3]] == [MARK; 4] && [line[0], line[2]] == [7; 2];
+        assert!(kept, "memory beside what is lent was written for {self:?}");
+        (number, line[1], [sums[1], sums[2]], [rounded[1], rounded[2]])
+    }
+
+    fn other(&self, tables: &Tables) -> Miss {
+        miss(tables, &self.0)
+    }
+
+    fn smaller(&self) -> Vec<Listing> {
+        let lines: Vec<&[u8]> = self.0.split_inclusive(|&b| b == b'\n').collect();
+        let less = (0..lines.len()).map(|j| Listing([&lines[..j], &lines[j + 1..]].concat().concat()));
+        let shorter = (0..self.0.len().min(60)).map(|j| Listing([&self.0[..j], &self.0[j + 1..]].concat()));
+        less.chain(shorter).collect()
+    }
+}
+
+/// Lines in order with the count at the end.
+fn listing(rows: &[String]) -> String {
+    format!("{HEADER}{}END {}\n", rows.concat(), rows.len())
+}
+
+/// Shots that follow each other, with their distances and steps.
+fn chain(numbers: &[(u64, u64)]) -> Vec<String> {
+    numbers.iter().enumerate().map(|(j, (mm, step))| format!("S{j} S{} {mm} {step}\n", j + 1)).collect()
+}
+
+/// Every cause with its line, two causes on one line, ends, and sums at the edges of rounding.
+fn written() -> Vec<Vec<u8>> {
+    let far = FARTHEST;
+    let mut out: Vec<String> = vec![
+        String::new(),
+        HEADER.into(),
+        listing(&[]),
+        HEADER[..15].into(),
+        listing(&chain(&[(12356, 4527), (9011, 8)])),
+        listing(&["A B 5 1\n".into(), "b C 5 1\n".into()]),
+        listing(&["A B 5 1\n".into(), format!("C D {} 65536\n", far + 1)]),
+        listing(&["A B 5 1\n".into(), "C D 05 1\n".into()]),
+        listing(&["A A 7 9\n".into(), "A A 7 9\n".into()]),
+        listing(&["END 5 5 5\n".into(), "5 END 5 5\n".into()]),
+        listing(&["FROM TO 5 5\n".into(), "FROM TO MM STEP\n".into()]),
+        format!("{HEADER}END 0\nEND 0\n"),
+        format!("{HEADER}END 0\n\n"),
+        format!("{HEADER}END 0\nx"),
+        format!("{HEADER}END 0"),
+        format!("{HEADER}END\n"),
+        format!("{HEADER}END 00\n"),
+        format!("{HEADER}END 4294967296\n"),
+        format!("FROM TO LOW HIGH STEP\nA B 1 2 3\nEND 1\n"),
+        format!("\n{HEADER}END 0\n"),
+        format!("{}END 1\n", listing(&chain(&[(1, 1)]))),
+    ];
+    for (mm, step) in [(0, 0), (1, 0), (far, 0), (far, 16384), (far, 32768), (far, 49152), (far, 65535), (far + 1, 0), (1, 65536), (9999999999, 1)] {
+        out.push(listing(&chain(&[(mm, step)])));
+        out.push(listing(&chain(&[(mm, step), (mm, step.wrapping_add(32768) % 65536)])));
+    }
+    for count in [1, 2, SHOTS - 1, SHOTS, SHOTS + 1, SHOTS + 2] {
+        for step in [0, 8192, 40000] {
+            out.push(listing(&chain(&vec![(far, step); count])));
+        }
+        let rows = chain(&vec![(3, 3); count]);
+        out.push(format!("{HEADER}{}END {}\n", rows.concat(), count + 1));
+        out.push(format!("{HEADER}{}END {}\n", rows.concat(), count - 1));
+        out.push(format!("{HEADER}{}", rows.concat()));
+        out.push(format!("{HEADER}{}A B {} 1\n", rows.concat(), far + 1));
+    }
+    for step in 0..2048 {
+        out.push(listing(&chain(&[(1, 32 * step)])));
+    }
+    out.into_iter().map(String::into_bytes).collect()
+}
+
+/// Listings with a sum just at half a millimetre, and a shot of 0, 1 or -1 mm more to the other side: distances that make an odd multiple of 2^29 of a sine or a
+/// cosine.
+fn halves(tables: &Tables) -> Vec<Vec<u8>> {
+    let mut out = Vec::new();
+    for step in 0..65536 {
+        let (sine, cosine) = tables.rotation(step as u32);
+        for zeros in [sine, cosine].map(i128::trailing_zeros) {
+            if (10..=29).contains(&zeros) {
+                let rows = [(1 << (29 - zeros), step)];
+                out.push(listing(&chain(&rows)));
+                out.extend([0, 16384, 32768, 49152].map(|turn| listing(&chain(&[rows[0], (1, turn)]))));
+            }
+        }
+    }
+    out.into_iter().map(String::into_bytes).collect()
+}
+
+fn numbers(random: &mut Random, loose: bool) -> (u64, u64) {
+    let mut up_to = |most: u64| match random.below(12) {
+        0 if loose => most + 1,
+        1 if loose => 9_999_999_999,
+        0..=2 => most,
+        3 => 0,
+        4 | 5 => random.below(10) as u64,
+        _ => random.below(most as usize + 1) as u64,
+    };
+    (up_to(FARTHEST), up_to(65535))
+}
+
+/// A listing as it should be, from another station here and there, with a false count, or with some bytes changed.
+fn text(random: &mut Random) -> Vec<u8> {
+    let count = match random.below(40) {
+        0 => *random.of(&[SHOTS - 1, SHOTS, SHOTS + 1]),
+        1 | 2 => random.below(SHOTS + 1),
+        _ => random.below(12),
+    };
+    let (loose, astray) = (random.one_in(8), random.one_in(6));
+    let mut station = texts::name(random);
+    let mut out = HEADER.to_string();
+    for _ in 0..count {
+        let (next, (mm, step)) = (texts::name(random), numbers(random, loose));
+        if astray && random.one_in(4) {
+            station = if random.one_in(2) { station.to_lowercase() } else { texts::name(random) };
+        }
+        out += &format!("{station} {next} {mm} {step}\n");
+        station = next;
+    }
+    let told = if random.one_in(10) { random.below(SHOTS + 2) } else { count };
+    out += &format!("END {told}\n");
+    let mut out = out.into_bytes();
+    if random.one_in(2) {
+        texts::damage(random, &mut out);
+    }
+    out
+}
+
+/// A listing of the listing call whose shots follow each other.
+fn heard(tables: &Tables, random: &mut Random) -> Vec<u8> {
+    let mut job = format!("(seeds (a {0} {0} {0}) (b {0} {0} {0}))\n(sigma {1} {1})\n", 16 + random.next() as u32 / 2, random.below(1001));
+    for j in 0..random.below(SHOTS + 1) {
+        job += &format!("(shot S{j} S{} {} {})\n", j + 1, random.below(1_000_001), random.below(65536));
+    }
+    job::list(tables, job.as_bytes(), job::ROOM).2
+}
+
+pub fn given(tables: &Tables) -> String {
+    let (texts, halves) = (written(), halves(tables));
+    assert!(halves.len() > 500, "{} halves", halves.len());
+    for text in texts.iter().chain(&halves) {
+        same(tables, &Listing(text.clone()));
+    }
+    format!("{} listings written out, {} of them with a sum at half a millimetre", texts.len() + halves.len(), halves.len())
+}
+
+pub fn listings(tables: &Tables, random: &mut Random) -> String {
+    let (count, mut accepted) = (60_000, 0);
+    for _ in 0..count {
+        accepted += u32::from(same(tables, &Listing(text(random))).0 == 0);
+    }
+    assert!(accepted > 10_000 && accepted < 50_000, "{accepted} of {count} accepted");
+    let back = 300;
+    for _ in 0..back {
+        let listing = heard(tables, random);
+        assert_eq!(same(tables, &Listing(listing)).0, 0, "a listing of the listing call is read back");
+    }
+    // joined runs add up before rounding, and a shot and the same half a turn on cancel
+    for _ in 0..2000 {
+        let rows: Vec<_> = (0..random.below(SHOTS + 1)).map(|_| numbers(random, false)).collect();
+        let at = random.below(rows.len() + 1);
+        let [whole, first, second] = [&rows[..], &rows[..at], &rows[at..]].map(|rows| Listing(listing(&chain(rows)).into_bytes()).library());
+        assert_eq!(whole.2, [first.2[0] + second.2[0], first.2[1] + second.2[1]], "{rows:?} at {at}");
+        let (mm, step) = numbers(random, false);
+        let both = Listing(listing(&chain(&[(mm, step), (mm, (step + 32768) % 65536)])).into_bytes()).library();
+        assert_eq!(both, (0, 0, [0; 2], [0; 2]), "{mm} {step}");
+    }
+    format!("{count} listings, {accepted} accepted, {back} of the listing call")
+}
+
+/// The program as it is built, fed through pipes.
+pub fn program(tables: &Tables, random: &mut Random) -> String {
+    let expected = |text: &[u8]| match miss(tables, text) {
+        (0, _, _, [east, north]) => format!("EAST {east}\nNORTH {north}\n"),
+        (number, line, _, _) => format!("REFUSED {number} {line}\n"),
+    };
+    let mut texts: Vec<Vec<u8>> = written().into_iter().step_by(20).collect();
+    texts.extend((0..400).map(|_| text(random)));
+    for text in texts.iter().filter(|text| text.len() <= 65536) {
+        writes(&run(PROGRAM, text, text.len().max(1), Duration::ZERO), expected(text).as_bytes(), "", &format!("\"{}\"", text.escape_ascii()));
+    }
+    let longest = listing(&vec![format!("ABCDEFGHIJKL ABCDEFGHIJKL {FARTHEST} 65535\n"); SHOTS]);
+    let example = listing(&chain(&[(12356, 4527), (9011, 8)]));
+    for (text, piece, pause) in [(&longest, 4096, 1), (&example, 1, 1), (&example, 20, 50)] {
+        writes(&run(PROGRAM, text.as_bytes(), piece, Duration::from_millis(pause)), expected(text.as_bytes()).as_bytes(), "", "a slow pipe");
+    }
+    // as many bytes as are read, and one more
+    for (length, out, err) in [(65536, "REFUSED 6 3\n", ""), (65537, "", "misses: standard input has more than 65536 bytes\n")] {
+        let mut text = listing(&[]).into_bytes();
+        text.resize(length, b'x');
+        writes(&run(PROGRAM, &text, 4096, Duration::ZERO), out.as_bytes(), err, "a long text");
+    }
+    format!("the program misses on {} texts and {} failed reads and writes", texts.len() + 5, failures(PROGRAM, "misses", &example))
+}
