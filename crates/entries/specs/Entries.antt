@@ -57,10 +57,3 @@ abbrev pub tells : List ℕ → Entry → Said
 tells line (Shot s) = leg (partOf line (s .from)) (partOf line (s .to)) (s .distance) (s .bearing)
 tells line (End count) = last count
 tells line NoEntry = neither
-
--- "each starting at the station where the one before ended": names are compared byte by byte
-unfoldable pub same : List ℕ → List ℕ → Bool
-same [] [] = true
-same [] (y ∷ ys) = false
-same (x ∷ xs) [] = false
-same (x ∷ xs) (y ∷ ys) = eqb x y && same xs ys

@@ -9,7 +9,7 @@ ghost use mathlib.Core.Path.{_≡_};
 ghost use lib.ListN.{take};
 ghost use Rattle.text.specs.Forms.{fieldsAt};
 ghost use Rattle.forms.specs.Forms.{shotOf};
-ghost use Rattle.entries.specs.Entries.{isHeader, endOf, readEntry, tells, fromForm, same};
+ghost use Rattle.entries.specs.Entries.{isHeader, endOf, readEntry, tells, fromForm};
 
 // A line once read: a shot, the end with its count, or neither.
 pub enum Entry {
@@ -64,21 +64,4 @@ pub fn read_entry(line: &[u8]) -> Entry
         return end_entry(line, last);
     }
     Entry::NoEntry
-}
-
-// Whether two names are the same bytes.
-pub fn is_same(a: &[u8], b: &[u8]) -> bool
-    ensures { λ r. ⌜ r ≡ same (now (a .entry)) (now (b .entry)) ⌝ }
-{
-    if a.len() != b.len() {
-        return false;
-    }
-    let mut i = 0;
-    while i < a.len() {
-        if a[i] != b[i] {
-            return false;
-        }
-        i += 1;
-    }
-    true
 }

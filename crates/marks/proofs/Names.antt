@@ -13,7 +13,8 @@ use Rattle.text.specs.Limits.{nameLength}
 use Rattle.text.specs.Fields.{name, letterOrDigit, all}
 use Rattle.text.specs.Buffer.{written}
 use Rattle.marks.specs.declared.Label.{Label}
-use Rattle.marks.specs.Marks.{same, hasName, labelOf}
+use Rattle.text.proofs.SameBytes.{same-refl, same-bytes}
+use Rattle.marks.specs.Marks.{hasName, labelOf}
 
 -- both of two tests
 pub and-true : (s t : Bool) → s && t ≡ true → (s ≡ true) × (t ≡ true)
@@ -24,20 +25,6 @@ and-true false t e = absurd (false≢true e)
 pub not-passed : (t : Bool) → (t ≡ true → ⊥) → t ≡ false
 not-passed true h = absurd (h refl)
 not-passed false h = refl
-
-pub same-self : (l : List ℕ) → same l l ≡ true
-unfolding same
-same-self [] = refl
-same-self (x ∷ l) = rw (eq-eqb x x refl) (same-self l)
-
-pub same-equal : (a b : List ℕ) → same a b ≡ true → a ≡ b
-unfolding same
-same-equal [] [] e = refl
-same-equal [] (y ∷ b) e = absurd (false≢true e)
-same-equal (x ∷ a) [] e = absurd (false≢true e)
-same-equal (x ∷ a) (y ∷ b) e =
-    let (first, rest) = and-true (eqb x y) (same a b) e in
-    ap₂ (λ (h : ℕ) (t : List ℕ). h ∷ t) (eqb-true x y first) (same-equal a b rest)
 
 -- what a place with a name says of itself
 pub record Has (bytes : List ℕ) (label : Label) : Type 0 where
@@ -50,7 +37,7 @@ unfolding hasName
 has bytes label e =
     let (used, rest) = and-true (label .used) _ e in
     let (short, is) = and-true (leb (label .length) nameLength) _ rest in
-    record { used = used; short = leb-true _ _ short; is = same-equal _ _ is }
+    record { used = used; short = leb-true _ _ short; is = same-bytes _ _ is }
 
 -- "Names are 1 to 12 letters or digits"
 pub name-short : (bytes : List ℕ) → name bytes ≡ true → length bytes ≤ nameLength
@@ -66,7 +53,7 @@ own-name bytes short =
     let all-of-it : sets (replicate nameLength 0) 0 bytes ≡ bytes ++ drop (0 + length bytes) (replicate nameLength 0)
     = sets-eq bytes (replicate nameLength 0) 0 (omega (arith, short, zero-add (length bytes))) in
     rw (labelOf, written, min-eq-left short, le-leb (length bytes) nameLength short, all-of-it, take-append-seam bytes _)
-    (same-self bytes)
+    (same-refl bytes)
 
 -- and a place that has a name has no other;
 pub one-name : (x y : List ℕ) (label : Label) → (x ≡ y → ⊥) → hasName y label ≡ true → hasName x label ≡ false

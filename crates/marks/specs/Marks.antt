@@ -9,7 +9,7 @@ use Rattle.streams.specs.declared.Generator.{Generator}
 use Rattle.streams.specs.declared.RecordAnswer.{RecordAnswer}
 use Rattle.streams.specs.Streams.{recordNumber, openNumber, firstCause, ifAccepted, seedOf}
 use Rattle.text.specs.Limits.{nameLength}
-use Rattle.text.specs.Fields.{name}
+use Rattle.text.specs.Fields.{name, same}
 use Rattle.text.specs.Buffer.{written}
 use Rattle.marks.specs.declared.Label.{Label}
 use Rattle.marks.specs.declared.Marks.{Marks}
@@ -21,13 +21,6 @@ abbrev pub places : ℕ
 places = 16
 
 -- ---- Labels
-
--- two names are the same bytes
-unfoldable pub same : List ℕ → List ℕ → Bool
-same [] [] = true
-same [] (y ∷ b) = false
-same (x ∷ a) [] = false
-same (x ∷ a) (y ∷ b) = eqb x y && same a b
 
 -- The place is used, and its name is these bytes. A length above 12 is no name's.
 unfoldable pub hasName : List ℕ → Label → Bool

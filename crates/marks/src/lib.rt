@@ -4,7 +4,6 @@ ghost use Prim.Native.Nat.{_<_};
 ghost use mathlib.Core.Path.{_≡_};
 ghost use Rattle.marks.specs.Marks.{
   places,
-  same,
   hasName,
   isFree,
   labelOf,
@@ -29,6 +28,7 @@ use streams::RecordAnswer;
 use streams::first_cause;
 use text::buffer::put;
 use text::field::is_name;
+use text::field::is_same;
 use text::limits::NAME_LENGTH;
 
 // The places of a set.
@@ -60,23 +60,6 @@ pub struct Placed {
 }
 
 // ---- Labels
-
-// Whether two names are the same bytes.
-fn is_same(a: &[u8], b: &[u8]) -> bool
-    ensures { λ r. ⌜ r ≡ same (now (a .entry)) (now (b .entry)) ⌝ }
-{
-    if a.len() != b.len() {
-        return false;
-    }
-    let mut i = 0;
-    while i < a.len() {
-        if a[i] != b[i] {
-            return false;
-        }
-        i += 1;
-    }
-    true
-}
 
 // Whether a place is used and has the name.
 fn has_name(label: Label, name: &[u8]) -> bool

@@ -10,7 +10,8 @@ use borrow.Author.Tests.{lt-ltb, le-ltb, ltb-false, eq-eqb, ne-eqb, eqb-true}
 use Rattle.text.specs.Fields.{partOf}
 use Rattle.text.specs.Forms.{isEmpty}
 use Rattle.forms.specs.declared.Shot.{Shot as ShotFields}
-use Rattle.entries.specs.Entries.{leg, last, neither, same}
+use Rattle.text.specs.Fields.{same}
+use Rattle.entries.specs.Entries.{leg, last, neither}
 use Rattle.misclosure.specs.Misclosure.{lastLine, mostStep, beyond, follows, refusal}
 use Rattle.sums.specs.Sums.{mostDistance}
 use Rattle.misclosure.specs.Private.{Ranged, limitNumber, stationNumber, Moved, Takes, shotSaid}

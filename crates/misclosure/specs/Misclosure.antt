@@ -7,7 +7,8 @@ use lib.IntN.{pos}
 use Rattle.text.specs.Scan.{lines}
 use Rattle.text.specs.Forms.{isEmpty}
 use Rattle.rows.specs.Rounding.{turnSteps}
-use Rattle.entries.specs.Entries.{isHeader, Said, leg, last, neither, readEntry, same}
+use Rattle.text.specs.Fields.{same}
+use Rattle.entries.specs.Entries.{isHeader, Said, leg, last, neither, readEntry}
 use Rattle.sums.specs.Sums.{Shot, sine, cosine, total, rounded, mostShots, mostDistance}
 use Rattle.misclosure.specs.declared.Miss.{Miss}
 

@@ -1,7 +1,7 @@
 -- Names and numerals (document 01, "A job and its listing"): their printers and their readers, over lists of bytes.
 use Prim.Native.Nat.{ℕ, zero, suc, _+_, _-_, _*_, _/_, _%_}
 use mathlib.Core.Path.{_≡_}
-use mathlib.Core.Bool.{Bool, true, cond, not, _&&_, _||_}
+use mathlib.Core.Bool.{Bool, true, false, cond, not, _&&_, _||_}
 use mathlib.Core.List.{List, [], _∷_, _++_}
 use lib.Dec.{leb, ltb, eqb}
 use lib.ListN.{length, getD, take, drop}
@@ -71,3 +71,10 @@ pub record SpellThree (x y z : List ℕ) (r : Three) : Type 0 where
   pub first : r .first ≡ cond (numeral x) (value 0 x) 0
   pub second : r .second ≡ cond (numeral y) (value 0 y) 0
   pub third : r .third ≡ cond (numeral z) (value 0 z) 0
+
+-- two names are the same bytes
+unfoldable pub same : List ℕ → List ℕ → Bool
+same [] [] = true
+same [] (y ∷ b) = false
+same (x ∷ a) [] = false
+same (x ∷ a) (y ∷ b) = eqb x y && same a b

@@ -6,7 +6,7 @@ ghost use mathlib.Core.Path.{_≡_};
 ghost use mathlib.Core.Bool.{_&&_};
 ghost use lib.ListN.{length};
 ghost use Rattle.text.specs.Limits.{numeralLength};
-ghost use Rattle.text.specs.Fields.{within, all, digit, letterOrDigit, name, numeral, fewDigits, partOf, Spells, SpellThree};
+ghost use Rattle.text.specs.Fields.{within, all, digit, letterOrDigit, name, same, numeral, fewDigits, partOf, Spells, SpellThree};
 
 // Where a field stands in its line.
 pub struct Place {
@@ -189,4 +189,21 @@ pub fn three_at(line: &[u8], first: Place, second: Place, third: Place) -> Three
         second: y.value,
         third: z.value,
     }
+}
+
+// Whether two names are the same bytes.
+pub fn is_same(a: &[u8], b: &[u8]) -> bool
+    ensures { λ r. ⌜ r ≡ same (now (a .entry)) (now (b .entry)) ⌝ }
+{
+    if a.len() != b.len() {
+        return false;
+    }
+    let mut i = 0;
+    while i < a.len() {
+        if a[i] != b[i] {
+            return false;
+        }
+        i += 1;
+    }
+    true
 }

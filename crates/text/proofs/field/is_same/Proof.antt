@@ -3,9 +3,9 @@ use Prim.Native.Nat.{_-_}
 use mathlib.Core.Path.{refl}
 use lib.ListN.{length}
 use borrow.Author.Needs.{needs}
-use Rattle.entries.proofs.SameBytes.{SameSoFar, same-lengths, same-on, same-off, same-end}
-use Rattle.entries.proofs.is_same.Statement.{statement}
-use Rattle.entries.proofs.is_same.Tie as tie
+use Rattle.text.proofs.SameBytes.{SameSoFar, same-lengths, same-on, same-off, same-end}
+use Rattle.text.proofs.field.is_same.Statement.{statement}
+use Rattle.text.proofs.field.is_same.Tie as tie
 
 abbrev Inv-loop : tie.InvT-loop
 Inv-loop a b i₀ i = SameSoFar a b i

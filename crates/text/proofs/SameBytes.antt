@@ -7,8 +7,8 @@ use mathlib.Core.List.{List, [], _∷_}
 use lib.Dec.{eqb}
 use lib.ListN.{length, getD, drop, drop-of-length-le}
 use borrow.Author.Tests.{eq-eqb, ne-eqb, eqb-true}
+use Rattle.text.specs.Fields.{same}
 use Rattle.text.proofs.Scan.{ahead}
-use Rattle.entries.specs.Entries.{same}
 
 pub same-refl : (a : List ℕ) → same a a ≡ true
 unfolding same
