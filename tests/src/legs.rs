@@ -2,15 +2,13 @@
 use crate::cases::{same, Case};
 use crate::job::{self, ROOM, SHOTS};
 use crate::library::Lent;
+use crate::program::{failures, run, writes};
 use crate::random::Random;
 use crate::sample::Tables;
 use crate::survex;
 use std::collections::HashMap;
 use std::fmt;
-use std::fs::File;
-use std::io::Write;
-use std::process::{Command, Output, Stdio};
-use std::thread::sleep;
+use std::process::{Command, Output};
 use std::time::Duration;
 
 extern "C" {
@@ -276,32 +274,8 @@ fn listing(tables: &Tables, shots: &[u8]) -> String {
     String::from_utf8(listing).unwrap()
 }
 
-fn command() -> Command {
-    let mut command = Command::new(PROGRAM);
-    command.stdin(Stdio::piped()).stdout(Stdio::piped()).stderr(Stdio::piped());
-    command
-}
-
-fn run(text: &[u8], piece: usize, pause: Duration) -> Output {
-    let mut child = command().spawn().expect("target/bin/legs is built");
-    let mut input = child.stdin.take().unwrap();
-    for part in text.chunks(piece) {
-        if input.write_all(part).is_err() {
-            break;
-        }
-        sleep(pause);
-    }
-    drop(input);
-    child.wait_with_output().unwrap()
-}
-
-fn writes(output: &Output, stdout: &[u8], stderr: &str, what: &str) {
-    assert_eq!(output.stdout.escape_ascii().to_string(), stdout.escape_ascii().to_string(), "standard output of {what}");
-    assert_eq!(
-        output.stderr.escape_ascii().to_string(),
-        stderr.as_bytes().escape_ascii().to_string(),
-        "standard error of {what}"
-    );
+fn at_once(text: &[u8]) -> Output {
+    run(PROGRAM, text, text.len().max(1), Duration::ZERO)
 }
 
 pub fn program(tables: &Tables, random: &mut Random) -> String {
@@ -316,37 +290,23 @@ pub fn program(tables: &Tables, random: &mut Random) -> String {
     texts.push(format!("{DATA}{}", "a b 9 9 0\n".repeat((MOST - DATA.len()) / 10)).into_bytes());
     texts.push([b" ".repeat(MOST - 1), b"\n".to_vec()].concat());
     for text in &texts {
-        writes(&run(text, text.len().max(1), Duration::ZERO), &expected(text), "", &format!("\"{}\"", text.escape_ascii()));
+        writes(&at_once(text), &expected(text), "", &format!("\"{}\"", text.escape_ascii()));
     }
     for (piece, pause) in [(1, 1), (30, 20)] {
         let text = survey(random, 12);
-        writes(&run(text.as_bytes(), piece, Duration::from_millis(pause)), &expected(text.as_bytes()), "", "a slow pipe");
+        writes(&run(PROGRAM, text.as_bytes(), piece, Duration::from_millis(pause)), &expected(text.as_bytes()), "", "a slow pipe");
     }
     let sentence = format!("legs: the text has more than {MOST} bytes\n");
     for more in [1, 5000, 1_000_000] {
         let text = [DATA.as_bytes(), &b"\n".repeat(MOST - DATA.len() + more)].concat();
-        writes(&run(&text, 4096, Duration::ZERO), b"", &sentence, "a text that is too long");
+        writes(&run(PROGRAM, &text, 4096, Duration::ZERO), b"", &sentence, "a text that is too long");
     }
     let example = std::fs::read(concat!(env!("CARGO_MANIFEST_DIR"), "/../examples/streamway.svx")).unwrap();
-    let shots = run(&example, example.len(), Duration::ZERO);
+    let shots = at_once(&example);
     writes(&shots, &expected(&example), "", "the example cave");
     assert!(listing(tables, &shots.stdout).lines().count() > 10, "the example cave has shots");
-
-    let reading = "legs: reading standard input: ";
-    let writing = "legs: writing standard output: ";
-    let from_directory = command().stdin(File::open("/").unwrap()).output().unwrap();
-    writes(&from_directory, b"", &format!("{reading}Is a directory\n"), "a directory as input");
-    let closed = Command::new("sh").args(["-c", "exec \"$0\" <&-", PROGRAM]).output().unwrap();
-    writes(&closed, b"", &format!("{reading}Bad file descriptor\n"), "a closed input");
-    let full = Command::new("sh").args(["-c", "printf x | \"$0\" >/dev/full", PROGRAM]).output().unwrap();
-    writes(&full, b"", &format!("{writing}No space left on device\n"), "a full device");
-    let broken = ["-c", "trap '' PIPE; sleep 0.2; exec \"$0\"", PROGRAM];
-    let mut child =
-        Command::new("sh").args(broken).stdin(Stdio::piped()).stdout(Stdio::piped()).stderr(Stdio::piped()).spawn().unwrap();
-    drop(child.stdout.take());
-    child.stdin.take().unwrap().write_all(DATA.as_bytes()).unwrap();
-    writes(&child.wait_with_output().unwrap(), b"", "", "a broken pipe that gets nothing to write");
-    format!("the program legs on {} texts and 4 failed reads and writes", texts.len() + 6)
+    let failed = failures(PROGRAM, "legs", &format!("{DATA}A1 A2 12.5 90 0\n"));
+    format!("the program legs on {} texts and {failed} failed reads and writes", texts.len() + 6)
 }
 
 /// The station positions that Survex's `cavern` and `survexport` give, by name in lower case; None where it refuses.
