@@ -83,7 +83,7 @@ fn sigma_line(line: &[u8], c: Found) -> Line
 }
 
 // The shot that four fields give.
-pub fn shot_line(line: &[u8], c: Found) -> Line
+fn shot_line(line: &[u8], c: Found) -> Line
     ensures { λ r. ⌜ said (now (line .entry)) r ≡ shotOf (fieldsAt (now (line .entry)) (take 4 (c .places))) ⌝ }
 {
     let places = c.places;

@@ -1,10 +1,11 @@
--- Two numbers that fit a width read back from lent memory as themselves.
+-- Numbers that fit a width read back from lent memory as themselves.
 use mathlib.Core.Path.{_≡_, ap₂}
-use mathlib.Core.List.{[], _∷_}
+use mathlib.Core.List.{List, _∷_}
 use lib.IntN.{ℤ}
 use mir.Syntax.{Width}
 use mir.Val.{SFits, toZ, ofZ}
 use mir.Facts.{toZ-ofZ}
 
-pub stored : {w : Width} {x y : ℤ} → SFits w x → SFits w y → toZ w (ofZ w x) ∷ toZ w (ofZ w y) ∷ [] ≡ x ∷ y ∷ []
-stored {w} p q = ap₂ (λ (u v : ℤ). u ∷ v ∷ []) (toZ-ofZ {w = w} p) (toZ-ofZ {w = w} q)
+-- two before others
+pub stored : {w : Width} {x y : ℤ} {l m : List ℤ} → SFits w x → SFits w y → l ≡ m → toZ w (ofZ w x) ∷ toZ w (ofZ w y) ∷ l ≡ x ∷ y ∷ m
+stored {w} p q e = ap₂ (λ (u : ℤ) (v : List ℤ). u ∷ v) (toZ-ofZ {w = w} p) (ap₂ (λ (u : ℤ) (v : List ℤ). u ∷ v) (toZ-ofZ {w = w} q) e)

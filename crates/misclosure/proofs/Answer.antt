@@ -1,46 +1,84 @@
--- The answer: the sums of a listing, and each rounded once.
+-- The answers: the sums of a listing, and each rounded once.
 use native.Mathlib.Omega.{arith}
-use Prim.Native.Nat.{_^_, _<_}
-use mathlib.Core.Path.{_≡_, refl, ap, _∙_}
-use lib.IntN.{ℤ, natAbs}
-use Rattle.sums.specs.Sums.{rounded}
-use Rattle.sums.proofs.Parts.{rounded-size}
-use Rattle.misclosure.specs.Misclosure.{Outcome, refused, accepted, missOf}
+use Prim.Native.Nat.{ℕ}
+use mathlib.Core.Path.{_≡_, refl, ap, ap₂, _∙_}
+use mathlib.Core.Bool.{false}
+use mathlib.Core.List.{List}
+use lib.IntN.{ℤ}
+use Rattle.sums.specs.Sums.{sine, cosine, rounded}
+use Rattle.sums.proofs.Choices.{level-sums}
+use Rattle.misclosure.specs.Misclosure.{Outcome, refused, accepted, listingOf, missOf, roundedEnds, intervalsOf}
 use Rattle.misclosure.specs.Private.{sumsOf, SmallSums}
+use Rattle.misclosure.specs.Theorems.{level}
 use Rattle.misclosure.specs.declared.Miss.{Miss}
+use Rattle.misclosure.specs.declared.IntervalSums.{IntervalSums}
+use Rattle.misclosure.specs.declared.Ends.{Ends}
 use Rattle.misclosure.specs.declared.walk.Sums.{Sums}
-use Rattle.misclosure.proofs.Machine.{again, reads}
+use Rattle.misclosure.proofs.Machine.{again, reads, rounded-reads}
+use Rattle.misclosure.proofs.Listings.{accepted-level}
 
--- sums with each rounded
+-- low sums with each rounded
 abbrev answer : Sums → Miss
 answer r = record {
   number = r .number;
   line = r .line;
-  east = r .east;
-  north = r .north;
-  easting = rounded (r .east);
-  northing = rounded (r .north);
+  east = r .east .low;
+  north = r .north .low;
+  easting = rounded (r .east .low);
+  northing = rounded (r .north .low);
 }
 
-rounded-all : (o : Outcome) → answer (sumsOf o) ≡ missOf o
+-- both ends with each rounded
+abbrev answers : Sums → IntervalSums
+answers r = record {
+  number = r .number;
+  line = r .line;
+  east = r .east;
+  north = r .north;
+  easting = roundedEnds (r .east);
+  northing = roundedEnds (r .north);
+}
+
+-- where low equals high throughout, the low sums are those of the only choice
+low-answer : (text : List ℕ) (o : Outcome) → listingOf false text ≡ o → answer (sumsOf o) ≡ missOf o
 unfolding missOf
-rounded-all (refused number line) = refl
-rounded-all (accepted l) = refl
+low-answer text (refused number line) e = refl
+low-answer text (accepted l) e =
+    let h = accepted-level text l e in
+    ap₂ (λ (x y : ℤ). record { number = 0; line = 0; east = x; north = y; easting = rounded x; northing = rounded y })
+    (level-sums sine l h .0) (level-sums cosine l h .0)
 
--- a rounded sum, as it is put into the answer
-rounded-reads : (a z : ℤ) → natAbs z < 2 ^ 62 → a ≡ rounded (again z) → again a ≡ rounded z
-rounded-reads a z h e =
-    let k : a ≡ rounded z = e ∙ ap rounded (reads z (omega arith)) in
-    ap again k ∙ reads (rounded z) (omega (arith, rounded-size z))
+all-answers : (o : Outcome) → answers (sumsOf o) ≡ intervalsOf o
+unfolding intervalsOf
+all-answers (refused number line) = refl
+all-answers (accepted l) = refl
 
-pub miss-is : (o : Outcome) (r : Sums) (a b : ℤ) → r ≡ sumsOf o → SmallSums r → a ≡ rounded (again (r .east)) → b ≡ rounded (again (r .north))
-    → _≡_ {A = Miss} (record { number = r .number; line = r .line; east = again (r .east); north = again (r .north); easting = again a; northing = again b })
-    (missOf o)
-miss-is o r a b e small east north =
+-- and both ends are
+pub level-answer : (text : List ℕ) → intervalsOf (listingOf false text) ≡ level (missOf (listingOf false text))
+unfolding missOf intervalsOf
+level-answer text = go (listingOf false text) refl
+  where
+    go : (o : Outcome) → listingOf false text ≡ o → intervalsOf o ≡ level (missOf o)
+    go (refused number line) e = refl
+    go (accepted l) e =
+        let h = accepted-level text l e in
+        let (a, b) = level-sums sine l h in
+        let (c, d) = level-sums cosine l h in
+        rw (a, b, c, d) refl
+
+pub miss-is : (text : List ℕ) (r : Sums) (a b : ℤ) → r ≡ sumsOf (listingOf false text) → SmallSums r → a ≡ rounded (again (r .east .low))
+    → b ≡ rounded (again (r .north .low))
+    → _≡_ {A = Miss} (record { number = r .number; line = r .line; east = again (r .east .low); north = again (r .north .low); easting = again a; northing = again b })
+    (missOf (listingOf false text))
+miss-is text r a b e small east north =
     rw (
-      rounded-reads a (r .east) (small .east) east,
-      rounded-reads b (r .north) (small .north) north,
-      reads (r .east) (omega (arith, small .east)),
-      reads (r .north) (omega (arith, small .north)),
+      rounded-reads a (r .east .low) (small .east .0) east,
+      rounded-reads b (r .north .low) (small .north .0) north,
+      reads (r .east .low) (omega (arith, small .east)),
+      reads (r .north .low) (omega (arith, small .north)),
     )
-    (ap answer e ∙ rounded-all o)
+    (ap answer e ∙ low-answer text (listingOf false text) refl)
+
+pub intervals-are : (o : Outcome) (r : Sums) (a b : Ends) → r ≡ sumsOf o → a ≡ roundedEnds (r .east) → b ≡ roundedEnds (r .north)
+    → _≡_ {A = IntervalSums} (record { number = r .number; line = r .line; east = r .east; north = r .north; easting = a; northing = b }) (intervalsOf o)
+intervals-are o r a b e east north = rw (east, north) (ap answers e ∙ all-answers o)

@@ -1,7 +1,7 @@
 pub mod Machine
 pub mod Lines
 pub mod Going
-pub mod Answer
 pub mod Listings
+pub mod Answer
 pub mod ReadBack
 pub mod Theorems

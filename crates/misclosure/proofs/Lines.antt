@@ -9,12 +9,12 @@ use lib.ListN.{length}
 use borrow.Author.Tests.{lt-ltb, le-ltb, ltb-false, eq-eqb, ne-eqb, eqb-true}
 use Rattle.text.specs.Fields.{partOf}
 use Rattle.text.specs.Forms.{isEmpty}
-use Rattle.forms.specs.declared.Shot.{Shot as ShotFields}
 use Rattle.text.specs.Fields.{same}
 use Rattle.entries.specs.Entries.{leg, last, neither}
+use Rattle.entries.specs.declared.Span.{Span as SpanFields}
 use Rattle.misclosure.specs.Misclosure.{lastLine, mostStep, beyond, follows, refusal}
 use Rattle.sums.specs.Sums.{mostDistance}
-use Rattle.misclosure.specs.Private.{Ranged, limitNumber, stationNumber, Moved, Takes, shotSaid}
+use Rattle.misclosure.specs.Private.{Limited, limitNumber, orderNumber, stationNumber, Moved, Takes, shotSaid}
 use Rattle.misclosure.specs.declared.entry.State.{State}
 
 pub follows-none : (station from : List ℕ) → length station ≡ 0 → follows station from ≡ true
@@ -28,30 +28,42 @@ follows-some [] from h = absurd (h refl)
 follows-some (x ∷ station) from h = refl
 
 -- a shot beyond one of its limits, or within them all
-module _ (k mm step : ℕ) where
-  pub too-many : lastLine < k → beyond k mm step ≡ true
+module _ (k low high step : ℕ) where
+  pub too-many : lastLine < k → beyond k low high step ≡ true
   unfolding beyond
   too-many h = rw (lt-ltb lastLine k h)
 
-  pub too-far : k ≤ lastLine → mostDistance < mm → beyond k mm step ≡ true
+  pub low-far : k ≤ lastLine → mostDistance < low → beyond k low high step ≡ true
   unfolding beyond
-  too-far h e = rw (le-ltb lastLine k h, lt-ltb mostDistance mm e)
+  low-far h e = rw (le-ltb lastLine k h, lt-ltb mostDistance low e)
 
-  pub too-wide : k ≤ lastLine → mm ≤ mostDistance → mostStep < step → beyond k mm step ≡ true
+  pub high-far : k ≤ lastLine → low ≤ mostDistance → mostDistance < high → beyond k low high step ≡ true
   unfolding beyond
-  too-wide h e f = rw (le-ltb lastLine k h, le-ltb mostDistance mm e, lt-ltb mostStep step f)
+  high-far h d e = rw (le-ltb lastLine k h, le-ltb mostDistance low d, lt-ltb mostDistance high e)
 
-  pub in-range : k ≤ lastLine → mm ≤ mostDistance → step ≤ mostStep → beyond k mm step ≡ false
+  pub too-wide : k ≤ lastLine → low ≤ mostDistance → high ≤ mostDistance → mostStep < step → beyond k low high step ≡ true
   unfolding beyond
-  in-range h e f = rw (le-ltb lastLine k h, le-ltb mostDistance mm e, le-ltb mostStep step f)
+  too-wide h d e f = rw (le-ltb lastLine k h, le-ltb mostDistance low d, le-ltb mostDistance high e, lt-ltb mostStep step f)
 
-  pub limits-kept : k ≤ lastLine → mm ≤ mostDistance → step ≤ mostStep → 0 ≡ limitNumber k mm step
+  pub in-range : k ≤ lastLine → low ≤ mostDistance → high ≤ mostDistance → step ≤ mostStep → beyond k low high step ≡ false
+  unfolding beyond
+  in-range h d e f = rw (le-ltb lastLine k h, le-ltb mostDistance low d, le-ltb mostDistance high e, le-ltb mostStep step f)
+
+  pub limits-kept : k ≤ lastLine → low ≤ mostDistance → high ≤ mostDistance → step ≤ mostStep → 0 ≡ limitNumber k low high step
   unfolding limitNumber
-  limits-kept h e f = rw (in-range h e f)
+  limits-kept h d e f = rw (in-range h d e f)
 
-  pub limit-passed : beyond k mm step ≡ true → 24 ≡ limitNumber k mm step
+  pub limit-passed : beyond k low high step ≡ true → 24 ≡ limitNumber k low high step
   unfolding limitNumber
   limit-passed e = rw e
+
+pub order-0 : (low high : ℕ) → low ≤ high → 0 ≡ orderNumber low high
+unfolding orderNumber
+order-0 low high h = rw (le-ltb high low h)
+
+pub order-25 : (low high : ℕ) → high < low → 25 ≡ orderNumber low high
+unfolding orderNumber
+order-25 low high h = rw (lt-ltb high low h)
 
 pub station-0 : (station from : List ℕ) → follows station from ≡ true → 0 ≡ stationNumber station from
 unfolding stationNumber
@@ -62,35 +74,42 @@ unfolding stationNumber
 station-23 station from e = rw e
 
 -- the number of a shot: its first cause
-pub leg-number : (k : ℕ) (station from to : List ℕ) (mm step : ℕ)
-    → cond (eqb (limitNumber k mm step) 0) (stationNumber station from) (limitNumber k mm step) ≡ refusal k station (leg from to mm step)
-unfolding refusal limitNumber stationNumber
-leg-number k station from to mm step = go (beyond k mm step)
-  where
-    go : (b : Bool) → _≡_ {A = ℕ} (cond (eqb (cond b 24 0) 0) (cond (follows station from) 0 23) (cond b 24 0)) (cond b 24 (cond (follows station from) 0 23))
-    go true = refl
-    go false = refl
+module _ (k : ℕ) (station from to : List ℕ) (low high step : ℕ) where
+  pub leg-number : cond (eqb (limitNumber k low high step) 0)
+      (cond (eqb (orderNumber low high) 0) (stationNumber station from) (orderNumber low high))
+      (limitNumber k low high step)
+      ≡ refusal k station (leg from to low high step)
+  unfolding refusal limitNumber orderNumber stationNumber
+  leg-number = go (beyond k low high step) (ltb high low)
+    where
+      go : (b c : Bool) → _≡_ {A = ℕ} (cond (eqb (cond b 24 0) 0) (cond (eqb (cond c 25 0) 0) (cond (follows station from) 0 23) (cond c 25 0)) (cond b 24 0))
+          (cond b 24 (cond c 25 (cond (follows station from) 0 23)))
+      go true c = refl
+      go false true = refl
+      go false false = refl
 
--- the number of a shot that is accepted, of the end and of any other line
-module _ (k : ℕ) (station from to : List ℕ) (mm step : ℕ) where
-  pub leg-0 : beyond k mm step ≡ false → follows station from ≡ true → refusal k station (leg from to mm step) ≡ 0
+  pub leg-0 : beyond k low high step ≡ false → low ≤ high → follows station from ≡ true → refusal k station (leg from to low high step) ≡ 0
   unfolding refusal
-  leg-0 e f = rw (e, f)
+  leg-0 e h f = rw (e, le-ltb high low h, f)
 
--- an accepted shot is within its limits and follows the one before
-pub leg-within : (k : ℕ) (station from to : List ℕ) (mm step : ℕ) → refusal k station (leg from to mm step) ≡ 0
-    → (k ≤ lastLine) × (mm ≤ mostDistance) × (step ≤ mostStep) × (follows station from ≡ true)
-unfolding refusal beyond
-leg-within k station from to mm step h =
-    go (ltb lastLine k) refl (ltb mostDistance mm) refl (ltb mostStep step) refl (follows station from) refl h
-  where
-    go : (a : Bool) → ltb lastLine k ≡ a → (b : Bool) → ltb mostDistance mm ≡ b → (c : Bool) → ltb mostStep step ≡ c → (d : Bool) → follows station from ≡ d
-        → _≡_ {A = ℕ} (cond (a || (b || c)) 24 (cond d 0 23)) 0 → (k ≤ lastLine) × (mm ≤ mostDistance) × (step ≤ mostStep) × (d ≡ true)
-    go true p b q c r d t h = absurd (omega (arith, h))
-    go false p true q c r d t h = absurd (omega (arith, h))
-    go false p false q true r d t h = absurd (omega (arith, h))
-    go false p false q false r false t h = absurd (omega (arith, h))
-    go false p false q false r true t h = (ltb-false lastLine k p, ltb-false mostDistance mm q, ltb-false mostStep step r, refl)
+  -- an accepted shot is within its limits, its readings are in order, and it follows the one before
+  pub leg-within : refusal k station (leg from to low high step) ≡ 0
+      → (k ≤ lastLine) × (high ≤ mostDistance) × (step ≤ mostStep) × (low ≤ high) × (follows station from ≡ true)
+  unfolding refusal beyond
+  leg-within h =
+      go (ltb lastLine k) refl (ltb mostDistance low) (ltb mostDistance high) refl (ltb mostStep step) refl (ltb high low) refl (follows station from) refl h
+    where
+      go : (a : Bool) → ltb lastLine k ≡ a → (z b : Bool) → ltb mostDistance high ≡ b → (c : Bool) → ltb mostStep step ≡ c → (o : Bool) → ltb high low ≡ o
+          → (d : Bool) → follows station from ≡ d → _≡_ {A = ℕ} (cond (a || (z || (b || c))) 24 (cond o 25 (cond d 0 23))) 0
+          → (k ≤ lastLine) × (high ≤ mostDistance) × (step ≤ mostStep) × (low ≤ high) × (d ≡ true)
+      go true p z b q c r o u d t h = absurd (omega (arith, h))
+      go false p true b q c r o u d t h = absurd (omega (arith, h))
+      go false p false true q c r o u d t h = absurd (omega (arith, h))
+      go false p false false q true r o u d t h = absurd (omega (arith, h))
+      go false p false false q false r true u d t h = absurd (omega (arith, h))
+      go false p false false q false r false u false t h = absurd (omega (arith, h))
+      go false p false false q false r false u true t h =
+          (ltb-false lastLine k p, ltb-false mostDistance high q, ltb-false mostStep step r, ltb-false high low u, refl)
 
 -- an accepted end has the true count
 pub last-count : (k : ℕ) (station : List ℕ) (count : ℕ) → refusal k station (last count) ≡ 0 → count ≡ k - 2
@@ -125,18 +144,19 @@ module _ (station row : List ℕ) (s : State) where
   takes-neither t = record { number = sym (neither-6 (s .line) station); ended = refl; next = λ z. tt }
 
   -- a shot whose number was worked out on the parts of two lines
-  module _ (x : ShotFields) (t : State) {number limit place : ℕ} {a b : List ℕ} (n : number ≡ cond (eqb limit 0) place limit)
-      (l : limit ≡ limitNumber (s .line) (x .distance) (x .bearing)) (p : place ≡ stationNumber a b) (here : a ≡ station) (there : b ≡ partOf row (x .from)) where
+  module _ (x : SpanFields) (t : State) {number first limit order place : ℕ} {a b : List ℕ} (n : number ≡ cond (eqb limit 0) first limit)
+      (f : first ≡ cond (eqb order 0) place order) (l : limit ≡ limitNumber (s .line) (x .low) (x .high) (x .step)) (o : order ≡ orderNumber (x .low) (x .high))
+      (p : place ≡ stationNumber a b) (here : a ≡ station) (there : b ≡ partOf row (x .from)) where
     shot-number : number ≡ refusal (s .line) station (shotSaid row x)
-    shot-number = rw (n, l, p, here, there) (leg-number (s .line) station (partOf row (x .from)) (partOf row (x .to)) (x .distance) (x .bearing))
+    shot-number = rw (n, f, l, o, p, here, there) (leg-number (s .line) station (partOf row (x .from)) (partOf row (x .to)) (x .low) (x .high) (x .step))
 
     pub takes-refused : (number ≡ 0 → ⊥) → Takes station row s (shotSaid row x) (record { number = number; ended = false; next = t })
     takes-refused z = record { number = shot-number; ended = refl; next = λ e. absurd (z e) }
 
-    pub shot-ranged : number ≡ 0 → Ranged (s .line) x
-    shot-ranged z =
-        let (few, far, turn, next) = leg-within (s .line) station (partOf row (x .from)) (partOf row (x .to)) (x .distance) (x .bearing) (sym shot-number ∙ z) in
-        record { few = few; distance = far; step = turn }
+    pub shot-limited : number ≡ 0 → Limited (s .line) x
+    shot-limited z =
+        let (few, far, turn, order, next) = leg-within (s .line) station (partOf row (x .from)) (partOf row (x .to)) (x .low) (x .high) (x .step) (sym shot-number ∙ z) in
+        record { few = few; low = omega (arith, far, order); high = far; step = turn }
 
     pub takes-shot : number ≡ 0 → Moved x s t → Takes station row s (shotSaid row x) (record { number = 0; ended = false; next = t })
     takes-shot z m = record {

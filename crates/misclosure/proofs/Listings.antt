@@ -1,93 +1,130 @@
 -- Listings as lists of rows: they are accepted just where the rows are linked.
-use Prim.Native.Nat.{ℕ, suc, _+_, _-_, _*_, _≤_}
+use Prim.Native.Nat.{ℕ, suc, _+_, _-_, _*_, _≤_, _<_}
 use native.Mathlib.Omega.{arith}
+use native.Mathlib.Nat.{mul-le-mul-left}
 use mathlib.Core.Path.{_≡_, refl, sym, ap, ap₂, subst, _∙_}
 use mathlib.Core.Bool.{Bool, true, false, cond}
 use mathlib.Core.List.{List, [], _∷_, _++_, append-assoc, append-nil}
 use lib.Dec.{eqb}
 use lib.ListN.{length, length-append}
 use borrow.Author.Tests.{eqb-true, eqb-false}
-use Rattle.text.specs.Fields.{name}
+use Rattle.text.specs.Limits.{numeralBound}
+use Rattle.text.specs.Fields.{name, decimal}
 use Rattle.text.specs.Scan.{lines}
-use Rattle.text.specs.Forms.{isEmpty}
+use Rattle.text.specs.Forms.{isEmpty, printForm}
 use Rattle.text.specs.Theorems.{join}
 use Rattle.text.proofs.Split.{join-lines}
 use Rattle.text.proofs.Decimal.{decimal-length}
 use Rattle.text.proofs.Plain.{name-length}
-use Rattle.rows.specs.Listing.{header, shotRow, endRow}
-use Rattle.rows.proofs.Rows.{header-length, row-length, end-length}
-use Rattle.sums.specs.Sums.{Shot, mostShots, mostDistance, Bounded, Allowed}
-use Rattle.entries.specs.Entries.{isHeader, Said, leg, last, neither, readEntry}
-use Rattle.entries.proofs.RoundTrip.{row-line, row-read, end-line, end-read, header-line, header-read, header-is, Printed, entry-printed}
-use Rattle.misclosure.specs.Misclosure.{lastLine, mostStep, follows, refusal, Outcome, refused, accepted, onto, none, stationAfter, onward, outcome, headed, listingOf}
-use Rattle.misclosure.specs.Theorems.{Row, shotIn, shotsIn, rowsText, textOf, Linked, longestListing}
+use Rattle.rows.specs.Listing.{endRow}
+use Rattle.rows.proofs.Rows.{row-length, end-length}
+use Rattle.sums.specs.Sums.{Shot, mostShots, mostDistance}
+use Rattle.sums.specs.Spans.{Span, Chosen, lowShots, Ranged, Level}
+use Rattle.entries.specs.Entries.{headerOf, isHeader, rowForm, Said, leg, last, neither, endOf, readEntry, rowOf}
+use Rattle.entries.proofs.RoundTrip.{Alike, row-line, row-read, end-line, end-said, end-read, header-line, header-lengths, header-read, header-is, Printed, entry-printed}
+use Rattle.misclosure.specs.Misclosure.{
+  lastLine,
+  mostStep,
+  follows,
+  refusal,
+  Outcome,
+  refused,
+  accepted,
+  onto,
+  none,
+  stationAfter,
+  onward,
+  outcome,
+  headed,
+  listingOf,
+}
+use Rattle.misclosure.specs.Theorems.{Row, Ordered, spanIn, spansIn, rowText, rowsText, textOf, Linked, LevelRows, chosenRows, longestRow, longestListing}
 use Rattle.misclosure.proofs.Lines.{in-range, leg-0, last-0, leg-within, last-count}
 use Rattle.misclosure.proofs.Going.{outcome-yes, outcome-no}
 
 -- ---- from rows to a listing
 
--- an accepted shot, and an accepted end
-pub outcome-leg : (k : ℕ) (station f t : List ℕ) (m s : ℕ) (rest : List ℕ) → name f ≡ true → name t ≡ true → k ≤ lastLine → m ≤ mostDistance → s ≤ mostStep
-    → follows station f ≡ true → outcome k station (lines (shotRow f t m s ++ rest)) ≡ onto (record { distance = m; step = s }) (outcome (k + 1) t (lines rest))
-outcome-leg k station f t m s rest hf ht few far turn next =
-    let e = row-read f t m s hf ht (omega arith) (omega arith) in
-    ap (outcome k station) (row-line f t m s hf ht rest)
-    ∙ outcome-yes k station (shotRow f t m s) (lines rest) (ap (refusal k station) e ∙ leg-0 k station f t m s (in-range k m s few far turn) next)
-    ∙ ap (λ (x : Said). onward k x (lines rest) (outcome (k + 1) (stationAfter x) (lines rest))) e
+-- one distance is both, two are in order
+ordered-alike : (b : Bool) (low high : ℕ) → Ordered b low high → Alike b low high × (low ≤ high)
+ordered-alike true low high h = (tt, h)
+ordered-alike false low high h = (h, omega (arith, h))
 
-pub outcome-end : (k : ℕ) (station : List ℕ) (n : ℕ) → k ≤ lastLine + 1 → n ≡ k - 2 → outcome k station (lines (endRow n)) ≡ accepted []
+alike-ordered : (b : Bool) (low high : ℕ) → Alike b low high → low ≤ high → Ordered b low high
+alike-ordered true low high a h = h
+alike-ordered false low high a h = a
+
+-- a shot whose row is printed, an accepted shot, and an accepted end
+pub outcome-row : (b : Bool) (k : ℕ) (station f t : List ℕ) (m n s : ℕ) (rest : List ℕ) → name f ≡ true → name t ≡ true → m < numeralBound → n < numeralBound
+    → s < numeralBound → Alike b m n → outcome b k station (lines (rowOf b f t m n s ++ rest)) ≡ cond (eqb (refusal k station (leg f t m n s)) 0)
+    (onto (record { low = m; high = n; step = s }) (outcome b (k + 1) t (lines rest)))
+    (refused (refusal k station (leg f t m n s)) k)
+unfolding outcome
+outcome-row b k station f t m n s rest hf ht hm hn hs alike =
+    ap (outcome b k station) (row-line f t m n s hf ht b rest)
+    ∙ ap (λ (x : Said). cond (eqb (refusal k station x) 0) (onward k x (lines rest) (outcome b (k + 1) (stationAfter x) (lines rest))) (refused (refusal k station x) k))
+    (row-read f t m n s hf ht b alike hm hn hs)
+
+pub outcome-leg : (b : Bool) (k : ℕ) (station f t : List ℕ) (m n s : ℕ) (rest : List ℕ) → name f ≡ true → name t ≡ true → k ≤ lastLine → n ≤ mostDistance → s ≤ mostStep
+    → Ordered b m n → follows station f ≡ true
+    → outcome b k station (lines (rowOf b f t m n s ++ rest)) ≡ onto (record { low = m; high = n; step = s }) (outcome b (k + 1) t (lines rest))
+outcome-leg b k station f t m n s rest hf ht few far turn order next =
+    let (alike, le) = ordered-alike b m n order in
+    outcome-row b k station f t m n s rest hf ht (omega (arith, le, far)) (omega (arith, far)) (omega (arith, turn)) alike
+    ∙ rw (leg-0 k station f t m n s (in-range k m n s few (omega (arith, le, far)) far turn) le next)
+
+pub outcome-end : (b : Bool) (k : ℕ) (station : List ℕ) (n : ℕ) → k ≤ lastLine + 1 → n ≡ k - 2 → outcome b k station (lines (endRow n)) ≡ accepted []
 unfolding none lines
-outcome-end k station n few e =
-    let r = end-read n (omega (arith, e)) in
-    ap (λ (l : List ℕ). outcome k station (lines l)) (sym (append-nil (endRow n)))
-    ∙ ap (outcome k station) (end-line n [])
-    ∙ outcome-yes k station (endRow n) (lines []) (ap (refusal k station) r ∙ last-0 k station n e)
-    ∙ ap (λ (x : Said). onward k x (lines []) (outcome (k + 1) (stationAfter x) (lines []))) r
+outcome-end b k station n few e =
+    let r = end-read n b (omega (arith, e)) in
+    ap (λ (l : List ℕ). outcome b k station (lines l)) (sym (append-nil (endRow n)))
+    ∙ ap (outcome b k station) (end-line n [])
+    ∙ outcome-yes b k station (endRow n) (lines []) (ap (refusal k station) r ∙ last-0 k station n e)
+    ∙ ap (λ (x : Said). onward k x (lines []) (outcome b (k + 1) (stationAfter x) (lines []))) r
 
-outcome-linked : (rows : List Row) (k n : ℕ) (station : List ℕ) → Linked station rows → 2 ≤ k → k + length rows ≤ lastLine + 1 → n ≡ k + length rows - 2
-    → outcome k station (lines (rowsText rows ++ endRow n)) ≡ accepted (shotsIn rows)
+outcome-linked : (b : Bool) (rows : List Row) (k n : ℕ) (station : List ℕ) → Linked b station rows → 2 ≤ k → k + length rows ≤ lastLine + 1 → n ≡ k + length rows - 2
+    → outcome b k station (lines (rowsText b rows ++ endRow n)) ≡ accepted (spansIn rows)
 unfolding Linked rowsText
-outcome-linked [] k n station h low few e = outcome-end k station n (omega (arith, few)) (omega (arith, e))
-outcome-linked (r ∷ rows) k n station (hf, ht, far, turn, next, h) low few e =
-    ap (λ (l : List ℕ). outcome k station (lines l)) (append-assoc (shotRow (r .from) (r .to) (r .mm) (r .step)) (rowsText rows) (endRow n))
-    ∙ outcome-leg k station (r .from) (r .to) (r .mm) (r .step) (rowsText rows ++ endRow n) hf ht (omega (arith, few)) far turn next
-    ∙ ap (onto (shotIn r)) (outcome-linked rows (k + 1) n (r .to) h (omega arith) (omega (arith, few)) (omega (arith, e)))
+outcome-linked b [] k n station h low few e = outcome-end b k station n (omega (arith, few)) (omega (arith, e))
+outcome-linked b (r ∷ rows) k n station (hf, ht, far, order, turn, next, h) low few e =
+    ap (λ (l : List ℕ). outcome b k station (lines l)) (append-assoc (rowText b r) (rowsText b rows) (endRow n))
+    ∙ outcome-leg b k station (r .from) (r .to) (r .low) (r .high) (r .step) (rowsText b rows ++ endRow n) hf ht (omega (arith, few)) far turn order next
+    ∙ ap (onto (spanIn r)) (outcome-linked b rows (k + 1) n (r .to) h (omega arith) (omega (arith, few)) (omega (arith, e)))
 
 -- the header before its lines
-pub listing-headed : (rest : List ℕ) → listingOf (header ++ rest) ≡ outcome 2 [] (lines rest)
+pub listing-headed : (b : Bool) (rest : List ℕ) → listingOf b (headerOf b ++ rest) ≡ outcome b 2 [] (lines rest)
 unfolding listingOf headed
-listing-headed rest = rw (header-line rest, header-read)
+listing-headed b rest = rw (header-line b rest, header-read b)
 
-pub linked-accepted : (rows : List Row) → Linked [] rows → length rows ≤ mostShots → listingOf (textOf rows) ≡ accepted (shotsIn rows)
+pub linked-accepted : (b : Bool) (rows : List Row) → Linked b [] rows → length rows ≤ mostShots → listingOf b (textOf b rows) ≡ accepted (spansIn rows)
 unfolding textOf
-linked-accepted rows h few =
-    listing-headed (rowsText rows ++ endRow (length rows))
-    ∙ outcome-linked rows 2 (length rows) [] h (omega arith) (omega arith) (omega arith)
+linked-accepted b rows h few =
+    listing-headed b (rowsText b rows ++ endRow (length rows))
+    ∙ outcome-linked b rows 2 (length rows) [] h (omega arith) (omega arith) (omega arith)
 
 -- ---- from a listing to rows
 
-refused-not-accepted : (n k : ℕ) (l : List Shot) → refused n k ≡ accepted l → ⊥
+refused-not-accepted : (n k : ℕ) (l : List Span) → refused n k ≡ accepted l → ⊥
 refused-not-accepted n k l e = let z : _≡_ {A = ℕ} 0 1 = cc in omega arith
 
-accepted-same : (l m : List Shot) → accepted l ≡ accepted m → l ≡ m
+accepted-same : (l m : List Span) → accepted l ≡ accepted m → l ≡ m
 accepted-same l m e = cc
 
-onto-inverse : (s : Shot) (o : Outcome) (l : List Shot) → onto s o ≡ accepted l → (m : List Shot) × (o ≡ accepted m) × (s ∷ m ≡ l)
+onto-inverse : (s : Span) (o : Outcome) (l : List Span) → onto s o ≡ accepted l → (m : List Span) × (o ≡ accepted m) × (s ∷ m ≡ l)
 onto-inverse s (refused n k) l e = absurd (refused-not-accepted n k l e)
 onto-inverse s (accepted m) l e = (m, refl, accepted-same (s ∷ m) l e)
 
 -- what accepted lines are
-record Lists (k : ℕ) (station : List ℕ) (ls : List (List ℕ)) (l : List Shot) : Type 0 where
+record Lists (b : Bool) (k : ℕ) (station : List ℕ) (ls : List (List ℕ)) (l : List Span) : Type 0 where
   rows : List Row
-  linked : Linked station rows
+  linked : Linked b station rows
   few : k + length rows ≤ lastLine + 1
-  same : rowsText rows ++ endRow (k + length rows - 2) ≡ join ls
-  shots : shotsIn rows ≡ l
+  same : rowsText b rows ++ endRow (k + length rows - 2) ≡ join ls
+  shots : spansIn rows ≡ l
 
-end-lists : (k n : ℕ) (station line : List ℕ) (ls : List (List ℕ)) (l : List Shot) → k ≤ lastLine + 1 → n ≡ k - 2 → line ≡ endRow n
-    → cond (none ls) (accepted []) (refused 6 (k + 1)) ≡ accepted l → Lists k station (line ∷ ls) l
+end-lists : (b : Bool) (k n : ℕ) (station line : List ℕ) (ls : List (List ℕ)) (l : List Span) → k ≤ lastLine + 1 → n ≡ k - 2 → line ≡ endRow n
+    → cond (none ls) (accepted []) (refused 6 (k + 1)) ≡ accepted l → Lists b k station (line ∷ ls) l
 unfolding none join Linked rowsText
-end-lists k n station line [] l few count e o =
+end-lists b k n station line [] l few count e o =
     let i : k + 0 - 2 ≡ n = omega (arith, count) in
     record {
       rows = [];
@@ -96,138 +133,234 @@ end-lists k n station line [] l few count e o =
       same = ap endRow i ∙ sym e ∙ sym (append-nil line);
       shots = accepted-same [] l o;
     }
-end-lists k n station line (m ∷ ls) l few count e o = absurd (refused-not-accepted 6 (k + 1) l o)
+end-lists b k n station line (m ∷ ls) l few count e o = absurd (refused-not-accepted 6 (k + 1) l o)
 
-leg-lists : (k : ℕ) (station line f t : List ℕ) (m s : ℕ) (ls : List (List ℕ)) (l : List Shot) → refusal k station (leg f t m s) ≡ 0 → Printed line (leg f t m s)
-    → (rest : List Shot) → record { distance = m; step = s } ∷ rest ≡ l → Lists (k + 1) t ls rest → Lists k station (line ∷ ls) l
+leg-lists : (b : Bool) (k : ℕ) (station line f t : List ℕ) (m n s : ℕ) (ls : List (List ℕ)) (l : List Span) → refusal k station (leg f t m n s) ≡ 0
+    → Printed b line (leg f t m n s) → (rest : List Span) → record { low = m; high = n; step = s } ∷ rest ≡ l → Lists b (k + 1) t ls rest
+    → Lists b k station (line ∷ ls) l
 unfolding join Linked rowsText
-leg-lists k station line f t m s ls l h p rest e r =
-    let (few, far, turn, next) = leg-within k station f t m s h in
+leg-lists b k station line f t m n s ls l h (hf, ht, hm, hn, hs, alike, printed) rest e r =
+    let (few, far, turn, order, next) = leg-within k station f t m n s h in
     let i : k + suc (length (r .rows)) - 2 ≡ k + 1 + length (r .rows) - 2 = omega arith in
     record {
-      rows = record { from = f; to = t; mm = m; step = s } ∷ r .rows;
-      linked = (p .0, p .1, far, turn, next, r .linked);
+      rows = record { from = f; to = t; low = m; high = n; step = s } ∷ r .rows;
+      linked = (hf, ht, far, alike-ordered b m n alike order, turn, next, r .linked);
       few = omega (arith, r .few);
-      same = append-assoc (shotRow f t m s) (rowsText (r .rows)) _
-          ∙ ap₂ (λ (a b : List ℕ). a ++ b) (sym (p .4)) (ap (λ (n : ℕ). rowsText (r .rows) ++ endRow n) i ∙ r .same);
-      shots = ap (λ (x : List Shot). record { distance = m; step = s } ∷ x) (r .shots) ∙ e;
+      same = append-assoc (rowOf b f t m n s) (rowsText b (r .rows)) _
+          ∙ ap₂ (λ (a b : List ℕ). a ++ b) (sym printed) (ap (λ (n : ℕ). rowsText b (r .rows) ++ endRow n) i ∙ r .same);
+      shots = ap (λ (x : List Span). record { low = m; high = n; step = s } ∷ x) (r .shots) ∙ e;
     }
 
-lines-lists : (ls : List (List ℕ)) (k : ℕ) (station : List ℕ) (l : List Shot) → 2 ≤ k → k ≤ lastLine + 1 → outcome k station ls ≡ accepted l → Lists k station ls l
+lines-lists : (b : Bool) (ls : List (List ℕ)) (k : ℕ) (station : List ℕ) (l : List Span) → 2 ≤ k → k ≤ lastLine + 1 → outcome b k station ls ≡ accepted l
+    → Lists b k station ls l
 unfolding outcome
-lines-lists [] k station l low few o = absurd (refused-not-accepted 6 k l o)
-lines-lists (line ∷ ls) k station l low few o = go (λ t m. lines-lists ls (k + 1) t m) (eqb (refusal k station (readEntry line)) 0) refl
+lines-lists b [] k station l low few o = absurd (refused-not-accepted 6 k l o)
+lines-lists b (line ∷ ls) k station l low few o = go (λ t m. lines-lists b ls (k + 1) t m) (eqb (refusal k station (readEntry b line)) 0) refl
   where
-    on : ((t : List ℕ) (m : List Shot) → 2 ≤ k + 1 → k + 1 ≤ lastLine + 1 → outcome (k + 1) t ls ≡ accepted m → Lists (k + 1) t ls m) → (x : Said)
-        → refusal k station x ≡ 0 → Printed line x → onward k x ls (outcome (k + 1) (stationAfter x) ls) ≡ accepted l → Lists k station (line ∷ ls) l
-    on ih (leg f t m s) h p o =
-        let (rest, e, same) = onto-inverse (record { distance = m; step = s }) (outcome (k + 1) t ls) l o in
-        let few = leg-within k station f t m s h .0 in
-        leg-lists k station line f t m s ls l h p rest same (ih t rest (omega arith) (omega arith) e)
-    on ih (last n) h p o = end-lists k n station line ls l few (last-count k station n h) (p .1) o
+    on : ((t : List ℕ) (m : List Span) → 2 ≤ k + 1 → k + 1 ≤ lastLine + 1 → outcome b (k + 1) t ls ≡ accepted m → Lists b (k + 1) t ls m) → (x : Said)
+        → refusal k station x ≡ 0 → Printed b line x → onward k x ls (outcome b (k + 1) (stationAfter x) ls) ≡ accepted l → Lists b k station (line ∷ ls) l
+    on ih (leg f t m n s) h p o =
+        let (rest, e, same) = onto-inverse (record { low = m; high = n; step = s }) (outcome b (k + 1) t ls) l o in
+        let few = leg-within k station f t m n s h .0 in
+        leg-lists b k station line f t m n s ls l h p rest same (ih t rest (omega arith) (omega arith) e)
+    on ih (last n) h p o = end-lists b k n station line ls l few (last-count k station n h) (p .1) o
     on ih neither h p o = absurd (refused-not-accepted 6 k l o)
 
-    go : ((t : List ℕ) (m : List Shot) → 2 ≤ k + 1 → k + 1 ≤ lastLine + 1 → outcome (k + 1) t ls ≡ accepted m → Lists (k + 1) t ls m)
-        → (b : Bool) → eqb (refusal k station (readEntry line)) 0 ≡ b → Lists k station (line ∷ ls) l
+    go : ((t : List ℕ) (m : List Span) → 2 ≤ k + 1 → k + 1 ≤ lastLine + 1 → outcome b (k + 1) t ls ≡ accepted m → Lists b (k + 1) t ls m)
+        → (c : Bool) → eqb (refusal k station (readEntry b line)) 0 ≡ c → Lists b k station (line ∷ ls) l
     go ih true t =
-        let h = eqb-true (refusal k station (readEntry line)) 0 t in
-        on ih (readEntry line) h (entry-printed line) (sym (outcome-yes k station line ls h) ∙ o)
-    go ih false t = absurd (refused-not-accepted _ k l (sym (outcome-no k station line ls (eqb-false (refusal k station (readEntry line)) 0 t)) ∙ o))
+        let h = eqb-true (refusal k station (readEntry b line)) 0 t in
+        on ih (readEntry b line) h (entry-printed b line) (sym (outcome-yes b k station line ls h) ∙ o)
+    go ih false t = absurd (refused-not-accepted _ k l (sym (outcome-no b k station line ls (eqb-false (refusal k station (readEntry b line)) 0 t)) ∙ o))
 
 -- a listing with the rows that it is made of
-abbrev pub Made : List ℕ → List Shot → Type 0
-Made text l = (rows : List Row) × Linked [] rows × (length rows ≤ mostShots) × (textOf rows ≡ text) × (shotsIn rows ≡ l)
+abbrev pub Made : Bool → List ℕ → List Span → Type 0
+Made b text l = (rows : List Row) × Linked b [] rows × (length rows ≤ mostShots) × (textOf b rows ≡ text) × (spansIn rows ≡ l)
 
-headed-made : (text line : List ℕ) (ls : List (List ℕ)) (l : List Shot) → lines text ≡ line ∷ ls → line ≡ header → Lists 2 [] ls l → Made text l
+headed-made : (b : Bool) (text line : List ℕ) (ls : List (List ℕ)) (l : List Span) → lines text ≡ line ∷ ls → line ≡ headerOf b → Lists b 2 [] ls l → Made b text l
 unfolding textOf join
-headed-made text line ls l t h r =
+headed-made b text line ls l t h r =
     let i : length (r .rows) ≡ 2 + length (r .rows) - 2 = omega arith in (
       r .rows,
       r .linked,
       omega (arith, r .few),
-      ap₂ (λ (a b : List ℕ). a ++ b) (sym h) (ap (λ (n : ℕ). rowsText (r .rows) ++ endRow n) i ∙ r .same) ∙ sym (ap join t) ∙ join-lines text,
+      ap₂ (λ (a b : List ℕ). a ++ b) (sym h) (ap (λ (n : ℕ). rowsText b (r .rows) ++ endRow n) i ∙ r .same) ∙ sym (ap join t) ∙ join-lines text,
       r .shots,
     )
 
-pub accepted-linked : (text : List ℕ) (l : List Shot) → listingOf text ≡ accepted l → Made text l
+pub accepted-linked : (b : Bool) (text : List ℕ) (l : List Span) → listingOf b text ≡ accepted l → Made b text l
 unfolding listingOf headed
-accepted-linked text l e = by-lines (lines text) refl e
+accepted-linked b text l e = by-lines (lines text) refl e
   where
-    by-header : (line : List ℕ) (ls : List (List ℕ)) → lines text ≡ line ∷ ls → (b : Bool) → isHeader line ≡ b
-        → cond b (outcome 2 [] ls) (refused 6 1) ≡ accepted l → Made text l
-    by-header line ls t true h e = headed-made text line ls l t (header-is line h) (lines-lists ls 2 [] l (omega arith) (omega arith) e)
+    by-header : (line : List ℕ) (ls : List (List ℕ)) → lines text ≡ line ∷ ls → (c : Bool) → isHeader b line ≡ c
+        → cond c (outcome b 2 [] ls) (refused 6 1) ≡ accepted l → Made b text l
+    by-header line ls t true h e = headed-made b text line ls l t (header-is b line h) (lines-lists b ls 2 [] l (omega arith) (omega arith) e)
     by-header line ls t false h e = absurd (refused-not-accepted 6 1 l e)
 
-    by-lines : (ls : List (List ℕ)) → lines text ≡ ls → headed ls ≡ accepted l → Made text l
+    by-lines : (ls : List (List ℕ)) → lines text ≡ ls → headed b ls ≡ accepted l → Made b text l
     by-lines [] t e = absurd (refused-not-accepted 6 1 l e)
-    by-lines (line ∷ ls) t e = by-header line ls t (isHeader line) refl e
+    by-lines (line ∷ ls) t e = by-header line ls t (isHeader b line) refl e
 
--- ---- its shots are few and not far
+-- ---- its shots are few and not far, and of one distance they are level
 
-linked-bounded : (rows : List Row) (station : List ℕ) → Linked station rows → Bounded (shotsIn rows)
-unfolding Linked Bounded
-linked-bounded [] station h = tt
-linked-bounded (r ∷ rows) station (hf, ht, far, turn, next, h) = (far, linked-bounded rows (r .to) h)
+linked-ranged : (b : Bool) (rows : List Row) (station : List ℕ) → Linked b station rows → Ranged (spansIn rows)
+unfolding Linked Ranged
+linked-ranged b [] station h = tt
+linked-ranged b (r ∷ rows) station (hf, ht, far, order, turn, next, h) =
+    (ordered-alike b (r .low) (r .high) order .1, far, linked-ranged b rows (r .to) h)
 
-shots-length : (rows : List Row) → length (shotsIn rows) ≡ length rows
-shots-length [] = refl
-shots-length (r ∷ rows) = ap suc (shots-length rows)
+linked-level : (rows : List Row) (station : List ℕ) → Linked false station rows → Level (spansIn rows)
+unfolding Linked Level
+linked-level [] station h = tt
+linked-level (r ∷ rows) station (hf, ht, far, order, turn, next, h) = (order, linked-level rows (r .to) h)
 
-pub accepted-allowed : (text : List ℕ) (l : List Shot) → listingOf text ≡ accepted l → Allowed l
-accepted-allowed text l e =
-    let (rows, linked, few, t, same) = accepted-linked text l e in
-    subst Allowed same (omega (arith, few, shots-length rows), linked-bounded rows [] linked)
+spans-length : (rows : List Row) → length (spansIn rows) ≡ length rows
+spans-length [] = refl
+spans-length (r ∷ rows) = ap suc (spans-length rows)
+
+pub accepted-ranged : (b : Bool) (text : List ℕ) (l : List Span) → listingOf b text ≡ accepted l → (length l ≤ mostShots) × Ranged l
+accepted-ranged b text l e =
+    let (rows, linked, few, t, same) = accepted-linked b text l e in
+    subst (λ (l : List Span). (length l ≤ mostShots) × Ranged l) same (omega (arith, few, spans-length rows), linked-ranged b rows [] linked)
+
+pub accepted-level : (text : List ℕ) (l : List Span) → listingOf false text ≡ accepted l → Level l
+accepted-level text l e =
+    let (rows, linked, few, t, same) = accepted-linked false text l e in
+    subst Level same (linked-level rows [] linked)
 
 -- ---- its length
 
-rows-length-most : (rows : List Row) (station : List ℕ) → Linked station rows → length (rowsText rows) ≤ 40 * length rows
-unfolding Linked rowsText
-rows-length-most [] station h = omega arith
-rows-length-most (r ∷ rows) station (hf, ht, far, turn, next, h) =
+span-row-length : (f t : List ℕ) (m n s : ℕ)
+    → length (rowOf true f t m n s) ≡ length f + length t + length (decimal m) + length (decimal n) + length (decimal s) + 5
+unfolding rowOf rowForm printForm
+span-row-length f t m n s = simp length-append (omega arith)
+
+row-most : (b : Bool) (r : Row) (station : List ℕ) (rows : List Row) → Linked b station (r ∷ rows) → length (rowText b r) ≤ longestRow b
+unfolding Linked rowOf longestRow
+row-most true r station rows (hf, ht, far, order, turn, next, h) =
     omega (
       arith,
-      length-append (shotRow (r .from) (r .to) (r .mm) (r .step)) (rowsText rows),
-      row-length (r .from) (r .to) (r .mm) (r .step),
+      span-row-length (r .from) (r .to) (r .low) (r .high) (r .step),
       name-length (r .from) hf,
       name-length (r .to) ht,
-      decimal-length 6 (r .mm) (omega arith),
-      decimal-length 4 (r .step) (omega arith),
-      rows-length-most rows (r .to) h,
+      decimal-length 6 (r .low) (omega (arith, far, order)),
+      decimal-length 6 (r .high) (omega (arith, far)),
+      decimal-length 4 (r .step) (omega (arith, turn)),
+    )
+row-most false r station rows (hf, ht, far, order, turn, next, h) =
+    omega (
+      arith,
+      row-length (r .from) (r .to) (r .low) (r .step),
+      name-length (r .from) hf,
+      name-length (r .to) ht,
+      decimal-length 6 (r .low) (omega (arith, far, order)),
+      decimal-length 4 (r .step) (omega (arith, turn)),
     )
 
-pub accepted-longest : (text : List ℕ) (l : List Shot) → listingOf text ≡ accepted l → length text ≤ longestListing
+rows-most : (b : Bool) (rows : List Row) (station : List ℕ) → Linked b station rows → length (rowsText b rows) ≤ longestRow b * length rows
+unfolding Linked rowsText
+rows-most b [] station h = omega arith
+rows-most b (r ∷ rows) station (hf, ht, far, order, turn, next, h) =
+    omega (
+      arith,
+      length-append (rowText b r) (rowsText b rows),
+      row-most b r station rows (hf, ht, far, order, turn, next, h),
+      rows-most b rows (r .to) h,
+    )
+
+header-most : (b : Bool) → length (headerOf b) + longestRow b * mostShots + 8 ≤ longestListing b
+unfolding longestRow longestListing
+header-most true = omega (arith, header-lengths)
+header-most false = omega (arith, header-lengths)
+
+pub accepted-longest : (b : Bool) (text : List ℕ) (l : List Span) → listingOf b text ≡ accepted l → length text ≤ longestListing b
 unfolding textOf
-accepted-longest text l e =
-    let (rows, linked, few, same, shots) = accepted-linked text l e in
+accepted-longest b text l e =
+    let (rows, linked, few, same, shots) = accepted-linked b text l e in
     omega (
       arith,
       ap length same,
-      length-append header (rowsText rows ++ endRow (length rows)),
-      length-append (rowsText rows) (endRow (length rows)),
-      header-length,
+      length-append (headerOf b) (rowsText b rows ++ endRow (length rows)),
+      length-append (rowsText b rows) (endRow (length rows)),
+      header-most b,
       end-length (length rows),
       decimal-length 2 (length rows) (omega arith),
-      rows-length-most rows [] linked,
+      rows-most b rows [] linked,
+      mul-le-mul-left (longestRow b) few,
     )
 
 -- ---- joined runs
 
-pub linked-first : (first second : List Row) (station : List ℕ) → Linked station (first ++ second) → Linked station first
+pub linked-first : (b : Bool) (first second : List Row) (station : List ℕ) → Linked b station (first ++ second) → Linked b station first
 unfolding Linked
-linked-first [] second station h = tt
-linked-first (r ∷ first) second station (hf, ht, far, turn, next, h) = (hf, ht, far, turn, next, linked-first first second (r .to) h)
+linked-first b [] second station h = tt
+linked-first b (r ∷ first) second station (hf, ht, far, order, turn, next, h) = (hf, ht, far, order, turn, next, linked-first b first second (r .to) h)
 
 -- any station will do for a first shot
-linked-anew : (rows : List Row) (station : List ℕ) → Linked station rows → Linked [] rows
+linked-anew : (b : Bool) (rows : List Row) (station : List ℕ) → Linked b station rows → Linked b [] rows
 unfolding Linked follows isEmpty
-linked-anew [] station h = tt
-linked-anew (r ∷ rows) station (hf, ht, far, turn, next, h) = (hf, ht, far, turn, refl, h)
+linked-anew b [] station h = tt
+linked-anew b (r ∷ rows) station (hf, ht, far, order, turn, next, h) = (hf, ht, far, order, turn, refl, h)
 
-pub linked-second : (first second : List Row) (station : List ℕ) → Linked station (first ++ second) → Linked [] second
+pub linked-second : (b : Bool) (first second : List Row) (station : List ℕ) → Linked b station (first ++ second) → Linked b [] second
 unfolding Linked
-linked-second [] second station h = linked-anew second station h
-linked-second (r ∷ first) second station (hf, ht, far, turn, next, h) = linked-second first second (r .to) h
+linked-second b [] second station h = linked-anew b second station h
+linked-second b (r ∷ first) second station (hf, ht, far, order, turn, next, h) = linked-second b first second (r .to) h
 
-pub shots-joined : (first second : List Row) → shotsIn (first ++ second) ≡ shotsIn first ++ shotsIn second
-shots-joined [] second = refl
-shots-joined (r ∷ first) second = ap (λ (l : List Shot). shotIn r ∷ l) (shots-joined first second)
+pub spans-joined : (first second : List Row) → spansIn (first ++ second) ≡ spansIn first ++ spansIn second
+spans-joined [] second = refl
+spans-joined (r ∷ first) second = ap (λ (l : List Span). spanIn r ∷ l) (spans-joined first second)
+
+-- ---- one listing of either kind, where low equals high throughout
+
+-- a last row is read alike by both
+module _ (k n : ℕ) (station : List ℕ) where
+  abbrev x : Said
+  x = endOf (decimal n ∷ [])
+
+  last-read : (b : Bool) → outcome b k station (lines (endRow n))
+      ≡ cond (eqb (refusal k station x) 0) (onward k x [] (refused 6 (k + 1))) (refused (refusal k station x) k)
+  unfolding outcome lines
+  last-read b =
+      ap (λ (l : List ℕ). outcome b k station (lines l)) (sym (append-nil (endRow n)))
+      ∙ ap (outcome b k station) (end-line n [])
+      ∙ ap (λ (y : Said). cond (eqb (refusal k station y) 0) (onward k y [] (refused 6 (k + 1))) (refused (refusal k station y) k)) (end-said n b)
+
+  outcome-last : outcome true k station (lines (endRow n)) ≡ outcome false k station (lines (endRow n))
+  outcome-last = last-read true ∙ sym (last-read false)
+
+outcome-level : (rows : List Row) → LevelRows rows → (k n : ℕ) (station : List ℕ)
+    → outcome true k station (lines (rowsText true rows ++ endRow n)) ≡ outcome false k station (lines (rowsText false rows ++ endRow n))
+unfolding LevelRows rowsText
+outcome-level [] h k n station = outcome-last k n station
+outcome-level (r ∷ rows) (hf, ht, hd, hs, same, h) k n station =
+    let far : r .high < numeralBound = omega (arith, hd, same) in
+    let by : (b : Bool) → Alike b (r .low) (r .high) → outcome b k station (lines (rowsText b (r ∷ rows) ++ endRow n)) ≡ _ =
+    λ b alike. ap (λ (l : List ℕ). outcome b k station (lines l)) (append-assoc (rowText b r) (rowsText b rows) (endRow n))
+    ∙ outcome-row b k station (r .from) (r .to) (r .low) (r .high) (r .step) (rowsText b rows ++ endRow n) hf ht hd far hs alike in
+    by true tt
+    ∙ ap (λ (o : Outcome). cond (eqb (refusal k station (leg (r .from) (r .to) (r .low) (r .high) (r .step))) 0) (onto (spanIn r) o)
+    (refused (refusal k station (leg (r .from) (r .to) (r .low) (r .high) (r .step))) k)) (outcome-level rows h (k + 1) n (r .to))
+    ∙ sym (by false same)
+
+pub level-outcome : (rows : List Row) → LevelRows rows → listingOf true (textOf true rows) ≡ listingOf false (textOf false rows)
+unfolding textOf
+level-outcome rows h =
+    listing-headed true (rowsText true rows ++ endRow (length rows))
+    ∙ outcome-level rows h 2 (length rows) []
+    ∙ sym (listing-headed false (rowsText false rows ++ endRow (length rows)))
+
+-- ---- a choice as a listing of one distance each
+
+pub chosen-linked : (rows : List Row) (c : List Shot) (station : List ℕ) → Linked true station rows → Chosen (spansIn rows) c
+    → Linked false station (chosenRows rows c) × (length (chosenRows rows c) ≡ length rows) × (lowShots (spansIn (chosenRows rows c)) ≡ c)
+unfolding Linked Chosen chosenRows
+chosen-linked [] [] station h e = (tt, refl, refl)
+chosen-linked [] (s ∷ c) station h e = absurd e
+chosen-linked (r ∷ rows) [] station h e = absurd e
+chosen-linked (r ∷ rows) (s ∷ c) station (hf, ht, far, order, turn, next, h) (low, high, same, e) =
+    let (linked, few, shots) = chosen-linked rows c (r .to) h e in (
+      (hf, ht, omega (arith, high, far), refl, turn, next, linked),
+      ap suc few,
+      ap₂ (λ (d : ℕ) (l : List Shot). record { distance = s .distance; step = d } ∷ l) (sym same) shots,
+    )

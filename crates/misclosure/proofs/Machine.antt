@@ -1,20 +1,22 @@
 -- Products and sums of signed numbers at 64 bits, and their rounding.
 use mathlib.Core.Path.{_≡_, refl, sym, ap, ap₂, _∙_}
-use mathlib.Core.Bool.{true, false, false≢true, true≢false}
+use mathlib.Core.Bool.{Bool, true, false, cond, false≢true, true≢false}
 use Prim.Native.Nat.{ℕ, suc, _+_, _*_, _/_, _^_, _≤_, _<_}
 use native.Mathlib.Nat.{mul-le-mul, div-le-self}
 use native.Mathlib.Omega.{arith}
 use borrow.Author.Tests.{le-ltb}
 use lib.IntN.{ℤ, pos, negsuc, negℤ, natAbs, _+ℤ_, _-ℤ_, _*ℤ_}
-use lib.Signed.{ltZ, quotZ}
+use lib.Signed.{nonNeg, ltZ, quotZ}
 use mir.Syntax.{w64}
 use mir.Val.{SFits, toZ, ofZ}
 use mir.Facts.{toZ-pos, toZ-ofZ}
 use Rattle.angle.specs.Steps.{signedOf}
 use Rattle.angle.proofs.Ranges.{signed-range}
 use Rattle.angle.proofs.Signs.{natAbs-neg, size-fits}
-use Rattle.sums.specs.Sums.{mostDistance, rounded}
-use Rattle.sums.proofs.Parts.{sum-size, times-size}
+use Rattle.sums.specs.Sums.{sine, cosine, mostDistance, rounded}
+use Rattle.misclosure.specs.Private.{widenedBy}
+use Rattle.misclosure.specs.declared.Ends.{Ends}
+use Rattle.sums.proofs.Parts.{sum-size, times-size, rounded-size}
 
 -- a number as the machine reads it back
 abbrev pub again : ℤ → ℤ
@@ -26,15 +28,16 @@ reads z h = toZ-ofZ (size-fits w64 z h)
 pub read-small : (z : ℤ) (n : ℕ) → natAbs z < n → n ≤ 2 ^ 63 → natAbs (again z) < n
 read-small z n h k = rw (reads z (omega arith)) h
 
-read-least : (g h : ℤ) → g ≡ h → natAbs h ≤ 2 ^ 30 → natAbs (again g) ≤ 2 ^ 30
-read-least g h e k = rw (e, reads h (omega arith)) k
-
 -- the sine and the cosine that were returned
-pub read-units : {x y : ℤ} (v : ℕ) → (x, y) ≡ signedOf v → (natAbs (again x) ≤ 2 ^ 30) × (natAbs (again y) ≤ 2 ^ 30)
-read-units {x} {y} v e = (
-  read-least x (signedOf v .0) (ap (λ (p : ℤ × ℤ). p .0) e) (signed-range v .0),
-  read-least y (signedOf v .1) (ap (λ (p : ℤ × ℤ). p .1) e) (signed-range v .1),
-)
+module _ {x y : ℤ} (v : ℕ) (e : (x, y) ≡ signedOf v) where
+  pub read-turned : (again x ≡ sine v) × (again y ≡ cosine v)
+  read-turned = (
+    ap (λ (p : ℤ × ℤ). again (p .0)) e ∙ reads (sine v) (omega (arith, signed-range v)),
+    ap (λ (p : ℤ × ℤ). again (p .1)) e ∙ reads (cosine v) (omega (arith, signed-range v)),
+  )
+
+  pub read-units : (natAbs (again x) ≤ 2 ^ 30) × (natAbs (again y) ≤ 2 ^ 30)
+  read-units = rw (read-turned .0, read-turned .1) (signed-range v)
 
 -- a distance times a sine or a cosine, added to a sum
 module _ (sum : ℤ) (d : ℕ) (f : ℤ) (room : natAbs sum < 2 ^ 62) (far : d ≤ mostDistance) (unit : natAbs f ≤ 2 ^ 30) where
@@ -61,13 +64,35 @@ module _ (sum : ℤ) (d : ℕ) (f : ℤ) (room : natAbs sum < 2 ^ 62) (far : d �
   pub sum-reads : again (again sum +ℤ again (toZ w64 d *ℤ again f)) ≡ sum +ℤ pos d *ℤ f
   sum-reads = ap again sum-is ∙ reads (sum +ℤ pos d *ℤ f) sum-small
 
--- a sum r of fields z and g, as it is read from and put into structs
-pub field-sum : (r z : ℤ) (d : ℕ) (g h : ℤ) → r ≡ again z +ℤ pos d *ℤ again g → natAbs z < 2 ^ 62 → d ≤ mostDistance → natAbs h ≤ 2 ^ 30 → g ≡ h
-    → again r ≡ z +ℤ pos d *ℤ h
-field-sum r z d g h e room far unit same =
-    let s : r ≡ z +ℤ pos d *ℤ h =
-    e ∙ ap₂ (λ (x y : ℤ). x +ℤ pos d *ℤ y) (reads z (omega arith)) (ap again same ∙ reads h (omega arith)) in
-    ap again s ∙ reads (z +ℤ pos d *ℤ h) (sum-small z d h room far unit) ∙ refl
+-- a sum r of a field z and a product by g, as it is put into a struct
+pub field-sum : (r z : ℤ) (d : ℕ) (g : ℤ) → r ≡ again z +ℤ pos d *ℤ again g → natAbs z < 2 ^ 62 → d ≤ mostDistance → natAbs g ≤ 2 ^ 30
+    → again r ≡ z +ℤ pos d *ℤ g
+field-sum r z d g e room far unit =
+    let s : r ≡ z +ℤ pos d *ℤ g = e ∙ ap₂ (λ (x y : ℤ). x +ℤ pos d *ℤ y) (reads z (omega arith)) (reads g (omega arith)) in
+    ap again s ∙ reads (z +ℤ pos d *ℤ g) (sum-small z d g room far unit)
+
+-- the test of a factor's sign
+pub factor-below : (g : ℤ) → natAbs g ≤ 2 ^ 30 → ltZ (again g) (pos 0) ≡ true → nonNeg g ≡ false
+factor-below g unit t = go g (rw (reads g (omega (arith, unit))) at t)
+  where
+    go : (y : ℤ) → ltZ y (pos 0) ≡ true → nonNeg y ≡ false
+    go (pos n) u = absurd (false≢true (sym (le-ltb n 0 (omega arith)) ∙ u))
+    go (negsuc n) u = refl
+
+pub factor-above : (g : ℤ) → natAbs g ≤ 2 ^ 30 → ltZ (again g) (pos 0) ≡ false → nonNeg g ≡ true
+factor-above g unit t = go g (rw (reads g (omega (arith, unit))) at t)
+  where
+    go : (y : ℤ) → ltZ y (pos 0) ≡ false → nonNeg y ≡ true
+    go (pos n) u = refl
+    go (negsuc n) u = absurd (true≢false u)
+
+-- the two sums, once the sign is known
+pub widened-is : (g : ℤ) (t : Bool) (low high : ℕ) (e : Ends) (x y : ℤ) → nonNeg g ≡ t → x ≡ e .low +ℤ pos (cond t low high) *ℤ g
+    → y ≡ e .high +ℤ pos (cond t high low) *ℤ g → _≡_ {A = Ends} (record { low = x; high = y }) (widenedBy g low high e)
+widened-is g t low high e x y sign least greatest =
+    ap₂ (λ (a b : ℤ). record { low = a; high = b })
+    (least ∙ ap (λ (t : Bool). e .low +ℤ pos (cond t low high) *ℤ g) (sym sign))
+    (greatest ∙ ap (λ (t : Bool). e .high +ℤ pos (cond t high low) *ℤ g) (sym sign))
 
 -- ---- rounding
 
@@ -108,3 +133,9 @@ rounds-above z room t = go z (rw (reads z (omega arith)) at t)
     go : (y : ℤ) → ltZ y (pos 0) ≡ false → quotZ (y +ℤ pos (2 ^ 29)) (pos (2 ^ 30)) ≡ rounded y
     go (pos n) u = refl
     go (negsuc n) u = absurd (true≢false u)
+
+-- a rounded sum, as it is put into the answer
+pub rounded-reads : (a z : ℤ) → natAbs z < 2 ^ 62 → a ≡ rounded (again z) → again a ≡ rounded z
+rounded-reads a z h e =
+    let k : a ≡ rounded z = e ∙ ap rounded (reads z (omega arith)) in
+    ap again k ∙ reads (rounded z) (omega (arith, rounded-size z))

@@ -27,7 +27,9 @@ use Rattle.job.proofs.Refused.{or-false}
 use Rattle.job.proofs.Bounds.{Accepted, accepted-line, steps}
 use Rattle.job.proofs.Going as going
 use Rattle.job.proofs.Jobs as jobLaws
-use Rattle.sums.specs.Sums.{Shot, mostDistance}
+use Rattle.sums.specs.Sums.{mostDistance}
+use Rattle.sums.specs.Spans.{Span}
+use Rattle.entries.specs.Entries.{rowOf, headerOf}
 use Rattle.misclosure.specs.Misclosure.{lastLine, mostStep, accepted, onto, outcome, listingOf}
 use Rattle.misclosure.specs.Theorems.{Following}
 use Rattle.misclosure.proofs.Listings.{outcome-leg, outcome-end, listing-headed}
@@ -55,12 +57,12 @@ abbrev lineOf : ℕ → ℕ
 lineOf k = k + (3 - k) - 1
 
 abbrev Back : ℕ → List ℕ → List ℕ → Type 0
-Back k station bytes = (l : List Shot) × (outcome (lineOf k) station (lines bytes) ≡ accepted l)
+Back k station bytes = (l : List Span) × (outcome false (lineOf k) station (lines bytes) ≡ accepted l)
 
 -- one line more in front
 front : (k : ℕ) (line : List ℕ) (x : Form) → readLine line ≡ x → (s : Setting) → Steady (s .distance) (s .bearing) → Accepted k x → (station rest : List ℕ) (xs : List Form)
     → Following station (x ∷ xs) → ((to : List ℕ) → Following to xs → Back (k + 1) to rest) → Back k station (job.printed x s ++ rest)
-unfolding job.printed jobs.misplaced jobs.tooMany jobs.beyond jobs.formless noisyRow Following
+unfolding job.printed jobs.misplaced jobs.tooMany jobs.beyond jobs.formless noisyRow rowOf Following
 front k line (seeds a0 a1 a2 b0 b1 b2) e s steady a station rest xs f back =
     let one = eqb-true k 1 (not-false (eqb k 1) (a .placed)) in
     let (l, p) = back station f in
@@ -80,13 +82,11 @@ front k line (shot from to d b) e s steady a station rest xs (next, f) back =
     let (l, p) = back to f in
     let i : lineOf k + 1 ≡ lineOf (k + 1) = omega (arith, low) in
     let far = distance-most (s .distance) d (pairOf fractionBits (s .generator) .first) (steady .sigma-distance) (ltb-false limits.mostDistance d (r .0)) (sizes .0) in
-    let heard : Shot = record {
-      distance = noisyDistance (s .distance) d (pairOf fractionBits (s .generator) .first);
-      step = noisyBearing (s .bearing) b (pairOf fractionBits (s .generator) .second);
-    } in
-    let after : outcome (lineOf k + 1) to (lines rest) ≡ accepted l = rw i p in (
+    let d' = noisyDistance (s .distance) d (pairOf fractionBits (s .generator) .first) in
+    let heard : Span = record { low = d'; high = d'; step = noisyBearing (s .bearing) b (pairOf fractionBits (s .generator) .second) } in
+    let after : outcome false (lineOf k + 1) to (lines rest) ≡ accepted l = rw i p in (
       heard ∷ l,
-      outcome-leg (lineOf k) station from to (heard .distance) (heard .step) rest (n .0) (n .1) (omega (arith, high)) far (bearing-most (s .bearing) b _) next
+      outcome-leg false (lineOf k) station from to d' d' (heard .step) rest (n .0) (n .1) (omega (arith, high)) far (bearing-most (s .bearing) b _) refl next
           ∙ ap (onto heard) after,
     )
 front k line noForm e s steady a station rest xs f back = absurd (true≢false (a .formed))
@@ -100,7 +100,7 @@ back-lines [] k s station bytes few steady e f = go (ltb k 3) refl e
     go true t e = absurd (jobLaws.refused-not-listed 8 k bytes e)
     go false t e =
         let low = ltb-false k 3 t in
-        ([], rw (← jobLaws.bytes-same (endRow (k - 3)) bytes e) (outcome-end (lineOf k) station (k - 3) (omega arith) (omega arith)))
+        ([], rw (← jobLaws.bytes-same (endRow (k - 3)) bytes e) (outcome-end false (lineOf k) station (k - 3) (omega arith) (omega arith)))
 back-lines (line ∷ ls) k s station bytes few steady e f =
     go (λ t r st. back-lines ls (k + 1) t st r) (eqb (jobs.refusal k (readLine line)) 0) refl
   where
@@ -119,13 +119,13 @@ back-lines (line ∷ ls) k s station bytes few steady e f =
         (sym (going.outcome-no k s line ls (eqb-false (jobs.refusal k (readLine line)) 0 t)) ∙ e))
 
 pub read-back : (text bytes : List ℕ) → job.jobOf text ≡ job.listed bytes → Following [] (map readLine (lines text))
-    → (l : List Shot) × (listingOf bytes ≡ accepted l)
-unfolding job.jobOf job.listingOf job.start
+    → (l : List Span) × (listingOf false bytes ≡ accepted l)
+unfolding job.jobOf job.listingOf job.start headerOf
 read-back text bytes e f = go (ltb limits.mostBytes (length text)) e
   where
-    go : (b : Bool) → cond b (job.refused 5 0) (job.listingOf text) ≡ job.listed bytes → (l : List Shot) × (listingOf bytes ≡ accepted l)
+    go : (b : Bool) → cond b (job.refused 5 0) (job.listingOf text) ≡ job.listed bytes → (l : List Span) × (listingOf false bytes ≡ accepted l)
     go true e = absurd (jobLaws.refused-not-listed 5 0 bytes e)
     go false e =
         let (r, o, same) = jobLaws.onto-listed header (job.outcome 1 job.start (lines text)) bytes e in
         let (l, p) = back-lines (lines text) 1 job.start [] r (omega arith) (record { sigma-distance = omega arith; sigma-bearing = omega arith }) o f in
-        (l, ap listingOf same ∙ listing-headed r ∙ p)
+        (l, ap (listingOf false) same ∙ listing-headed false r ∙ p)

@@ -1,46 +1,75 @@
 -- What the definitions of a listing's sums say, as theorems: the record below has a proof in proofs/Theorems.antt.
-use Prim.Native.Nat.{ℕ, _+_, _*_, _≤_}
+use Prim.Native.Nat.{ℕ, _+_, _*_, _≤_, _<_}
 use mathlib.Core.Path.{_≡_}
-use mathlib.Core.Bool.{true}
+use mathlib.Core.Bool.{Bool, true, false}
 use mathlib.Core.List.{List, [], _∷_, _++_, map}
 use lib.IntN.{pos, _+ℤ_}
 use lib.ListN.{length}
+use Rattle.text.specs.Limits.{numeralBound}
 use Rattle.text.specs.Fields.{name}
 use Rattle.text.specs.Scan.{lines}
 use Rattle.forms.specs.Forms.{Form, seeds, sigma, shot, noForm, readLine}
-use Rattle.rows.specs.Listing.{header, shotRow, endRow}
+use Rattle.rows.specs.Listing.{endRow}
+use Rattle.entries.specs.Entries.{headerOf, rowOf}
 use Rattle.job.specs.Job.{listed, jobOf}
-use Rattle.sums.specs.Sums.{Shot, mostShots, mostDistance}
-use Rattle.sums.specs.Exact.{Close}
-use Rattle.misclosure.specs.Misclosure.{mostStep, follows, accepted, listingOf, missOf}
+use Rattle.sums.specs.Sums.{Shot, sine, cosine, total, rounded, mostShots, mostDistance}
+use Rattle.sums.specs.Exact.{exactSine, exactCosine, Close}
+use Rattle.sums.specs.Spans.{Span, Chosen, lowShots, Spans}
+use Rattle.misclosure.specs.Misclosure.{mostStep, follows, accepted, listingOf, missOf, bothEnds, intervalsOf}
 use Rattle.misclosure.specs.declared.Miss.{Miss}
+use Rattle.misclosure.specs.declared.IntervalSums.{IntervalSums}
+use Rattle.misclosure.specs.declared.Ends.{Ends}
 
--- a shot of a listing with its stations
+-- a shot of a listing with its stations; where one distance is given, it is low and high
 pub record Row : Type 0 where
   pub from : List ℕ
   pub to : List ℕ
-  pub mm : ℕ
+  pub low : ℕ
+  pub high : ℕ
   pub step : ℕ
 
-abbrev pub shotIn : Row → Shot
-shotIn r = record { distance = r .mm; step = r .step }
+abbrev pub spanIn : Row → Span
+spanIn r = record { low = r .low; high = r .high; step = r .step }
 
-abbrev pub shotsIn : List Row → List Shot
-shotsIn rows = map shotIn rows
+abbrev pub spansIn : List Row → List Span
+spansIn rows = map spanIn rows
 
-unfoldable pub rowsText : List Row → List ℕ
-rowsText [] = []
-rowsText (r ∷ rows) = shotRow (r .from) (r .to) (r .mm) (r .step) ++ rowsText rows
+-- the row of each kind of listing
+abbrev pub rowText : Bool → Row → List ℕ
+rowText between r = rowOf between (r .from) (r .to) (r .low) (r .high) (r .step)
+
+unfoldable pub rowsText : Bool → List Row → List ℕ
+rowsText between [] = []
+rowsText between (r ∷ rows) = rowText between r ++ rowsText between rows
 
 -- the listing of these shots: the header, a row each, and their count
-unfoldable pub textOf : List Row → List ℕ
-textOf rows = header ++ (rowsText rows ++ endRow (length rows))
+unfoldable pub textOf : Bool → List Row → List ℕ
+textOf between rows = headerOf between ++ (rowsText between rows ++ endRow (length rows))
+
+-- one distance is both, two are in order
+abbrev pub Ordered : Bool → ℕ → ℕ → Type 0
+Ordered false low high = low ≡ high
+Ordered true low high = low ≤ high
 
 -- names and numbers in their ranges, and each shot starts where the one before ended, the first at the station given
-unfoldable pub Linked : List ℕ → List Row → Type 0
-Linked station [] = Unit {0}
-Linked station (r ∷ rows) =
-    (name (r .from) ≡ true) × (name (r .to) ≡ true) × (r .mm ≤ mostDistance) × (r .step ≤ mostStep) × (follows station (r .from) ≡ true) × Linked (r .to) rows
+unfoldable pub Linked : Bool → List ℕ → List Row → Type 0
+Linked between station [] = Unit {0}
+Linked between station (r ∷ rows) =
+    (name (r .from) ≡ true) × (name (r .to) ≡ true) × (r .high ≤ mostDistance) × Ordered between (r .low) (r .high) × (r .step ≤ mostStep)
+    × (follows station (r .from) ≡ true) × Linked between (r .to) rows
+
+-- names and numbers of their form, and low equals high: shots that either kind of listing can hold, whether or not it is accepted
+unfoldable pub LevelRows : List Row → Type 0
+LevelRows [] = Unit {0}
+LevelRows (r ∷ rows) =
+    (name (r .from) ≡ true) × (name (r .to) ≡ true) × (r .low < numeralBound) × (r .step < numeralBound) × (r .low ≡ r .high) × LevelRows rows
+
+-- the same shots, each with the distance that was chosen for it
+unfoldable pub chosenRows : List Row → List Shot → List Row
+chosenRows [] c = []
+chosenRows (r ∷ rows) [] = []
+chosenRows (r ∷ rows) (s ∷ c) =
+    record { from = r .from; to = r .to; low = s .distance; high = s .distance; step = r .step } ∷ chosenRows rows c
 
 -- the shots of a job follow each other
 unfoldable pub Following : List ℕ → List Form → Type 0
@@ -50,31 +79,78 @@ Following station (seeds a0 a1 a2 b0 b1 b2 ∷ xs) = Following station xs
 Following station (sigma d b ∷ xs) = Following station xs
 Following station (noForm ∷ xs) = Following station xs
 
--- the most bytes of an accepted listing: the header, a row of 40 for each shot, and the last row
-abbrev pub longestListing : ℕ
-longestListing = 16 + 40 * mostShots + 8
+-- the most bytes of a shot's row, and of an accepted listing: the header, a row for each shot, and the last row
+unfoldable pub longestRow : Bool → ℕ
+longestRow false = 40
+longestRow true = 48
 
--- the answer for the listing of these shots
+unfoldable pub longestListing : Bool → ℕ
+longestListing false = 16 + 40 * mostShots + 8
+longestListing true = 22 + 48 * mostShots + 8
+
+-- the answers for the listings of these shots
 abbrev pub missIn : List Row → Miss
-missIn rows = missOf (listingOf (textOf rows))
+missIn rows = missOf (listingOf false (textOf false rows))
+
+abbrev pub intervalsIn : List Row → IntervalSums
+intervalsIn rows = intervalsOf (listingOf true (textOf true rows))
+
+-- an answer of Job 13 as one of Job 14: each sum is the lowest and the highest
+abbrev pub level : Miss → IntervalSums
+level m = record {
+  number = m .number;
+  line = m .line;
+  east = bothEnds (m .east);
+  north = bothEnds (m .north);
+  easting = bothEnds (m .easting);
+  northing = bothEnds (m .northing);
+}
+
+-- the sums of two runs, end by end
+infixl 60 _+ᵉ_
+abbrev pub _+ᵉ_ : Ends → Ends → Ends
+x +ᵉ y = record { low = x .low +ℤ y .low; high = x .high +ℤ y .high }
 
 pub record Theorems : Type 0 where
-  -- a listing is accepted just where it is that of at most 500 such shots
-  pub accepted-listing : (rows : List Row) → Linked [] rows → length rows ≤ mostShots → listingOf (textOf rows) ≡ accepted (shotsIn rows)
-  pub listing-accepted : (text : List ℕ) (l : List Shot) → listingOf text ≡ accepted l
-      → (rows : List Row) × Linked [] rows × (length rows ≤ mostShots) × (textOf rows ≡ text) × (shotsIn rows ≡ l)
+  -- a listing of either kind is accepted just where it is that of at most 500 such shots
+  pub accepted-listing : (between : Bool) (rows : List Row) → Linked between [] rows → length rows ≤ mostShots
+      → listingOf between (textOf between rows) ≡ accepted (spansIn rows)
+  pub listing-accepted : (between : Bool) (text : List ℕ) (l : List Span) → listingOf between text ≡ accepted l
+      → (rows : List Row) × Linked between [] rows × (length rows ≤ mostShots) × (textOf between rows ≡ text) × (spansIn rows ≡ l)
   -- an accepted listing has at most so many bytes
-  pub longest : (text : List ℕ) (l : List Shot) → listingOf text ≡ accepted l → length text ≤ longestListing
+  pub longest : (between : Bool) (text : List ℕ) (l : List Span) → listingOf between text ≡ accepted l → length text ≤ longestListing between
   -- "East and north, rounded, are each less than 3 mm from the exact sums"; and even less than 2
-  pub close : (text : List ℕ) (l : List Shot) → listingOf text ≡ accepted l
-      → Close 3 l (missOf (listingOf text) .easting) (missOf (listingOf text) .northing)
-      × Close 2 l (missOf (listingOf text) .easting) (missOf (listingOf text) .northing)
+  pub close : (text : List ℕ) (l : List Span) → listingOf false text ≡ accepted l
+      → Close 3 (lowShots l) (missOf (listingOf false text) .easting) (missOf (listingOf false text) .northing)
+      × Close 2 (lowShots l) (missOf (listingOf false text) .easting) (missOf (listingOf false text) .northing)
   -- "No shots give 0 and 0."
   pub no-shots : missIn [] ≡ record { number = 0; line = 0; east = pos 0; north = pos 0; easting = pos 0; northing = pos 0 }
   -- "Where a run of shots joined to a second is accepted, it adds up, before rounding, to the two sums added."
-  pub joined : (first second : List Row) → Linked [] (first ++ second) → length (first ++ second) ≤ mostShots
+  pub joined : (first second : List Row) → Linked false [] (first ++ second) → length (first ++ second) ≤ mostShots
       → (missIn (first ++ second) .east ≡ missIn first .east +ℤ missIn second .east)
       × (missIn (first ++ second) .north ≡ missIn first .north +ℤ missIn second .north)
   -- a listing of the listing call whose shots follow each other is read back
   pub read-back : (text bytes : List ℕ) → jobOf text ≡ listed bytes → Following [] (map readLine (lines text))
-      → (l : List Shot) × (listingOf bytes ≡ accepted l)
+      → (l : List Span) × (listingOf false bytes ≡ accepted l)
+  -- Job 14: "Every choice lies between, and each end is met by some choice", and each end, rounded, is less than 3 mm from that choice's exact sum
+  pub spans : (text : List ℕ) (l : List Span) → listingOf true text ≡ accepted l
+      → Spans sine exactSine l (intervalsOf (listingOf true text) .east .low) (intervalsOf (listingOf true text) .east .high)
+      (intervalsOf (listingOf true text) .easting .low) (intervalsOf (listingOf true text) .easting .high)
+      × Spans cosine exactCosine l (intervalsOf (listingOf true text) .north .low) (intervalsOf (listingOf true text) .north .high)
+      (intervalsOf (listingOf true text) .northing .low) (intervalsOf (listingOf true text) .northing .high)
+  -- the sums of a choice are those of Job 13's listing with the distances chosen
+  pub choice : (rows : List Row) (c : List Shot) → Linked true [] rows → length rows ≤ mostShots → Chosen (spansIn rows) c
+      → missIn (chosenRows rows c) ≡ record {
+        number = 0;
+        line = 0;
+        east = total sine c;
+        north = total cosine c;
+        easting = rounded (total sine c);
+        northing = rounded (total cosine c);
+      }
+  -- "Where low equals high throughout, it is Job 13's result": number and line too, where it is refused
+  pub level-listing : (rows : List Row) → LevelRows rows → intervalsIn rows ≡ level (missIn rows)
+  -- joined runs
+  pub intervals-joined : (first second : List Row) → Linked true [] (first ++ second) → length (first ++ second) ≤ mostShots
+      → (intervalsIn (first ++ second) .east ≡ intervalsIn first .east +ᵉ intervalsIn second .east)
+      × (intervalsIn (first ++ second) .north ≡ intervalsIn first .north +ᵉ intervalsIn second .north)

@@ -1,28 +1,29 @@
 // A listing, line by line: what each line after the header adds, or why it is refused.
+use crate::Ends;
 use crate::limits::LAST_LINE;
 use crate::limits::MOST_DISTANCE;
 use crate::limits::MOST_STEP;
-use crate::sum::added;
+use crate::sum::widened;
 use angle::signed_of;
 use entries::Entry;
+use entries::Span;
 use entries::read_entry;
-use forms::Shot;
 use text::field::Place;
 use text::field::is_same;
 use text::field::part;
 ghost use mathlib.Core.Path.{_≡_};
-ghost use mathlib.Core.Bool.{cond};
+ghost use mathlib.Core.Bool.{false, cond};
 ghost use lib.Dec.{eqb};
 ghost use Rattle.text.specs.Fields.{partOf};
-ghost use Rattle.misclosure.specs.Private.{Small, Ranged, limitNumber, stationNumber, Takes, Moved, shotSaid};
+ghost use Rattle.misclosure.specs.Private.{Small, Limited, limitNumber, orderNumber, stationNumber, Takes, Moved, shotSaid};
 ghost use Rattle.entries.specs.Entries.{readEntry, last};
 
 // The number of the next line, where the last station stands in the line before it, and the sums so far.
 pub struct State {
     pub line: u32,
     pub station: Place,
-    pub east: i64,
-    pub north: i64,
+    pub east: Ends,
+    pub north: Ends,
 }
 
 // The number of a line, 0 where it is accepted; whether it is the end; and after an accepted shot the state.
@@ -33,17 +34,30 @@ pub struct Taken {
 }
 
 // 24 for a shot beyond a limit, else 0.
-fn limit_number(line: u32, x: Shot) -> u32
-    ensures { λ r. ⌜ r ≡ limitNumber line (x .distance) (x .bearing) ⌝ }
+fn limit_number(line: u32, x: Span) -> u32
+    ensures { λ r. ⌜ r ≡ limitNumber line (x .low) (x .high) (x .step) ⌝ }
 {
     if LAST_LINE < line {
         return 24;
     }
-    if MOST_DISTANCE < x.distance {
+    if MOST_DISTANCE < x.low {
         return 24;
     }
-    if MOST_STEP < x.bearing {
+    if MOST_DISTANCE < x.high {
         return 24;
+    }
+    if MOST_STEP < x.step {
+        return 24;
+    }
+    0
+}
+
+// 25 for a low distance above the high one, else 0.
+fn order_number(x: Span) -> u32
+    ensures { λ r. ⌜ r ≡ orderNumber (x .low) (x .high) ⌝ }
+{
+    if x.high < x.low {
+        return 25;
     }
     0
 }
@@ -71,15 +85,15 @@ fn first_of(first: u32, second: u32) -> u32
     first
 }
 
-// A shot within its ranges is added.
-fn moved(x: Shot, s: State) -> State
+// A shot within its limits is added.
+fn moved(x: Span, s: State) -> State
     requires { ⌜ Small s ⌝ }
-    requires { ⌜ Ranged (s .line) x ⌝ }
+    requires { ⌜ Limited (s .line) x ⌝ }
     ensures { λ r. ⌜ Moved x s r ⌝ }
 {
-    let turned = signed_of(x.bearing as u32);
-    let east = added(s.east, x.distance, turned.sine);
-    let north = added(s.north, x.distance, turned.cosine);
+    let turned = signed_of(x.step as u32);
+    let east = widened(s.east, x.low, x.high, turned.sine);
+    let north = widened(s.north, x.low, x.high, turned.cosine);
     let station = x.to;
     State {
         line: s.line + 1,
@@ -89,21 +103,29 @@ fn moved(x: Shot, s: State) -> State
     }
 }
 
-fn on_shot(previous: &[u8], line: &[u8], x: Shot, s: State) -> Taken
+// A line that is refused.
+fn refused_line(number: u32, s: State) -> Taken
+    ensures { λ r. ⌜ r ≡ record { number = number; ended = false; next = s } ⌝ }
+{
+    Taken {
+        number,
+        ended: false,
+        next: s,
+    }
+}
+
+fn on_shot(previous: &[u8], line: &[u8], x: Span, s: State) -> Taken
     requires { ⌜ Small s ⌝ }
     ensures { λ r. ⌜ Takes (partOf (now (previous .entry)) (s .station)) (now (line .entry)) s (shotSaid (now (line .entry)) x) r ⌝ }
 {
     let station = s.station;
     let from = x.from;
     let limit = limit_number(s.line, x);
+    let order = order_number(x);
     let place = station_number(part(previous, station), part(line, from));
-    let number = first_of(limit, place);
+    let number = first_of(limit, first_of(order, place));
     if number != 0 {
-        return Taken {
-            number,
-            ended: false,
-            next: s,
-        };
+        return refused_line(number, s);
     }
     let next = moved(x, s);
     Taken {
@@ -134,18 +156,14 @@ fn on_end(previous: &[u8], line: &[u8], count: u64, s: State) -> Taken
 }
 
 // One line after the header, the line before it besides.
-pub fn take_line(previous: &[u8], line: &[u8], s: State) -> Taken
+pub fn take_line(previous: &[u8], line: &[u8], between: bool, s: State) -> Taken
     requires { ⌜ Small s ⌝ }
-    ensures { λ r. ⌜ Takes (partOf (now (previous .entry)) (s .station)) (now (line .entry)) s (readEntry (now (line .entry))) r ⌝ }
+    ensures { λ r. ⌜ Takes (partOf (now (previous .entry)) (s .station)) (now (line .entry)) s (readEntry between (now (line .entry))) r ⌝ }
 {
-    let said = read_entry(line);
+    let said = read_entry(line, between);
     match said {
         Entry::Shot(x) => on_shot(previous, line, x, s),
         Entry::End(count) => on_end(previous, line, count, s),
-        Entry::NoEntry => Taken {
-            number: 6,
-            ended: false,
-            next: s,
-        },
+        Entry::NoEntry => refused_line(6, s),
     }
 }

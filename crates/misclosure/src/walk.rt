@@ -1,4 +1,5 @@
-// A whole listing: the header, line after line, the end.
+// A whole listing of either kind: the header, line after line, the end.
+use crate::Ends;
 use crate::entry::State;
 use crate::entry::take_line;
 use entries::is_header;
@@ -16,8 +17,8 @@ ghost use Rattle.misclosure.specs.Private.{sumsOf, SmallSums, refusedSum
 pub struct Sums {
     pub number: u32,
     pub line: u32,
-    pub east: i64,
-    pub north: i64,
+    pub east: Ends,
+    pub north: Ends,
 }
 
 fn refused(number: u32, line: u32) -> Sums
@@ -26,8 +27,8 @@ fn refused(number: u32, line: u32) -> Sums
     Sums {
         number,
         line,
-        east: 0,
-        north: 0,
+        east: Ends { low: 0, high: 0 },
+        north: Ends { low: 0, high: 0 },
     }
 }
 
@@ -39,30 +40,32 @@ fn ended(s: State, more: bool) -> Sums
     if more {
         return refused(6, s.line + 1);
     }
+    let east = s.east;
+    let north = s.north;
     Sums {
         number: 0,
         line: 0,
-        east: s.east,
-        north: s.north,
+        east,
+        north,
     }
 }
 
 // The lines from line 2 on, which begins at a place.
-fn walk(text: &[u8], first: usize) -> Sums
-    requires { ⌜ (first ≤ length (now text)) × (listingOf (now text) ≡ outcome 2 [] (lines (drop first (now text)))) ⌝ }
-    ensures { λ r. ⌜ (r ≡ sumsOf (listingOf (now (text .entry)))) × SmallSums r ⌝ }
+fn walk(text: &[u8], between: bool, first: usize) -> Sums
+    requires { ⌜ (first ≤ length (now text)) × (listingOf between (now text) ≡ outcome between 2 [] (lines (drop first (now text)))) ⌝ }
+    ensures { λ r. ⌜ (r ≡ sumsOf (listingOf between (now (text .entry)))) × SmallSums r ⌝ }
 {
     let mut s = State {
         line: 2,
         station: Place { from: 0, to: 0 },
-        east: 0,
-        north: 0,
+        east: Ends { low: 0, high: 0 },
+        north: Ends { low: 0, high: 0 },
     };
     let mut before = first;
     let mut at = first;
     while at < text.len() {
         let end = line_end(text, at);
-        let t = take_line(&text[before..at], &text[at..end], s);
+        let t = take_line(&text[before..at], &text[at..end], between, s);
         if t.number != 0 {
             return refused(t.number, s.line);
         }
@@ -76,13 +79,13 @@ fn walk(text: &[u8], first: usize) -> Sums
     refused(6, s.line)
 }
 
-// The sums of a listing.
-pub fn read_listing(text: &[u8]) -> Sums
-    ensures { λ r. ⌜ (r ≡ sumsOf (listingOf (now (text .entry)))) × SmallSums r ⌝ }
+// The sums of a listing of a kind.
+pub fn read_listing(text: &[u8], between: bool) -> Sums
+    ensures { λ r. ⌜ (r ≡ sumsOf (listingOf between (now (text .entry)))) × SmallSums r ⌝ }
 {
     let first = line_end(text, 0);
-    if !is_header(&text[0..first]) {
+    if !is_header(&text[0..first], between) {
         return refused(6, 1);
     }
-    walk(text, first)
+    walk(text, between, first)
 }

@@ -3,7 +3,7 @@ use Prim.Native.Nat.{ℕ, suc, _^_, _≤_, _<_}
 use native.Mathlib.Omega.{arith}
 use mathlib.Core.Path.{_≡_}
 use mathlib.Core.Bool.{Bool, true, false, cond}
-use mathlib.Core.List.{[], _∷_, _++_, append-assoc}
+use mathlib.Core.List.{List, [], _∷_, _++_, append-assoc}
 use borrow.Author.Tests.{eq-eqb, ne-eqb}
 use lib.Dec.{eqb}
 use lib.IntN.{ℤ, pos, negsuc, natAbs}
@@ -13,39 +13,89 @@ use Rattle.text.specs.Forms.{printForm}
 use Rattle.text.proofs.Decimal.{decimal-length}
 use Rattle.rows.specs.Listing.{refusedRow}
 use Rattle.rows.proofs.Rows.{refused-parts}
+use Rattle.misclosure.specs.Misclosure.{listingOf, missOf, intervalsOf, isBetween}
 use Rattle.misclosure.specs.declared.Miss.{Miss}
-use Rattle.miss_rows.specs.Output.{signedDecimal, sumRows, outputOf, outputRoom}
+use Rattle.misclosure.specs.declared.IntervalSums.{IntervalSums}
+use Rattle.misclosure.specs.declared.Ends.{Ends}
+use Rattle.miss_rows.specs.Output.{signedDecimal, sumRows, endsRow, intervalRows, missOutput, intervalsOutput, outputOf, outputRoom}
 
 pub sum-parts : (east north : ℤ) → (ascii "EAST" ++ (32 ∷ [])) ++ (signedDecimal east ++ (10 ∷ [])) ++ (ascii "NORTH" ++ (32 ∷ [])) ++ (signedDecimal north ++ (10 ∷ []))
     ≡ sumRows east north
 unfolding sumRows printForm
 sum-parts east north = simp append-assoc
 
-pub printed-sums : (m : Miss) → m .number ≡ 0 → outputOf m ≡ sumRows (m .easting) (m .northing)
-unfolding outputOf
-printed-sums m h = rw (eq-eqb (m .number) 0 h)
+pub ends-parts : (name : List ℕ) (e : Ends)
+    → (name ++ (32 ∷ [])) ++ (signedDecimal (e .low) ++ (32 ∷ [])) ++ (signedDecimal (e .high) ++ (10 ∷ [])) ≡ endsRow name e
+unfolding endsRow printForm
+ends-parts name e = simp append-assoc
 
-pub printed-refused : (m : Miss) → (m .number ≡ 0 → ⊥) → outputOf m ≡ refusedRow (m .number) (m .line)
-unfolding outputOf
-printed-refused m h = rw (ne-eqb (m .number) 0 h)
+module _ (m : Miss) where
+  pub miss-sums : m .number ≡ 0 → missOutput m ≡ sumRows (m .easting) (m .northing)
+  unfolding missOutput
+  miss-sums h = rw (eq-eqb (m .number) 0 h)
+
+  pub miss-refused : (m .number ≡ 0 → ⊥) → missOutput m ≡ refusedRow (m .number) (m .line)
+  unfolding missOutput
+  miss-refused h = rw (ne-eqb (m .number) 0 h)
+
+module _ (m : IntervalSums) where
+  pub intervals-sums : m .number ≡ 0 → intervalsOutput m ≡ intervalRows (m .easting) (m .northing)
+  unfolding intervalsOutput
+  intervals-sums h = rw (eq-eqb (m .number) 0 h)
+
+  pub intervals-refused : (m .number ≡ 0 → ⊥) → intervalsOutput m ≡ refusedRow (m .number) (m .line)
+  unfolding intervalsOutput
+  intervals-refused h = rw (ne-eqb (m .number) 0 h)
+
+-- which kind is printed
+module _ (text : List ℕ) where
+  pub output-between : isBetween text ≡ true → outputOf text ≡ intervalsOutput (intervalsOf (listingOf true text))
+  unfolding outputOf
+  output-between h = rw h
+
+  pub output-single : isBetween text ≡ false → outputOf text ≡ missOutput (missOf (listingOf false text))
+  unfolding outputOf
+  output-single h = rw h
 
 -- ---- the room that suffices, whatever the machine's numbers are
 
-signed-length : (z : ℤ) → natAbs z ≤ 2 ^ 63 → length (signedDecimal z) ≤ 20
+abbrev Machine : ℤ → Type 0
+Machine z = natAbs z ≤ 2 ^ 63
+
+signed-length : (z : ℤ) → Machine z → length (signedDecimal z) ≤ 20
 signed-length (pos n) h = omega (arith, decimal-length 18 n (omega arith))
 signed-length (negsuc n) h = omega (arith, decimal-length 18 (suc n) (omega arith))
 
-sums-length : (east north : ℤ) → natAbs east ≤ 2 ^ 63 → natAbs north ≤ 2 ^ 63 → length (sumRows east north) ≤ outputRoom
+sums-length : (east north : ℤ) → Machine east → Machine north → length (sumRows east north) ≤ outputRoom
 sums-length east north h k = rw (← sum-parts east north) (simp length-append (omega (arith, signed-length east h, signed-length north k)))
+
+ends-length : (name : List ℕ) (e : Ends) → length name ≤ 5 → Machine (e .low) → Machine (e .high) → length (endsRow name e) ≤ 48
+ends-length name e few a b = rw (← ends-parts name e) (simp length-append (omega (arith, signed-length (e .low) a, signed-length (e .high) b)))
+
+intervals-length : (east north : Ends) → Machine (east .low) → Machine (east .high) → Machine (north .low) → Machine (north .high)
+    → length (intervalRows east north) ≤ outputRoom
+unfolding intervalRows
+intervals-length east north a b c d =
+    omega (
+      arith,
+      length-append (endsRow (ascii "EAST") east) (endsRow (ascii "NORTH") north),
+      ends-length (ascii "EAST") east (omega arith) a b,
+      ends-length (ascii "NORTH") north (omega arith) c d,
+    )
 
 refused-length : (number line : ℕ) → number < 2 ^ 32 → line < 2 ^ 32 → length (refusedRow number line) ≤ outputRoom
 refused-length number line h k =
     rw (← refused-parts number line) (simp length-append (omega (arith, decimal-length 9 number (omega arith), decimal-length 9 line (omega arith))))
 
-pub output-fits : (m : Miss) → m .number < 2 ^ 32 → m .line < 2 ^ 32 → natAbs (m .easting) ≤ 2 ^ 63 → natAbs (m .northing) ≤ 2 ^ 63 → length (outputOf m) ≤ outputRoom
-unfolding outputOf
-output-fits m n l e k = go (eqb (m .number) 0)
-  where
-    go : (b : Bool) → length (cond b (sumRows (m .easting) (m .northing)) (refusedRow (m .number) (m .line))) ≤ outputRoom
-    go true = sums-length (m .easting) (m .northing) e k
-    go false = refused-length (m .number) (m .line) n l
+one-of : (b : Bool) (x y : List ℕ) → length x ≤ outputRoom → length y ≤ outputRoom → length (cond b x y) ≤ outputRoom
+one-of true x y h k = h
+one-of false x y h k = k
+
+pub output-fits : (m : Miss) → m .number < 2 ^ 32 → m .line < 2 ^ 32 → Machine (m .easting) → Machine (m .northing) → length (missOutput m) ≤ outputRoom
+unfolding missOutput
+output-fits m n l e k = one-of (eqb (m .number) 0) _ _ (sums-length (m .easting) (m .northing) e k) (refused-length (m .number) (m .line) n l)
+
+pub intervals-fit : (m : IntervalSums) → m .number < 2 ^ 32 → m .line < 2 ^ 32 → Machine (m .easting .low) → Machine (m .easting .high)
+    → Machine (m .northing .low) → Machine (m .northing .high) → length (intervalsOutput m) ≤ outputRoom
+unfolding intervalsOutput
+intervals-fit m n l a b c d = one-of (eqb (m .number) 0) _ _ (intervals-length (m .easting) (m .northing) a b c d) (refused-length (m .number) (m .line) n l)

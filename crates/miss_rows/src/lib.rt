@@ -1,4 +1,8 @@
-// What the program misses prints: east and north in whole millimetres, or why the listing is refused.
+// What the program misses prints: east and north in whole millimetres, the lowest and the highest of each where distances lie between two readings, or
+// why the listing is refused.
+use misclosure::Ends;
+use misclosure::intervals;
+use misclosure::is_between;
 use misclosure::misclosure;
 use rows::put_refused;
 use text::buffer::put;
@@ -8,11 +12,12 @@ ghost use Prim.Native.Nat.{_≤_};
 ghost use mathlib.Core.List.{[], _∷_, _++_};
 ghost use lib.ListN.{length};
 ghost use Rattle.text.specs.Buffer.{Puts};
-ghost use Rattle.misclosure.specs.Misclosure.{listingOf, missOf};
-ghost use Rattle.miss_rows.specs.Output.{signedDecimal, sumRows, outputOf};
+ghost use mathlib.Core.Bool.{true, false};
+ghost use Rattle.misclosure.specs.Misclosure.{listingOf, missOf, intervalsOf};
+ghost use Rattle.miss_rows.specs.Output.{signedDecimal, sumRows, endsRow, intervalRows, missOutput, intervalsOutput, outputOf};
 
 // The room that suffices for any answer.
-pub const OUTPUT_ROOM: usize = 64;
+pub const OUTPUT_ROOM: usize = 96;
 
 // A signed number in decimal and the byte that ends it.
 fn put_signed(out: &mut [u8], at: usize, n: i64, end: u8) -> usize
@@ -36,14 +41,51 @@ fn put_sums(out: &mut [u8], east: i64, north: i64) -> usize
     put_signed(out, c, north, b'\n')
 }
 
-// Writes what the program prints for a listing, and returns its length.
-pub fn print_misses(text: &[u8], out: &mut [u8]) -> usize
-    ensures { λ r. ⌜ Puts (now (out .entry)) 0 (outputOf (missOf (listingOf (now (text .entry))))) r (now (out .exit)) ⌝ }
-    ensures { λ r. ⌜ r ≤ length (now (out .exit)) ⌝ }
+// A row of a name and two numbers.
+fn put_ends(out: &mut [u8], at: usize, name: &[u8], e: Ends) -> usize
+    ensures { λ r. ⌜ Puts (now (out .entry)) at (endsRow (now (name .entry)) e) r (now (out .exit)) ⌝ }
+{
+    let a = put_field(out, at, name, b' ');
+    let b = put_signed(out, a, e.low, b' ');
+    put_signed(out, b, e.high, b'\n')
+}
+
+fn put_intervals(out: &mut [u8], east: Ends, north: Ends) -> usize
+    ensures { λ r. ⌜ Puts (now (out .entry)) 0 (intervalRows east north) r (now (out .exit)) ⌝ }
+{
+    let next = put_ends(out, 0, b"EAST", east);
+    put_ends(out, next, b"NORTH", north)
+}
+
+fn print_miss(text: &[u8], out: &mut [u8]) -> usize
+    ensures { λ r. ⌜ Puts (now (out .entry)) 0 (missOutput (missOf (listingOf false (now (text .entry))))) r (now (out .exit)) ⌝ }
 {
     let miss = misclosure(text);
     if miss.number == 0 {
         return put_sums(out, miss.easting, miss.northing);
     }
     put_refused(out, miss.number, miss.line as u64)
+}
+
+fn print_intervals(text: &[u8], out: &mut [u8]) -> usize
+    ensures { λ r. ⌜ Puts (now (out .entry)) 0 (intervalsOutput (intervalsOf (listingOf true (now (text .entry))))) r (now (out .exit)) ⌝ }
+{
+    let sums = intervals(text);
+    if sums.number == 0 {
+        let easting = sums.easting;
+        let northing = sums.northing;
+        return put_intervals(out, easting, northing);
+    }
+    put_refused(out, sums.number, sums.line as u64)
+}
+
+// Writes what the program prints for a listing of either kind, and returns its length.
+pub fn print_misses(text: &[u8], out: &mut [u8]) -> usize
+    ensures { λ r. ⌜ Puts (now (out .entry)) 0 (outputOf (now (text .entry))) r (now (out .exit)) ⌝ }
+    ensures { λ r. ⌜ r ≤ length (now (out .exit)) ⌝ }
+{
+    if is_between(text) {
+        return print_intervals(text, out);
+    }
+    print_miss(text, out)
 }

@@ -11,6 +11,7 @@ use Rattle.sums.specs.Sums.{Shot, sine, cosine, total}
 use Rattle.sums.specs.Theorems.{Theorems, halfTurned}
 use Rattle.sums.proofs.SumLaws.{sum-mono, total-joined, sums-overlap, sums-narrow}
 use Rattle.sums.proofs.Nearness.{close-within}
+use Rattle.sums.proofs.Choices.{spans, level-sums}
 
 -- two quarter turns change both signs
 half-signed : (v : ℕ) → v < 65536 → signedOf ((v + 32768) % 65536) ≡ (negℤ (signedOf v .0), negℤ (signedOf v .1))
@@ -45,4 +46,6 @@ theorems = record {
   half-turn = λ s h.
       let e = half-signed (s .step) h in
       (cancel sine s (ap (λ (p : ℤ × ℤ). p .0) e), cancel cosine s (ap (λ (p : ℤ × ℤ). p .1) e));
+  spans = spans;
+  level = level-sums;
 }

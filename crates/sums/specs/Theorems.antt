@@ -4,11 +4,13 @@ use mathlib.Core.Bool.{false}
 use mathlib.Core.List.{List, [], _∷_, _++_}
 use Prim.Native.Nat.{ℕ, zero, _+_, _%_, _≤_, _<_}
 use lib.IntN.{ℤ, pos, _+ℤ_}
+use lib.ListN.{length}
 use Rattle.exact.specs.Fraction.{Fraction}
 use Rattle.exact.specs.Pair.{Enclosure}
 use Rattle.sums.specs.Points.{Point, _≤ᵖ_, _<ᵖ_, _+ᵖ_, signed, lowest, highest}
-use Rattle.sums.specs.Sums.{Shot, sine, cosine, total, rounded, Allowed}
+use Rattle.sums.specs.Sums.{Shot, sine, cosine, total, rounded, mostShots, Allowed}
 use Rattle.sums.specs.Exact.{sumOf, lowEnd, highEnd, exactSine, exactCosine, Close}
+use Rattle.sums.specs.Spans.{Span, lowShots, lowestTotal, highestTotal, Ranged, Level, Spans}
 
 -- the same shot half a turn on
 abbrev pub halfTurned : Shot → Shot
@@ -33,3 +35,9 @@ pub record Theorems : Type 0 where
   pub joined : (G : ℕ → ℤ) (l m : List Shot) → total G (l ++ m) ≡ total G l +ℤ total G m
   -- a shot and the same shot half a turn on cancel
   pub half-turn : (s : Shot) → s .step < 65536 → (total sine (s ∷ halfTurned s ∷ []) ≡ pos 0) × (total cosine (s ∷ halfTurned s ∷ []) ≡ pos 0)
+  -- "Every choice lies between, and each end is met by some choice" (Job 14)
+  pub spans : (l : List Span) → length l ≤ mostShots → Ranged l
+      → Spans sine exactSine l (lowestTotal sine l) (highestTotal sine l) (rounded (lowestTotal sine l)) (rounded (highestTotal sine l))
+      × Spans cosine exactCosine l (lowestTotal cosine l) (highestTotal cosine l) (rounded (lowestTotal cosine l)) (rounded (highestTotal cosine l))
+  -- "Where low equals high throughout, it is Job 13's result."
+  pub level : (G : ℕ → ℤ) (l : List Span) → Level l → (lowestTotal G l ≡ total G (lowShots l)) × (highestTotal G l ≡ total G (lowShots l))

@@ -1,48 +1,99 @@
--- `shot_entry` meets its contract: a line of four fields is a shot or neither.
-use mathlib.Core.Path.{sym, ap, _∙_}
-use borrow.Author.Needs.{needs}
-use Rattle.forms.specs.Forms.{said}
-use Rattle.entries.specs.Entries.{fromForm}
+-- `shot_entry` meets its contract.
+use mathlib.Core.Path.{sym, _∙_}
+use native.Mathlib.Omega.{arith}
+use borrow.Author.Tests.{not-true, not-false}
+use Rattle.text.proofs.Readings.{three-first, three-second, three-third}
+use Rattle.entries.proofs.Reading.{high-range, leg-at}
 use Rattle.entries.proofs.shot_entry.Statement.{statement}
 use Rattle.entries.proofs.shot_entry.Tie as tie
 
-shot-line-requires : tie.Need-shot-line-requires
-shot-line-requires c κs = tt
+high-at-requires : tie.Need-high-at-requires
+high-at-requires c κs = tt
 
-enum-known-said : tie.Need-enum-known-said
-enum-known-said c = search needs
+array-copy-out-from : tie.Need-array-copy-out-from
+array-copy-out-from c = omega arith
 
-enum-known-said-2 : tie.Need-enum-known-said-2
-enum-known-said-2 c = search needs
+array-copy-out-to : tie.Need-array-copy-out-to
+array-copy-out-to c = omega arith
 
-enum-known-said-3 : tie.Need-enum-known-said-3
-enum-known-said-3 c = search needs
-
-enum-told : tie.Need-enum-told
-enum-told c = search needs
+name-at-requires : tie.Need-name-at-requires
+name-at-requires c κs = tt
 
 returns : tie.Need-returns
-returns c = ap fromForm (sym (ap (said _) (c .before .said .given .1)) ∙ c .before .before .before .shot-line .ensures)
+returns c = rw (leg-at _ _ (c .before .before .before .before .before .before .before .args .between), sym (c .before .name-at .ensures) ∙ not-true _ (c .if1 .taken))
+
+name-at-requires-2 : tie.Need-name-at-requires-2
+name-at-requires-2 c κs = tt
 
 returns-2 : tie.Need-returns-2
-returns-2 c = ap fromForm (sym (ap (said _) (c .before .said2 .given .1)) ∙ c .before .before .before .shot-line .ensures)
+returns-2 c = rw (
+  leg-at _ _ (c .before .before .before .before .before .before .before .before .before .args .between),
+  sym (c .before .before .before .name-at .ensures) ∙ not-false _ (c .before .before .if1 .left),
+  sym (c .before .name-at2 .ensures) ∙ not-true _ (c .if2 .taken),
+)
+
+array-copy-out-three-at : tie.Need-array-copy-out-three-at
+array-copy-out-three-at c = omega arith
+
+mul-three-at : tie.Need-mul-three-at
+mul-three-at c = omega (arith, c .before .before .before .before .before .before .before .before .high-at .ensures, high-range (c .before .before .before .before .before .before .before .before .before .before .args .between))
+
+array-copy-out-three-at-2 : tie.Need-array-copy-out-three-at-2
+array-copy-out-three-at-2 c = omega (arith, c .before .before .before .before .before .before .before .before .high-at .ensures, high-range (c .before .before .before .before .before .before .before .before .before .before .args .between))
+
+add-three-at : tie.Need-add-three-at
+add-three-at c = omega (arith, c .before .before .before .before .before .before .before .before .before .high-at .ensures, high-range (c .before .before .before .before .before .before .before .before .before .before .before .args .between))
+
+mul-three-at-2 : tie.Need-mul-three-at-2
+mul-three-at-2 c = omega (arith, c .before .before .before .before .before .before .before .before .before .high-at .ensures, high-range (c .before .before .before .before .before .before .before .before .before .before .before .args .between))
+
+array-copy-out-three-at-3 : tie.Need-array-copy-out-three-at-3
+array-copy-out-three-at-3 c = omega (arith, c .before .before .before .before .before .before .before .before .before .high-at .ensures, high-range (c .before .before .before .before .before .before .before .before .before .before .before .args .between))
+
+three-at-requires : tie.Need-three-at-requires
+three-at-requires c κs = tt
 
 returns-3 : tie.Need-returns-3
-returns-3 c = ap fromForm (sym (ap (said _) (c .before .said3 .given .1)) ∙ c .before .before .before .shot-line .ensures)
+returns-3 c =
+    let n = rw (c .before .before .before .before .before .before .before .before .before .before .before .before .before .high-at .ensures) at (c .before .before .three-at .ensures) in
+    rw (
+      leg-at _ _ (c .before .before .before .before .before .before .before .before .before .before .before .before .before .before .before .args .between),
+      sym (c .before .before .before .before .before .before .before .before .before .name-at .ensures) ∙ not-false _ (c .before .before .before .before .before .before .before .before .if1 .left),
+      sym (c .before .before .before .before .before .before .before .name-at2 .ensures) ∙ not-false _ (c .before .before .before .before .before .before .if2 .left),
+      sym (n .ok) ∙ not-true _ (c .if3 .taken),
+    )
 
 returns-4 : tie.Need-returns-4
-returns-4 c = ap fromForm (sym (ap (said _) (c .enum-told .given .1)) ∙ c .before .before .shot-line .ensures)
+returns-4 c =
+    let n = rw (c .before .before .before .before .before .before .before .before .before .before .before .before .before .high-at .ensures) at (c .before .before .three-at .ensures) in
+    let t = not-false _ (c .if3 .left) in
+    rw (
+      leg-at _ _ (c .before .before .before .before .before .before .before .before .before .before .before .before .before .before .before .args .between),
+      sym (c .before .before .before .before .before .before .before .before .before .name-at .ensures) ∙ not-false _ (c .before .before .before .before .before .before .before .before .if1 .left),
+      sym (c .before .before .before .before .before .before .before .name-at2 .ensures) ∙ not-false _ (c .before .before .before .before .before .before .if2 .left),
+      sym (n .ok) ∙ t,
+      three-first n t,
+      three-second n t,
+      three-third n t,
+    )
 
 pub shot-entry-spec : {M : Type 1} → statement M
 shot-entry-spec =
     tie.close
     (tie.spec
-    shot-line-requires
-    enum-known-said
-    enum-known-said-2
-    enum-known-said-3
-    enum-told
+    high-at-requires
+    array-copy-out-from
+    array-copy-out-to
+    name-at-requires
     returns
+    name-at-requires-2
     returns-2
+    array-copy-out-three-at
+    mul-three-at
+    array-copy-out-three-at-2
+    add-three-at
+    mul-three-at-2
+    array-copy-out-three-at-3
+    three-at-requires
     returns-3
     returns-4)

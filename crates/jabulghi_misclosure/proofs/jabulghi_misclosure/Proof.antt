@@ -1,5 +1,5 @@
 -- `jabulghi_misclosure` meets its contract: number, line and both pairs of sums are those of the call, and so is their closeness.
-use mathlib.Core.Path.{ap, _∙_}
+use mathlib.Core.Path.{refl, ap, _∙_}
 use mathlib.Core.List.{[], _∷_}
 use mir.Syntax.{w64}
 use mir.Val.{SFits}
@@ -23,8 +23,8 @@ returns c =
     let e = miss .ensures in (
       ap (λ (m : Miss). m .number) e,
       (
-        stored east north ∙ ap (λ (m : Miss). m .east ∷ m .north ∷ []) e,
-        (stored easting northing ∙ ap (λ (m : Miss). m .easting ∷ m .northing ∷ []) e, (ap (λ (m : Miss). m .line) e, λ l k. theorems .close _ l k .0)),
+        stored east north refl ∙ ap (λ (m : Miss). m .east ∷ m .north ∷ []) e,
+        (stored easting northing refl ∙ ap (λ (m : Miss). m .easting ∷ m .northing ∷ []) e, (ap (λ (m : Miss). m .line) e, λ l k. theorems .close _ l k .0)),
       ),
     )
 

@@ -10,15 +10,15 @@ read-listing-requires : tie.Need-read-listing-requires
 read-listing-requires c κs = tt
 
 millimetres-requires : tie.Need-millimetres-requires
-millimetres-requires c κs = read-small (c .before .read-listing .result .east) (2 ^ 62) (c .before .read-listing .ensures .1 .east) (omega arith)
+millimetres-requires c κs = read-small (c .before .before .before .read-listing .result .east .low) (2 ^ 62) (c .before .before .before .read-listing .ensures .1 .east .0) (omega arith)
 
 millimetres-requires-2 : tie.Need-millimetres-requires-2
-millimetres-requires-2 c κs = read-small (c .before .before .before .read-listing .result .north) (2 ^ 62) (c .before .before .before .read-listing .ensures .1 .north) (omega arith)
+millimetres-requires-2 c κs = read-small (c .before .before .before .before .before .read-listing .result .north .low) (2 ^ 62) (c .before .before .before .before .before .read-listing .ensures .1 .north .0) (omega arith)
 
 returns : tie.Need-returns
 returns c =
-    let read = c .before .before .before .before .before .read-listing in
-    miss-is _ (read .result) _ _ (read .ensures .0) (read .ensures .1) (c .before .before .before .millimetres .ensures) (c .before .millimetres2 .ensures)
+    let read = c .before .before .before .before .before .before .before .before .read-listing in
+    miss-is _ (read .result) _ _ (read .ensures .0) (read .ensures .1) (c .before .before .before .before .millimetres .ensures) (c .before .before .millimetres2 .ensures)
 
 pub misclosure-spec : {M : Type 1} → statement M
 misclosure-spec = tie.close (tie.spec read-listing-requires millimetres-requires millimetres-requires-2 returns)

@@ -1,62 +1,51 @@
--- `print_misses` writes the sums in millimetres, or the one line of a refused listing.
+-- `print_misses` writes what the kind of the listing asks for.
 use native.Mathlib.Omega.{arith}
-use borrow.Author.Needs.{needs}
-use mir.Syntax.{w64}
-use mir.Val.{SFits}
-use mir.Facts.{toZ-ofZ}
+use mathlib.Core.Path.{sym, _∙_}
 use Rattle.text.specs.Buffer.{Puts}
 use Rattle.text.proofs.Writing.{puts-within}
 use Rattle.miss_rows.specs.Output.{outputOf}
-use Rattle.miss_rows.proofs.Printed.{printed-sums, printed-refused}
+use Rattle.miss_rows.proofs.Printed.{output-between, output-single}
+use borrow.Author.Needs.{needs}
 use Rattle.miss_rows.proofs.print_misses.Statement.{statement}
 use Rattle.miss_rows.proofs.print_misses.Tie as tie
 
-misclosure-requires : tie.Need-misclosure-requires
-misclosure-requires c κs = tt
+is-between-requires : tie.Need-is-between-requires
+is-between-requires c κs = tt
 
-put-sums-requires : tie.Need-put-sums-requires
-put-sums-requires c κs = tt
+print-intervals-requires : tie.Need-print-intervals-requires
+print-intervals-requires c κs = tt
 
 same-length : tie.Need-same-length
 same-length c = search needs
 
 returns : tie.Need-returns
 returns c =
-    let out = c .before .before .before .before .before .before .before .before .before .before .before .args .out .now in
-    let miss = c .before .before .before .before .before .before .before .before .misclosure in
-    let m = miss .result in
-    let east : SFits w64 (m .easting) = record { sfits = c .before .before .before .before .struct-told .given .1 .1 .1 .1 .0 .1 } in
-    let north : SFits w64 (m .northing) = record { sfits = c .before .before .before .struct-told2 .given .1 .1 .1 .1 .1 .0 .1 } in
-    let rows = rw (toZ-ofZ east, toZ-ofZ north) at (c .before .before .put-sums .ensures) in
-    let puts : Puts out 0 (outputOf m) (c .before .before .put-sums .result) (c .before .before .put-sums .last .0) = rw (printed-sums m (c .before .before .before .before .before .before .if1 .taken)) rows in
-    rw (← miss .ensures) (puts, puts-within out 0 (outputOf m) (omega arith) puts)
+    let a = c .before .before .before .before .before .before .before .before .args in
+    let puts : Puts (a .out .now) 0 (outputOf (a .text .now)) (c .before .before .print-intervals .result) (c .before .before .print-intervals .last .1 .0) =
+    rw (output-between (a .text .now) (sym (c .before .before .before .before .before .is-between .ensures) ∙ c .before .before .before .before .if1 .taken)) (c .before .before .print-intervals .ensures) in
+    (puts, puts-within (a .out .now) 0 (outputOf (a .text .now)) (omega arith) puts)
 
-cast-put-refused : tie.Need-cast-put-refused
-cast-put-refused c = search needs
-
-put-refused-requires : tie.Need-put-refused-requires
-put-refused-requires c κs = tt
+print-miss-requires : tie.Need-print-miss-requires
+print-miss-requires c κs = tt
 
 same-length-2 : tie.Need-same-length-2
 same-length-2 c = search needs
 
 returns-2 : tie.Need-returns-2
 returns-2 c =
-    let out = c .before .before .before .before .before .before .before .before .before .before .args .out .now in
-    let miss = c .before .before .before .before .before .before .before .misclosure in
-    let m = miss .result in
-    let puts : Puts out 0 (outputOf m) (c .before .before .put-refused .result) (c .before .before .put-refused .last .0) = rw (printed-refused m (c .before .before .before .before .before .if1 .left)) (c .before .before .put-refused .ensures) in
-    rw (← miss .ensures) (puts, puts-within out 0 (outputOf m) (omega arith) puts)
+    let a = c .before .before .before .before .before .before .before .before .args in
+    let puts : Puts (a .out .now) 0 (outputOf (a .text .now)) (c .before .before .print-miss .result) (c .before .before .print-miss .last .1 .0) =
+    rw (output-single (a .text .now) (sym (c .before .before .before .before .before .is-between .ensures) ∙ c .before .before .before .before .if1 .left)) (c .before .before .print-miss .ensures) in
+    (puts, puts-within (a .out .now) 0 (outputOf (a .text .now)) (omega arith) puts)
 
 pub print-misses-spec : {M : Type 1} → statement M
 print-misses-spec =
     tie.close
     (tie.spec
-    misclosure-requires
-    put-sums-requires
+    is-between-requires
+    print-intervals-requires
     same-length
     returns
-    cast-put-refused
-    put-refused-requires
+    print-miss-requires
     same-length-2
     returns-2)

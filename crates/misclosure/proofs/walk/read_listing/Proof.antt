@@ -26,12 +26,12 @@ refused-requires c κs = tt
 
 returns : tie.Need-returns
 returns c =
-    refused-sums _ _ 6 1
-    (header-off _ _ (c .before .before .before .before .line-end .ensures) (sym (c .before .before .is-header .ensures) ∙ not-true _ (c .before .if1 .taken)))
+    refused-sums _ _ _ 6 1
+    (header-off _ _ _ (c .before .before .before .before .line-end .ensures) (sym (c .before .before .is-header .ensures) ∙ not-true _ (c .before .if1 .taken)))
     (c .refused .ensures)
 
 walk-requires : tie.Need-walk-requires
-walk-requires c κs = header-on _ _ (c .before .before .before .line-end .ensures) (sym (c .before .is-header .ensures) ∙ not-false _ (c .if1 .left))
+walk-requires c κs = header-on _ _ _ (c .before .before .before .line-end .ensures) (sym (c .before .is-header .ensures) ∙ not-false _ (c .if1 .left))
 
 returns-2 : tie.Need-returns-2
 returns-2 c = c .walk .ensures

@@ -11,13 +11,13 @@ use Rattle.misclosure.proofs.walk.walk.Statement.{statement}
 use Rattle.misclosure.proofs.walk.walk.Tie as tie
 
 abbrev Inv-loop : tie.InvT-loop
-Inv-loop text first s₀ before₀ at₀ s before at = Going text s before at
+Inv-loop text between first s₀ before₀ at₀ s before at = Going between text s before at
 
 abbrev μ-loop : tie.MeasureT-loop
-μ-loop text first s₀ before₀ at₀ s before at = length text - at
+μ-loop text between first s₀ before₀ at₀ s before at = length text - at
 
 loop-holds : tie.Need-loop-holds Inv-loop μ-loop
-loop-holds c = going-start _ _ _ (c .before .pre .0) (c .before .pre .1) refl
+loop-holds c = going-start _ _ _ _ (c .before .pre .0) (c .before .pre .1) refl
 
 line-end-requires : tie.Need-line-end-requires Inv-loop μ-loop
 line-end-requires c κs = tt
@@ -45,7 +45,7 @@ part-take-line-end-2 c = omega (
 )
 
 take-line-requires : tie.Need-take-line-requires Inv-loop μ-loop
-take-line-requires c κs = small _ _ _ _ (c .before .before .before .before .loop .inv)
+take-line-requires c κs = small _ _ _ _ _ (c .before .before .before .before .loop .inv)
 
 refused-requires : tie.Need-refused-requires Inv-loop μ-loop
 refused-requires c κs = tt
@@ -53,8 +53,8 @@ refused-requires c κs = tt
 returns : tie.Need-returns Inv-loop μ-loop
 returns c =
     let at = c .before .before .before .before .before .before .before .before .loop in
-    refused-sums _ _ _ _
-    (line-off (c .before .before .before .before .before .before .before .before .before .before .args .text .now) (at .s) (at .before) (at .at) (c .before .before .before .before .before .before .line-end .result) (c .before .before .before .take-line .result) (at .inv)
+    refused-sums _ _ _ _ _
+    (line-off (c .before .before .before .before .before .before .before .before .before .before .args .between) (c .before .before .before .before .before .before .before .before .before .before .args .text .now) (at .s) (at .before) (at .at) (c .before .before .before .before .before .before .line-end .result) (c .before .before .before .take-line .result) (at .inv)
     (c .before .before .before .before .before .before .before .loop-test .taken) (c .before .before .before .before .before .before .line-end .ensures) (c .before .before .before .take-line .ensures) (c .before .if1 .taken))
     (c .refused .ensures)
 
@@ -64,8 +64,8 @@ ended-requires c κs = c .before .before .before .before .before .before .before
 returns-2 : tie.Need-returns-2 Inv-loop μ-loop
 returns-2 c =
     let at = c .before .before .before .before .before .before .before .before .before .loop in
-    ended-sums (c .before .before .before .before .before .before .before .before .before .before .before .args .text .now) _ (at .s) (ltb (c .before .before .before .before .before .before .before .line-end .result) (length (c .before .before .before .before .before .before .before .before .before .before .before .args .text .now))) (small _ _ _ _ (at .inv))
-    (line-last (c .before .before .before .before .before .before .before .before .before .before .before .args .text .now) (at .s) (at .before) (at .at) (c .before .before .before .before .before .before .before .line-end .result) (c .before .before .before .before .take-line .result) (at .inv)
+    ended-sums (c .before .before .before .before .before .before .before .before .before .before .before .args .between) (c .before .before .before .before .before .before .before .before .before .before .before .args .text .now) _ (at .s) (ltb (c .before .before .before .before .before .before .before .line-end .result) (length (c .before .before .before .before .before .before .before .before .before .before .before .args .text .now))) (small _ _ _ _ _ (at .inv))
+    (line-last (c .before .before .before .before .before .before .before .before .before .before .before .args .between) (c .before .before .before .before .before .before .before .before .before .before .before .args .text .now) (at .s) (at .before) (at .at) (c .before .before .before .before .before .before .before .line-end .result) (c .before .before .before .before .take-line .result) (at .inv)
     (c .before .before .before .before .before .before .before .before .loop-test .taken) (c .before .before .before .before .before .before .before .line-end .ensures) (c .before .before .before .before .take-line .ensures) (c .before .before .if1 .left) (c .before .if2 .taken))
     (c .ended .ensures)
 
@@ -77,14 +77,14 @@ loop-less c =
 loop-again : tie.Need-loop-again Inv-loop μ-loop
 loop-again c =
     let at = c .before .before .before .before .before .before .before .before .before .loop in
-    line-on (c .before .before .before .before .before .before .before .before .before .before .before .args .text .now) (at .s) (at .before) (at .at) (c .before .before .before .before .before .before .before .line-end .result) (c .before .before .before .before .take-line .result) (at .inv)
+    line-on (c .before .before .before .before .before .before .before .before .before .before .before .args .between) (c .before .before .before .before .before .before .before .before .before .before .before .args .text .now) (at .s) (at .before) (at .at) (c .before .before .before .before .before .before .before .line-end .result) (c .before .before .before .before .take-line .result) (at .inv)
     (c .before .before .before .before .before .before .before .before .loop-test .taken) (c .before .before .before .before .before .before .before .line-end .ensures) (c .before .before .before .before .take-line .ensures) (c .before .before .if1 .left) (c .before .if2 .left)
 
 refused-requires-2 : tie.Need-refused-requires-2 Inv-loop μ-loop
 refused-requires-2 c κs = tt
 
 returns-3 : tie.Need-returns-3 Inv-loop μ-loop
-returns-3 c = refused-sums _ _ _ _ (all-taken _ _ _ _ (c .before .before .loop .inv) (c .before .loop-test .left)) (c .refused2 .ensures)
+returns-3 c = refused-sums _ _ _ _ _ (all-taken _ _ _ _ _ (c .before .before .loop .inv) (c .before .loop-test .left)) (c .refused2 .ensures)
 
 pub walk-spec : {M : Type 1} → statement M
 walk-spec =
