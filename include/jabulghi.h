@@ -14,7 +14,7 @@ extern "C" {
 
 /* Every call returns one of these numbers. Order: 2 before 3; 11, 12, 15, 14, 16, 4, 13; for a job 5, then the first bad line, within it 6, 8, 9, 7, 11, 12;
  * last 10; for a Survex text the first bad line, within it 21, 22; last 10; for a listing the first bad line,
- * within it 6, 24, 23. */
+ * within it 6, 24, 25, 23. */
 enum {
     JABULGHI_OK = 0,
     JABULGHI_K_TOO_LARGE = 2,       /* k of 2^48 or more */
@@ -39,7 +39,8 @@ enum {
     JABULGHI_NO_LEG = 21,           /* Survex: line is no data line or leg, a name or number has not its form, or no line feed */
     JABULGHI_LEG_OUT_OF_RANGE = 22, /* Survex: tape above 1000 m, compass above 360 degrees, or clino not the single digit 0 */
     JABULGHI_OTHER_STATION = 23,    /* a shot that does not start where the one before ended */
-    JABULGHI_SHOT_TOO_LARGE = 24    /* a listing's 501st shot, distance above 1,008,242 mm or step above 65535 */
+    JABULGHI_SHOT_TOO_LARGE = 24,   /* a listing's 501st shot, distance above 1,008,242 mm or step above 65535 */
+    JABULGHI_LOW_ABOVE_HIGH = 25    /* a shot whose shortest distance is above its longest */
 };
 
 /* The most pairs that one request may ask for. */
@@ -170,6 +171,13 @@ uint32_t jabulghi_legs(const uint8_t *text, size_t text_length, uint8_t *shots, 
  * the exact sum. Accepted, line is 0. Refused (6, 24, 23), line is the bad line, or the next one where a line is missing, and all sums are 0.
  * A text may have any length. sums and millimetres: 2 elements each, east and north. */
 uint32_t jabulghi_misclosure(const uint8_t *text, size_t text_length, int64_t *sums, int64_t *millimetres, uint32_t *line);
+
+/* The same where distances are known only between two readings: a listing headed "FROM TO LOW HIGH STEP", its rows alike. The lowest and the highest
+ * sums that any choice of whole distances between low and high can give; each is the sum of some choice, and each of millimetres is less than 3 from
+ * that choice's exact sum. Where low equals high throughout, both ends are the sums of jabulghi_misclosure for the listing with that distance.
+ * Refused: 6, 24, 25 (low above high), 23; each of the two calls refuses the other's header with 6 and line 1. sums and millimetres: 4 elements
+ * each, east low, east high, north low, north high. */
+uint32_t jabulghi_intervals(const uint8_t *text, size_t text_length, int64_t *sums, int64_t *millimetres, uint32_t *line);
 
 #ifdef __cplusplus
 }

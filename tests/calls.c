@@ -309,6 +309,17 @@ static void miss(const char *t) {
     printf(", in mm %" PRId64 " and %" PRId64 "\n", mm[0], mm[1]);
 }
 
+static void interval(const char *t) {
+    int64_t sums[4] = {7, 7, 7, 7}, mm[4] = {7, 7, 7, 7};
+    uint32_t line = 7;
+    uint32_t number = jabulghi_intervals((const uint8_t *)t, strlen(t), sums, mm, &line);
+    printf("intervals %" PRIu32 ": line %" PRIu32 ", sums", number, line);
+    for (int i = 0; i < 4; i++) printf(" %" PRId64, sums[i]);
+    printf(", in mm");
+    for (int i = 0; i < 4; i++) printf(" %" PRId64, mm[i]);
+    printf("\n");
+}
+
 int main(void) {
     jabulghi_record r = {{7, 7, 7}, {7, 7, 7}, 7, 7, 7}, unfit = {{2, 8, 16}, {2, 8, 15}, UINT64_MAX, 0, 0},
                     both_unfit = {{2, 7, 16}, {2, 8, 15}, 7, 0, 0};
@@ -378,4 +389,11 @@ int main(void) {
     miss("FROM TO MM STEP\nA1 A2 5 5\na2 A3 5 5\nEND 2\n");
     miss("FROM TO MM STEP\nA1 A2 5 5\na2 A3 1008243 5\nEND 2\n");
     miss("FROM TO LOW HIGH STEP\nEND 0\n");
+    interval("FROM TO LOW HIGH STEP\nA1 A2 10 20 0\nA2 A3 3 5 16384\nA3 A4 7 9 32768\nA4 A1 1 2 49152\nEND 4\n");
+    interval("FROM TO LOW HIGH STEP\nEND 0\n");
+    interval("FROM TO LOW HIGH STEP\nA1 A2 5 1008243 5\nEND 1\n");
+    interval("FROM TO LOW HIGH STEP\nA1 A2 5 5 5\na2 A3 5 4 5\nEND 2\n");
+    interval("FROM TO LOW HIGH STEP\nA1 A2 5 5 5\na2 A3 4 5 5\nEND 2\n");
+    interval("FROM TO LOW HIGH STEP\nFROM TO MM STEP\nEND 0\n");
+    interval("FROM TO MM STEP\nEND 0\n");
 }

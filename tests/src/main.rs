@@ -8,6 +8,7 @@ mod edges;
 mod fixed;
 mod given;
 mod inputs;
+mod intervals;
 mod job;
 mod jump;
 mod legs;
@@ -45,8 +46,8 @@ fn main() {
     }
     println!("the other implementation gives document 01's readings and example; inputs from seed {seed}");
     type Group = fn(&Tables, &mut Random) -> String;
-    let edges: [fn(&Tables) -> String; 9] =
-        [edges::cells, edges::records, edges::lengths, skips::given, counts::given, marks::given, listings::given, windows::given, misses::given];
+    let edges: [fn(&Tables) -> String; 10] =
+        [edges::cells, edges::records, edges::lengths, skips::given, counts::given, marks::given, listings::given, windows::given, misses::given, intervals::given];
     for group in edges {
         println!("{}, all equal", group(&tables));
     }
@@ -56,7 +57,7 @@ fn main() {
     let groups = plain.into_iter().chain(skips).chain(marks).chain([listings::jobs as Group, program::program]);
     let groups = groups.chain([wide::samples as Group, wide::runs, windows::pushes, windows::runs]);
     let groups = groups.chain([legs::calls as Group, legs::program, legs::peer]);
-    let groups = groups.chain([misses::listings as Group, misses::program]);
+    let groups = groups.chain([misses::listings as Group, misses::program, intervals::listings, intervals::program]);
     for (j, group) in groups.enumerate() {
         let start = Instant::now();
         let said = group(&tables, &mut Random(seed ^ (j as u64) << 56));

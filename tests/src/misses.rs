@@ -1,7 +1,7 @@
 //! Listings, whole and damaged, through the call and the program that tell how far their loop misses.
 use crate::cases::{same, Case};
 use crate::job;
-use crate::misclosure::{miss, Miss, FARTHEST, SHOTS};
+use crate::misclosure::{miss, Miss, FARTHEST, HEADER, SHOTS};
 use crate::program::{failures, run, writes};
 use crate::random::Random;
 use crate::sample::Tables;
@@ -9,8 +9,7 @@ use crate::texts;
 use std::fmt;
 use std::time::Duration;
 
-const PROGRAM: &str = concat!(env!("CARGO_MANIFEST_DIR"), "/../target/bin/misses");
-const HEADER: &str = "FROM TO MM STEP\n";
+pub const PROGRAM: &str = concat!(env!("CARGO_MANIFEST_DIR"), "/../target/bin/misses");
 
 extern "C" {
     fn jabulghi_misclosure(text: *const u8, length: usize, sums: *mut i64, millimetres: *mut i64, line: *mut u32) -> u32;
@@ -46,11 +45,26 @@ impl Case for Listing {
     }
 
     fn smaller(&self) -> Vec<Listing> {
-        let lines: Vec<&[u8]> = self.0.split_inclusive(|&b| b == b'\n').collect();
-        let less = (0..lines.len()).map(|j| Listing([&lines[..j], &lines[j + 1..]].concat().concat()));
-        let shorter = (0..self.0.len().min(60)).map(|j| Listing([&self.0[..j], &self.0[j + 1..]].concat()));
-        less.chain(shorter).collect()
+        smaller(&self.0).into_iter().map(Listing).collect()
     }
+}
+
+/// The text without one of its lines, or one of its first bytes.
+pub fn smaller(text: &[u8]) -> Vec<Vec<u8>> {
+    let lines: Vec<&[u8]> = text.split_inclusive(|&b| b == b'\n').collect();
+    let less = (0..lines.len()).map(|j| [&lines[..j], &lines[j + 1..]].concat().concat());
+    let shorter = (0..text.len().min(60)).map(|j| [&text[..j], &text[j + 1..]].concat());
+    less.chain(shorter).collect()
+}
+
+/// The answer of the library.
+pub fn library(text: &[u8]) -> Miss {
+    Listing(text.to_vec()).library()
+}
+
+/// The same answer from both sides.
+pub fn both(tables: &Tables, text: &[u8]) {
+    same(tables, &Listing(text.to_vec()));
 }
 
 /// Lines in order with the count at the end.
@@ -85,7 +99,6 @@ fn written() -> Vec<Vec<u8>> {
         format!("{HEADER}END\n"),
         format!("{HEADER}END 00\n"),
         format!("{HEADER}END 4294967296\n"),
-        format!("FROM TO LOW HIGH STEP\nA B 1 2 3\nEND 1\n"),
         format!("\n{HEADER}END 0\n"),
         format!("{}END 1\n", listing(&chain(&[(1, 1)]))),
     ];
@@ -126,16 +139,20 @@ fn halves(tables: &Tables) -> Vec<Vec<u8>> {
     out.into_iter().map(String::into_bytes).collect()
 }
 
-fn numbers(random: &mut Random, loose: bool) -> (u64, u64) {
-    let mut up_to = |most: u64| match random.below(12) {
+/// A number up to a limit, the limit itself and small ones often; a loose one may pass it.
+pub fn up_to(random: &mut Random, most: u64, loose: bool) -> u64 {
+    match random.below(12) {
         0 if loose => most + 1,
         1 if loose => 9_999_999_999,
         0..=2 => most,
         3 => 0,
         4 | 5 => random.below(10) as u64,
         _ => random.below(most as usize + 1) as u64,
-    };
-    (up_to(FARTHEST), up_to(65535))
+    }
+}
+
+fn numbers(random: &mut Random, loose: bool) -> (u64, u64) {
+    (up_to(random, FARTHEST, loose), up_to(random, 65535, loose))
 }
 
 /// A listing as it should be, from another station here and there, with a false count, or with some bytes changed.
@@ -207,12 +224,17 @@ pub fn listings(tables: &Tables, random: &mut Random) -> String {
     format!("{count} listings, {accepted} accepted, {back} of the listing call")
 }
 
-/// The program as it is built, fed through pipes.
-pub fn program(tables: &Tables, random: &mut Random) -> String {
-    let expected = |text: &[u8]| match miss(tables, text) {
+/// What the program has to print for a listing of one distance a shot.
+pub fn expected(tables: &Tables, text: &[u8]) -> String {
+    match miss(tables, text) {
         (0, _, _, [east, north]) => format!("EAST {east}\nNORTH {north}\n"),
         (number, line, _, _) => format!("REFUSED {number} {line}\n"),
-    };
+    }
+}
+
+/// The program as it is built, fed through pipes.
+pub fn program(tables: &Tables, random: &mut Random) -> String {
+    let expected = |text: &[u8]| expected(tables, text);
     let mut texts: Vec<Vec<u8>> = written().into_iter().step_by(20).collect();
     texts.extend((0..400).map(|_| text(random)));
     for text in texts.iter().filter(|text| text.len() <= 65536) {
