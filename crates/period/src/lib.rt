@@ -1,0 +1,1 @@
+// The period of the streams: definitions in specs/, laws in proofs/.
