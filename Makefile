@@ -1,5 +1,8 @@
 # make run [JOB=file]   proves and builds the listing program, runs it on a job and shows the listing
 # make miss [JOB=file]  the same, and then how far the loop misses
+# make command          the command target/jabulghi
+# make install          the command, the library, its header and the manual pages, below PREFIX=folder (a packager's DESTDIR=folder stands before it)
+# make lib TARGET=name  the library for another processor, aarch64 or riscv64: target/name/libjabulghi.a
 # make test             everything: the comparison with another implementation, then the gate
 # make lib              proves and writes target/staticlib/libjabulghi.a, for C and Rust
 # make bench            times beside plain C and other generators
@@ -7,20 +10,26 @@ JOB ?= examples/traverse.job
 
 .PHONY: run miss test lib bench
 run:
-	@mkdir -p target
-	@rt check listing >target/run.log 2>&1 || { cat target/run.log; exit 1; }
-	@target/bin/listing <$(JOB)
+	@tools/run "$(JOB)"
 
 miss:
-	@mkdir -p target
-	@{ rt check listing && rt check misses; } >target/run.log 2>&1 || { cat target/run.log; exit 1; }
-	@target/bin/listing <$(JOB) | target/bin/misses
+	@tools/run "$(JOB)" misses
 
 test:
 	.ci/run
 
+TARGET ?=
 lib:
-	tools/library
+	$(if $(TARGET),tools/target $(TARGET),tools/library)
+
+.PHONY: command install
+command:
+	tools/command
+
+PREFIX ?= /usr/local
+DESTDIR ?=
+install:
+	tools/install "$(PREFIX)" "$(DESTDIR)"
 
 bench:
 	bench/run

@@ -1,12 +1,41 @@
 /* Gaussian noise for a simulated laser logger: the calls of documents 01 and 02 from C. Link target/staticlib/libjabulghi.a.
  *
  * No argument need be tested first. A pointer is aligned and not null, also where its length is 0, it points to as many elements as
- * are named, and memory that a call may write overlaps nothing else that it is given. Calls keep nothing and allocate nothing. */
+ * are named, and memory that a call may write overlaps nothing else that it is given. Calls keep nothing and allocate nothing.
+ *
+ * A sample s is s / 2048 standard deviations: with a sigma in millimetres the noise is sigma * s / 2048 mm. A listing rounds that to the nearest, halves
+ * away from zero: (sigma * |s| + 1024) / 2048 in whole numbers, with the sign of s. Samples of 18 bits are over 8192.
+ *
+ * Seeds are best six unrelated large numbers, as the command `jabulghi seeds` draws them, all six anew for each record. Every fit six are accepted; small
+ * ones, 2 8 16 and the like, give some dozens of samples at the start that look unlike noise, and records with the same stream b turn by the same angles
+ * for ever, whatever their stream a. Several rigs can share one stream by jabulghi_skip.
+ *
+ * Processors. What is proved is the code, before it is compiled. The toolchain compiles it for x86-64 under Linux, any such processor; every call is
+ * compared with another implementation there. For aarch64 and riscv64 the same modules are compiled by the same compiler (make lib TARGET=..), which
+ * the toolchain does not support; that is tested under an emulator. Elsewhere nothing is tried. The lowest byte of a number comes first.
+ *
+ * State and threads. The library has no data that is written, and needs memcpy and memset alone. Calls on different records, windows and marks may run
+ * at once in several threads; on the same one, one after another. A record has 40 bytes, a window 8,224 and a set of marks 960; all calls together are some
+ * 60 KB of code and tables.
+ *
+ * Stack. At most, as measured on all three processors (tests/stack.c), the caller's own frame left out:
+ *   256 bytes: jabulghi_seed, jabulghi_ask, jabulghi_give_up, jabulghi_window_make, jabulghi_window_push, jabulghi_window_push_all
+ *   1,024 bytes: jabulghi_sample, jabulghi_pair, jabulghi_sample18, jabulghi_pair18, jabulghi_legs, jabulghi_misclosure, jabulghi_intervals
+ *   1,536 bytes: jabulghi_block, jabulghi_look, jabulghi_take, jabulghi_block18, jabulghi_look18, jabulghi_take18
+ *   2,048 bytes: jabulghi_skip
+ *   4,096 bytes: jabulghi_marks_save, jabulghi_marks_return, jabulghi_marks_drop
+ *   24,576 bytes: jabulghi_list */
 #ifndef JABULGHI_H
 #define JABULGHI_H
 
 #include <stddef.h>
 #include <stdint.h>
+
+/* The version of the header and the library; CHANGELOG.md says what each has. */
+#define JABULGHI_VERSION "1.0.0"
+#define JABULGHI_VERSION_MAJOR 1
+#define JABULGHI_VERSION_MINOR 0
+#define JABULGHI_VERSION_PATCH 0
 
 #ifdef __cplusplus
 extern "C" {
