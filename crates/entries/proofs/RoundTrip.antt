@@ -5,7 +5,6 @@ use mathlib.Core.Path.{_≡_, refl, sym, ap, _∙_}
 use mathlib.Core.Bool.{Bool, true, false, cond, _&&_, false≢true}
 use mathlib.Core.List.{List, [], _∷_, _++_}
 use mathlib.Core.Option.{Option, some, none}
-use lib.Dec.{eqb}
 use lib.ListN.{length, getD}
 use lib.Seq.{drop-append-seam}
 use Rattle.text.specs.Limits.{numeralBound}
@@ -16,7 +15,7 @@ use Rattle.text.specs.Forms.{printForm, readForm, marks, isEmpty}
 use Rattle.text.specs.Theorems.{plain, allPlain, formed, startsSeparate}
 use Rattle.text.proofs.Decimal.{numeral-decimal, value-decimal, decimal-value, numeral-below}
 use Rattle.text.proofs.Plain.{plains, no-plains, decimal-plain, name-plain, feedForm, line-printed}
-use Rattle.text.proofs.Forms.{marks-mark, marks-byte, print-byte, read-mark, read-byte, starts-same, starts-other, field-is, read-count, read-printed, printed-read}
+use Rattle.text.proofs.Forms.{unmarked, read-mark, read-byte, starts-same, starts-other, field-is, read-count, read-printed, printed-read}
 use Rattle.text.proofs.Split.{line-first}
 use Rattle.forms.proofs.RoundTrip.{print-places}
 use Rattle.rows.specs.Listing.{header, shotRow, endRow}
@@ -138,28 +137,15 @@ pub header-lengths : (length (headerOf false) ≡ 16) × (length (headerOf true)
 unfolding header headerOf
 header-lengths = (refl, refl)
 
--- a form without fields is printed as itself
-bytes-printed : (form : List ℕ) → 0 ≡ marks form → (printForm form [] ≡ form) × (formed form ≡ true)
-unfolding printForm formed
-bytes-printed [] e = (refl, refl)
-bytes-printed (f ∷ form) e = split (bytes-printed form) (eqb f 35) refl
-  where
-    split : (0 ≡ marks form → (printForm form [] ≡ form) × (formed form ≡ true)) → (b : Bool) → eqb f 35 ≡ b
-        → (printForm (f ∷ form) [] ≡ f ∷ form) × (formed (f ∷ form) ≡ true)
-    split ih true t = absurd (omega (arith, e, marks-mark f form t))
-    split ih false t =
-        let (p, q) = ih (e ∙ marks-byte f form t) in
-        (print-byte f form [] t ∙ ap (λ (l : List ℕ). f ∷ l) p, rw (t, formed) q)
-
 printed-header : (b : Bool) → printForm (headerOf b) [] ≡ headerOf b
-printed-header b = bytes-printed (headerOf b) (header-marks b) .0
+printed-header b = unmarked (headerOf b) [] (header-marks b) .0
 
 pub header-read : (b : Bool) → isHeader b (headerOf b) ≡ true
 unfolding isHeader isSome allPlain
 header-read b =
     ap isSome
     (ap (readForm (headerOf b)) (sym (printed-header b))
-    ∙ read-printed (headerOf b) [] (bytes-printed (headerOf b) (header-marks b) .1) refl (header-marks b))
+    ∙ read-printed (headerOf b) [] (unmarked (headerOf b) [] (header-marks b) .1) refl (header-marks b))
 
 pub header-is : (b : Bool) (l : List ℕ) → isHeader b l ≡ true → l ≡ headerOf b
 unfolding isHeader isSome

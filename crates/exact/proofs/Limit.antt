@@ -1,7 +1,6 @@
 -- Inequalities in the limit: what holds of whole numbers in units of 2 ^ -n up to an error that falls below every 2 ^ -e.
-use mathlib.Core.Path.{_≡_, refl}
 use Prim.Native.Nat.{ℕ, zero, suc, _+_, _-_, _*_, _^_, _≤_, _<_, max}
-use native.Mathlib.Nat.{pow-succ', mul-sub, mul-le-mul, mul-le-mul-left, mul-le-mul-right, le-of-mul-le-mul-right, mul-pos}
+use native.Mathlib.Nat.{pow-succ', mul-sub, mul-le-mul-left, mul-le-mul-right, le-of-mul-le-mul-right}
 use native.Mathlib.Omega.{arith}
 use lib.Pow.{pow-pos, pow-mono, pow-add}
 use Rattle.exact.proofs.RootLaws.{lt-of-square-lt}

@@ -3,7 +3,7 @@ use Prim.Native.Nat.{ℕ, zero, _+_, _*_, _≤_, _<_}
 use native.Mathlib.Nat.{mul-pos, mul-le-mul-left}
 use native.Mathlib.Omega.{arith}
 use Rattle.exact.specs.Fraction.{Fraction, whole, _+ᶠ_, _*ᶠ_, _≤ᶠ_, _<ᶠ_}
-use Rattle.exact.proofs.FractionLaws.{≤ᶠ-refl, ≤ᶠ-trans, ≤ᶠ-<ᶠ-trans, <ᶠ-weaken, +ᶠ-mono, +ᶠ-mono-le-lt, *ᶠ-mono, _≤ᶠ⟨_⟩_, _∎ᶠ, chained}
+use Rattle.exact.proofs.FractionLaws.{≤ᶠ-refl, ≤ᶠ-trans, ≤ᶠ-<ᶠ-trans, <ᶠ-weaken, +ᶠ-mono, *ᶠ-mono, _≤ᶠ⟨_⟩_, _∎ᶠ, chained}
 use Rattle.exact.specs.Radius.{RadiusEnclosure}
 use Rattle.exact.proofs.RadiusLaws.{radius-enclosures-overlap, radius-narrow}
 use Rattle.exact.specs.Pair.{Enclosure, members, times, firstProduct, secondProduct}

@@ -1,6 +1,6 @@
 -- A rotation composes what document 01 says: no turn changes nothing, and a single bit of w turns by its own half-angle rotation.
 use mathlib.Core.Path.{_≡_, refl, ap, _∙_}
-use Prim.Native.Nat.{ℕ, zero, suc, _+_, _-_, _*_, _/_, _%_, _^_, _≤_, _<_, min}
+use Prim.Native.Nat.{ℕ, zero, suc, _+_, _-_, _*_, _/_, _^_, _≤_, _<_, min}
 use native.Mathlib.Nat.{sub-zero, suc-sub-suc, pow-succ', mul-div-cancel-left, mul-mod-right, mod-eq-of-lt}
 use native.Mathlib.Nat.{div-eq-of-eq-mul-left, div-eq-of-lt, div-eq-of-lt-le}
 use native.Mathlib.Decide.{decLt}

@@ -1,8 +1,8 @@
 -- Laws of the rotations of Rotation.antt: every enclosure is non-empty, with low ends of a length at most 1; those at more bits
 -- lie inside those at fewer, and so any two overlap.
-use mathlib.Core.Path.{_≡_, refl}
+use mathlib.Core.Path.{_≡_}
 use Prim.Native.Nat.{ℕ, zero, suc, _+_, _-_, _*_, _/_, _%_, _^_, _≤_, _<_, min}
-use native.Mathlib.Nat.{add-comm, le-trans, le-dest, min-eq-left, min-eq-right, mul-sub, mul-pos, mul-le-mul, mul-le-mul-left}
+use native.Mathlib.Nat.{add-comm, le-dest, min-eq-left, min-eq-right, mul-sub, mul-pos, mul-le-mul, mul-le-mul-left}
 use native.Mathlib.Nat.{mul-le-mul-right, le-of-mul-le-mul-left, mul-div-le, lt-div-mul-add, div-lt-iff-lt-mul, le-div-iff-mul-le}
 use native.Mathlib.Decide.{decLe}
 use native.Mathlib.Omega.{arith}

@@ -1,7 +1,7 @@
 -- The width of the enclosures of a rotation falls below every fraction above 0, for all angles at once.
 use mathlib.Core.Path.{_≡_, ap}
 use Prim.Native.Nat.{ℕ, zero, suc, _+_, _-_, _*_, _/_, _%_, _^_, _≤_, _<_, min, max}
-use native.Mathlib.Nat.{le-trans, le-dest, min-le-right, mul-sub, mul-pos, mul-le-mul-left, mul-le-mul-right, pow-succ'}
+use native.Mathlib.Nat.{le-dest, min-le-right, mul-sub, mul-pos, mul-le-mul-left, mul-le-mul-right, pow-succ'}
 use native.Mathlib.Nat.{le-of-mul-le-mul-left, div-mul-le-self, lt-div-mul-add}
 use native.Mathlib.Decide.{decLe}
 use native.Mathlib.Omega.{arith}

@@ -1,5 +1,4 @@
 -- The exact pair and the distance of a sample from it. Document 01, 'What "exact" means', and demand 3.
-use mathlib.Core.Path.{_≡_}
 use mathlib.Core.Logic.{_⊎_}
 use mathlib.Core.Bool.{Bool, true, false, not}
 use Prim.Native.Nat.{ℕ, zero, suc, _/_, _%_, _^_}

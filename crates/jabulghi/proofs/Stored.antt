@@ -1,6 +1,6 @@
 -- Two samples that fit a width read back from lent memory as themselves.
 use mathlib.Core.Path.{_≡_, ap₂}
-use mathlib.Core.List.{List, [], _∷_}
+use mathlib.Core.List.{[], _∷_}
 use lib.IntN.{ℤ}
 use mir.Syntax.{Width}
 use mir.Val.{SFits, toZ, ofZ}

@@ -1,6 +1,5 @@
 -- What is known of a line once it is read, and what a line that prints nothing leaves.
 use Prim.Native.Nat.{ℕ, _≤_}
-use native.Mathlib.Omega.{arith}
 use mathlib.Core.Path.{_≡_, refl, sym, subst, _∙_}
 use mathlib.Core.Bool.{Bool, true, false, cond}
 use mathlib.Core.List.{List, []}
@@ -10,7 +9,7 @@ use Rattle.text.specs.Limits.{nameLength}
 use Rattle.text.specs.Buffer.{written}
 use Rattle.text.proofs.Plain.{name-length}
 use Rattle.text.proofs.Writing.{written-none}
-use Rattle.forms.specs.Forms.{Form, shot, noForm, readLine, Printable}
+use Rattle.forms.specs.Forms.{Form, shot, readLine, Printable}
 use Rattle.job.specs.Refusals.{refusal}
 use Rattle.job.specs.Job.{printed, settingAfter}
 use Rattle.job.specs.Private.{taken, takenOf, bufferOf}

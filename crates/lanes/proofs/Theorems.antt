@@ -2,7 +2,7 @@
 -- more are those of m + n.
 use mathlib.Core.Path.{_≡_}
 use mathlib.Core.List.{_++_}
-use Prim.Native.Nat.{ℕ, zero, suc, _+_, _*_, _/_, _%_, _^_}
+use Prim.Native.Nat.{ℕ, zero, suc, _+_, _*_, _/_, _%_}
 use native.Mathlib.Nat.{zero-add, suc-add, mod-lt}
 use native.Mathlib.Omega.{arith}
 use lib.Pow.{high, low, pow-pos}

@@ -1,7 +1,7 @@
 -- A number of 16 bits times the reciprocal of h, over 2^31, is the number over h.
-use mathlib.Core.Path.{_≡_, refl, ap, _∙_}
+use mathlib.Core.Path.{_≡_, ap, _∙_}
 use Prim.Native.Nat.{ℕ, zero, suc, _+_, _-_, _*_, _/_, _%_, _^_, _≤_, _<_}
-use native.Mathlib.Nat.{le-antisymm, le-div-iff-mul-le, div-lt-iff-lt-mul, div-add-mod', mod-lt, mul-le-mul-right, mul-le-mul-left, mul-le-mul}
+use native.Mathlib.Nat.{le-antisymm, le-div-iff-mul-le, div-lt-iff-lt-mul, div-add-mod', mod-lt, mul-le-mul-right, mul-le-mul-left}
 use native.Mathlib.Nat.{add-zero, add-suc, suc-add, le-of-suc-le-suc, not-suc-le-zero}
 use native.Mathlib.Omega.{arith}
 use lib.ListN.{getD}

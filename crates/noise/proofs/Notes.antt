@@ -3,22 +3,21 @@ use mathlib.Core.Path.{_≡_, refl, sym, ap, _∙_}
 use mathlib.Core.Bool.{Bool, true, false, cond}
 use mathlib.Core.List.{List, [], _∷_}
 use mathlib.Core.Logic.{_⊎_, inl, inr}
-use Prim.Native.Nat.{ℕ, _+_, _*_, _/_}
+use Prim.Native.Nat.{ℕ, _*_, _/_}
 use native.Mathlib.Omega.{arith}
 use lib.Dec.{eqb}
 use lib.IntN.{ℤ}
 use lib.ListN.{length}
-use borrow.Author.Tests.{eqb-true, eqb-false, ne-eqb}
 use Rattle.streams.specs.declared.Generator.{Generator}
 use Rattle.streams.specs.Streams.{noted, cleared, recordNumber, openNumber, noneOpenNumber, askedNumber, takenNumber, lengthNumber, countNumber, firstCause}
 use Rattle.streams.specs.Streams.{Call, noteNumber, ownNumber, roomNumber, numberOf}
 use Rattle.streams.specs.Streams.Call.{numbers, a-pair, a-skip, a-block, a-look, an-ask, a-take, give-up}
-use Rattle.streams.specs.Recurrence.{Sound, moved}
-use Rattle.streams.proofs.Causes.{accepted-causes, none-open, just-taken}
+use Rattle.streams.specs.Recurrence.{Sound}
+use Rattle.streams.proofs.Causes.{accepted-causes, just-taken}
 use Rattle.streams.proofs.Theorems.{sound-cleared, pairs-accepted}
 use Rattle.noise.specs.Noise.{pairOf, samples, blockNumber, blockHolds, lookHolds, takeHolds}
 use Rattle.noise.specs.Runs.{returned, pairsOut, handed}
-use Rattle.noise.proofs.Laws.{block-accepted, take-accepted, samples-noted}
+use Rattle.noise.proofs.Laws.{block-accepted, samples-noted}
 use Rattle.noise.proofs.Runs.{call-moves}
 use Rattle.noise.proofs.Theorems.{block-holds}
 

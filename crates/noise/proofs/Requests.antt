@@ -3,7 +3,7 @@
 use mathlib.Core.Path.{_≡_, refl, sym, ap, _∙_}
 use mathlib.Core.List.{List}
 use mathlib.Core.Logic.{_↔_}
-use Prim.Native.Nat.{ℕ, _+_, _*_, _/_, _%_, _≤_}
+use Prim.Native.Nat.{ℕ, _+_, _*_, _/_, _≤_}
 use native.Mathlib.Omega.{arith}
 use lib.IntN.{ℤ}
 use lib.ListN.{length}
@@ -11,10 +11,10 @@ use Rattle.streams.specs.declared.Generator.{Generator}
 use Rattle.streams.specs.declared.RecordAnswer.{RecordAnswer}
 use Rattle.streams.specs.Streams.{noted, cleared, recordNumber, openNumber, mostAsked, mostCount, countNumber, noteNumber, ownNumber, roomNumber}
 use Rattle.streams.specs.Streams.{numberOf, after, askOf, giveUpOf}
-use Rattle.streams.specs.Streams.Call.{a-block, a-look, an-ask, a-take, give-up}
+use Rattle.streams.specs.Streams.Call.{an-ask, a-take, give-up}
 use Rattle.streams.specs.Recurrence.{Sound, moved}
 use Rattle.streams.proofs.Causes.{accepted-causes, none-open, one-open, few-asked, count-room}
-use Rattle.streams.proofs.Theorems.{sound-accepted, sound-cleared, pairs-accepted, after-moved}
+use Rattle.streams.proofs.Theorems.{sound-cleared, pairs-accepted, after-moved}
 use Rattle.noise.specs.Noise.{samples, blockNumber, blockOf, blockHolds, lookOf, lookHolds, takeOf, takeHolds}
 use Rattle.noise.proofs.Laws.{block-accepted, take-accepted, samples-noted}
 use Rattle.noise.proofs.Theorems.{block-holds, block-moves}

@@ -1,10 +1,10 @@
 -- What is proved of runs of calls: the count, what a call may be refused for, and that every pair is L'Ecuyer's. `Sound g` says that
 -- the streams of g are fit and its registers have 32 bits; `cleared g` is g without its note.
-use mathlib.Core.Path.{_≡_, refl, sym, ap, _∙_}
+use mathlib.Core.Path.{_≡_, refl, ap, _∙_}
 use mathlib.Core.Bool.{Bool, true, false, cond}
 use mathlib.Core.List.{List, [], _∷_}
-use mathlib.Core.Logic.{_↔_, _⊎_, inl, inr}
-use Prim.Native.Nat.{ℕ, suc, _+_, _*_, _/_, _%_, _≤_, _<_}
+use mathlib.Core.Logic.{_↔_}
+use Prim.Native.Nat.{ℕ, suc, _+_, _*_, _/_, _%_, _<_}
 use native.Mathlib.Nat.{add-zero, zero-add}
 use native.Mathlib.Omega.{arith}
 use lib.Dec.{eqb}
@@ -12,13 +12,12 @@ use borrow.Author.Tests.{eqb-true, eqb-false, ne-eqb}
 use Rattle.squares.specs.Squares.{repeat}
 use Rattle.streams.specs.declared.Stream.{Stream}
 use Rattle.streams.specs.declared.Generator.{Generator}
-use Rattle.streams.specs.declared.RecordAnswer.{RecordAnswer}
-use Rattle.streams.specs.Streams.{advance, fresh, noted, cleared, recordNumber, openNumber, noneOpenNumber, mostCount, countNumber, firstCause, ifAccepted}
+use Rattle.streams.specs.Streams.{advance, fresh, noted, cleared, recordNumber, openNumber, mostCount, countNumber, firstCause, ifAccepted}
 use Rattle.streams.specs.Streams.{Call, noteNumber, ownNumber, roomNumber, numberOf, pairsNumber, uniformsOf, after, skipOf, askOf, giveUpOf}
 use Rattle.streams.specs.Streams.Call.{numbers, a-pair, a-skip, a-block, a-look, an-ask, a-take, give-up}
 use Rattle.streams.specs.Recurrence.{InRange, Sound, moved, drawAt, seedFrom}
-use Rattle.streams.proofs.Causes.{lone-cause, accepted-causes, none-open, just-taken, count-room, count-full}
-use Rattle.streams.proofs.Theorems.{sound, sound-accepted, sound-cleared, seeded, seeded-range, fit-call, moved-sound, moved-add, after-moved, numbers-are}
+use Rattle.streams.proofs.Causes.{lone-cause, accepted-causes, none-open, count-room, count-full}
+use Rattle.streams.proofs.Theorems.{sound, sound-cleared, seeded, seeded-range, fit-call, moved-sound, moved-add, after-moved, numbers-are}
 use Rattle.streams.proofs.Theorems.{uniforms-accepted, next-draw}
 use Rattle.noise.specs.Noise.{pairOf, blockOf, lookOf, takeOf}
 use Rattle.noise.specs.Runs.{returned, run, sumOver, pairsOut, handed}

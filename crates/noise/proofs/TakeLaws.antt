@@ -1,7 +1,7 @@
 -- What an accepted take asks of the stretches, and what they then give, over f.
 use mathlib.Core.Path.{_≡_}
 use mathlib.Core.List.{List}
-use Prim.Native.Nat.{ℕ, _*_, _/_, _%_}
+use Prim.Native.Nat.{ℕ, _/_, _%_}
 use native.Mathlib.Omega.{arith}
 use lib.IntN.{ℤ}
 use Rattle.streams.specs.declared.Generator.{Generator}

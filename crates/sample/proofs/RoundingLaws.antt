@@ -15,7 +15,7 @@ use Rattle.radius.proofs.Ranges.{radius-of-range}
 use Rattle.angle.specs.Steps.{signedOf}
 use Rattle.angle.proofs.Signs.{natAbs-neg}
 use Rattle.angle.proofs.Ranges.{signed-range}
-use Rattle.sample.specs.Steps.{fractionBits, size, rounded}
+use Rattle.sample.specs.Steps.{size, rounded}
 use Rattle.sample.specs.Sample.{firstOf, secondOf}
 use Rattle.sample.specs.Private.{Scale, bitsAt}
 use Rattle.sample.specs.Theorems.{largest}

@@ -1,6 +1,6 @@
 -- Signed numbers in several widths: a small one in a narrower width, and the size of a sample, as the machine takes it from 16 bits by way
 -- of 32.
-use Prim.Native.Nat.{ℕ, suc, _^_, _≤_, _<_}
+use Prim.Native.Nat.{suc, _^_, _≤_, _<_}
 use native.Mathlib.Omega.{arith}
 use native.Mathlib.Nat.{zero-add, lt-of-lt-of-le, pow-le-pow-right}
 use mathlib.Core.Path.{_≡_, sym, ap, _∙_}

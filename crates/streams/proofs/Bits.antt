@@ -1,5 +1,5 @@
 -- The binary digits of a number, `bit x j`, lowest first, and what shifts, masks and exclusive-or do to them.
-use mathlib.Core.Path.{_≡_, refl, sym, ap, _∙_}
+use mathlib.Core.Path.{_≡_, sym, ap, _∙_}
 use Prim.Native.Nat.{ℕ, zero, suc, _+_, _-_, _*_, _/_, _%_, _^_, _≤_, _<_}
 use native.Mathlib.Nat.{le-dest, mul-mod-left, div-eq-of-lt, pow-suc, lt-of-lt-of-le, div-one}
 use native.Mathlib.Omega.{arith}

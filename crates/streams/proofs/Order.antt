@@ -5,7 +5,7 @@ use mathlib.Core.List.{List, [], _∷_, map}
 use Prim.Native.Nat.{ℕ}
 use Rattle.streams.specs.declared.Generator.{Generator}
 use Rattle.streams.specs.Streams.{fit, recordNumber, openNumber, noneOpenNumber, askedNumber, takenNumber, lengthNumber, countNumber}
-use Rattle.streams.specs.Streams.{mostAsked, mostCount, Call, noteNumber, ownNumber, roomNumber, firstCause, causesOf}
+use Rattle.streams.specs.Streams.{mostCount, Call, noteNumber, ownNumber, roomNumber, causesOf}
 use Rattle.streams.specs.Streams.Call.{numbers, a-pair, a-skip, a-block, a-look, an-ask, a-take, give-up}
 
 -- A record with this register in stream b (2 is fit, 1 is not), this count and this note.

@@ -5,14 +5,11 @@ use Prim.Native.Nat.{ℕ, _+_, _-_, _*_, _/_, _%_, _^_, _≤_, _<_}
 use native.Mathlib.Nat.{add-comm}
 use native.Mathlib.Omega.{arith}
 use lib.Bits.{bitAnd, bitXor}
-use lib.Dec.{eqb}
-use borrow.Author.Tests.{eqb-true}
 use Rattle.squares.specs.Squares.{repeat, Additive, applied, squareOf}
 use Rattle.squares.proofs.Additive.{same-additive, word-shl-additive, shr-additive, and-additive, then-additive, xor-additive}
 use Rattle.squares.proofs.Theorems.{square-repeat}
 use Rattle.streams.specs.declared.Stream.{Stream}
 use Rattle.streams.specs.declared.Generator.{Generator}
-use Rattle.streams.specs.declared.RecordAnswer.{RecordAnswer}
 use Rattle.streams.specs.Streams.{step, advance, recordNumber, mostCount, skipOf}
 use Rattle.streams.specs.Recurrence.{moved, InRange}
 use Rattle.streams.proofs.Register.{step-lt}

@@ -5,14 +5,13 @@ use native.Mathlib.Nat.{zero-add}
 use native.Mathlib.Decide.{decLt}
 use mathlib.Core.Path.{_≡_, refl, sym, ap, _∙_}
 use mathlib.Core.Bool.{Bool, true, false, cond}
-use mathlib.Core.List.{List, [], _∷_, _++_}
-use lib.ListN.{length, drop}
+use mathlib.Core.List.{List, [], _∷_}
+use lib.ListN.{length}
 use borrow.Author.Tests.{le-leb, lt-leb}
 use Rattle.text.specs.Scan.{lines}
-use Rattle.text.specs.Buffer.{written}
 use Rattle.text.proofs.Writing.{written-fits}
 use Rattle.forms.specs.Forms.{shot, printLine}
-use Rattle.job.specs.Job.{Outcome, refused, listed, onto, answerOf, bufferAfter}
+use Rattle.job.specs.Job.{Outcome, refused, listed, answerOf, bufferAfter}
 use Rattle.job.proofs.Answered.{Told, onto-told, answer-within, printed-refused}
 use Rattle.survex_lines.specs.Lines.{leftOf, fed, remains}
 use Rattle.survex_leg.specs.Legs.{Said, leg, wrong, words, readLeg}

@@ -1,43 +1,29 @@
 -- The theorems of specs/Theorems.antt.
-use Prim.Native.Nat.{ℕ, zero, suc, _+_, _-_, _*_, _≤_, _<_}
+use Prim.Native.Nat.{ℕ, _+_, _-_, _*_, _≤_}
 use native.Mathlib.Omega.{arith}
 use mathlib.Core.Path.{_≡_, refl, sym, ap, subst, _∙_}
-use mathlib.Core.Bool.{Bool, true, false, cond, not, _&&_, _||_, and-eq-true-iff, true≢false, false≢true}
+use mathlib.Core.Bool.{Bool, true, false, cond, and-eq-true-iff, false≢true}
 use mathlib.Core.List.{List, [], _∷_, _++_, map, head-eq-of-cons-eq, tail-eq-of-cons-eq}
 use mathlib.Core.Option.{Option, some, none}
-use lib.Dec.{leb, ltb, eqb}
 use lib.ListN.{length, getD, drop, length-append}
-use borrow.Author.Tests.{le-leb, le-ltb, not-true}
-use Rattle.text.specs.Limits.{numeralBound}
+use borrow.Author.Tests.{le-leb, le-ltb}
 use Rattle.text.specs.Ascii.{ascii}
 use Rattle.text.specs.Scan.{lines}
-use Rattle.text.specs.Fields.{all, name, decimal}
-use Rattle.text.specs.Forms.{mark, printForm, readForm}
+use Rattle.text.specs.Fields.{decimal}
+use Rattle.text.specs.Forms.{mark, marks, printForm, readForm}
 use Rattle.text.proofs.Decimal.{decimal-length}
-use Rattle.text.proofs.Forms.{print-mark, print-byte, printed-read as form-printed}
-use Rattle.forms.specs.Forms.{
-  Form,
-  seeds,
-  sigma,
-  shot,
-  noForm,
-  seedsForm,
-  sigmaForm,
-  shotForm,
-  readLine,
-  printLine,
-  Printable,
-}
+use Rattle.text.proofs.Forms.{print-mark, print-byte, unmarked, printed-read as form-printed}
+use Rattle.forms.specs.Forms.{Form, seeds, sigma, shot, noForm, seedsForm, sigmaForm, readLine, printLine, Printable}
 use Rattle.forms.proofs.RoundTrip.{read-printed, printed-read}
 use Rattle.job.specs.Limits.{mostBytes, mostShots, lastLine, mostDistance, mostBearing, listingRoom}
 use Rattle.job.specs.Refusals.{formless, misplaced, tooMany, beyond, seedNumber, refusal}
-use Rattle.job.specs.Job.{Outcome, refused, listed, onto, jobOf, answerOf}
+use Rattle.job.specs.Job.{refused, listed, jobOf, answerOf}
 use Rattle.job.specs.Theorems.{textOf, Accepts}
 use Rattle.job.proofs.Jobs.{line-printed, not-noForm, refused-not-listed, onto-listed, bytes-same}
 use Rattle.job.proofs.Theorems as job-theorems
 use Rattle.survex_lines.specs.Lines.{leftOf, fed, remains}
 use Rattle.survex_leg.specs.Legs.{Said, leg, wrong, words, readLeg}
-use Rattle.survex_leg.proofs.Facts.{LegFacts, leg-facts}
+use Rattle.survex_leg.proofs.Facts.{leg-facts}
 use Rattle.survex_shot.proofs.Lines.{shot-length}
 use Rattle.survex.specs.Survex.{dataForm, found, isData, legLine, onLeg, legsFrom, survexFrom, survexOf}
 use Rattle.survex.specs.Theorems.{remaining, shotOf, shotsIn, Fit, AllFit, Theorems}
@@ -48,17 +34,9 @@ shots ls = map (λ l. shotOf (legLine l)) ls
 
 -- ---- The data line
 
--- a form without a mark is printed as it stands
-unmarked : (form : List ℕ) (vs : List (List ℕ)) → all (λ f. not (mark f)) form ≡ true → printForm form vs ≡ form
-unfolding all printForm
-unmarked [] vs h = refl
-unmarked (f ∷ form) vs h =
-    let t = and-eq-true-iff (not (mark f)) (all (λ g. not (mark g)) form) .0 h in
-    print-byte f form vs (not-true (mark f) (t .0)) ∙ ap (λ (l : List ℕ). f ∷ l) (unmarked form vs (t .1))
-
 no-fields : (vs : List (List ℕ)) → printForm dataForm vs ≡ dataForm
-unfolding all dataForm
-no-fields vs = unmarked dataForm vs refl
+unfolding marks dataForm
+no-fields vs = unmarked dataForm vs refl .0
 
 data-bytes : (l : List ℕ) → isData l ≡ true → (fed l ≡ true) × (leftOf l ≡ dataForm)
 unfolding isData

@@ -3,32 +3,28 @@ use Prim.Native.Nat.{ℕ, _+_, _-_, _≤_, _<_}
 use native.Mathlib.Omega.{arith}
 use native.Mathlib.Nat.{add-zero}
 use mathlib.Core.Path.{_≡_, refl, sym, ap, subst, _∙_}
-use mathlib.Core.Bool.{Bool, true, false, cond, not, _&&_, and-false, false≢true}
+use mathlib.Core.Bool.{Bool, true, false, cond, not, false≢true}
 use mathlib.Core.List.{List, [], _∷_, _++_, append-nil}
-use mathlib.Core.Option.{Option, some, none}
-use lib.Dec.{leb, eqb}
+use mathlib.Core.Option.{some, none}
 use lib.ListN.{length, take, drop, length-append}
-use lib.Seq.{sets}
 use native.Mathlib.Decide.{decLt}
 use borrow.Author.Tests.{le-leb, lt-leb}
 use Rattle.text.specs.Scan.{lines}
 use Rattle.text.specs.Buffer.{written}
 use Rattle.text.specs.Forms.{marks, readForm, readFew, foundIn}
 use Rattle.text.specs.declared.form.Found.{Found}
-use Rattle.text.proofs.Writing.{written-length, written-on}
+use Rattle.text.proofs.Writing.{written-on}
 use Rattle.forms.specs.Forms.{shot, printLine}
-use Rattle.job.specs.Job.{Outcome, refused, listed, onto, answerOf, bufferAfter}
+use Rattle.job.specs.Job.{Outcome, refused, listed, onto, answerOf}
 use Rattle.job.proofs.Going.{onto-onto}
 use Rattle.survex_lines.specs.Lines.{leftOf, fed, remains, remainingFrom}
 use Rattle.survex_lines.specs.declared.Remaining.{Remaining}
 use Rattle.survex_lines.proofs.Onward.{HandedOut, none-found, some-found, passed-few}
 use Rattle.survex_leg.specs.Legs.{Said, leg, wrong, words, readLeg}
 use Rattle.survex.specs.Survex.{dataForm, found, isData, legLine, onLeg, legsFrom, survexFrom, survexOf, legsAnswer}
-use Rattle.survex.specs.Private.{measuredOf, grownOf, Takes, Starts, DataFound, Converts}
-use Rattle.survex.specs.declared.LegsAnswer.{LegsAnswer}
+use Rattle.survex.specs.Private.{measuredOf, Takes, Starts, DataFound, Converts}
 use Rattle.survex.specs.declared.walk.Measured.{Measured}
 use Rattle.survex.specs.declared.walk.Taken.{Taken}
-use Rattle.survex.specs.declared.walk.DataLine.{DataLine}
 use Rattle.survex.proofs.Measures.{measured-fits, measured-over, measured-more}
 
 -- the form without a field is found just where the line is it

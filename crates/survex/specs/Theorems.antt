@@ -6,7 +6,7 @@ use mathlib.Core.List.{List, [], _∷_, _++_, map}
 use lib.ListN.{length, drop}
 use Rattle.text.specs.Fields.{name}
 use Rattle.text.specs.Scan.{lines}
-use Rattle.forms.specs.Forms.{Form, seeds, sigma, shot, noForm, readLine, printLine}
+use Rattle.forms.specs.Forms.{Form, seeds, sigma, shot, noForm, readLine}
 use Rattle.job.specs.Limits.{mostShots, mostDistance, mostBearing, listingRoom}
 use Rattle.job.specs.Refusals.{refusal}
 use Rattle.job.specs.Job.{listed, jobOf, answerOf}

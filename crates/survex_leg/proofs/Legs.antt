@@ -1,7 +1,6 @@
 -- What a leg's fields say, from what its readers found.
 use Prim.Native.Nat.{ℕ, _≤_, _<_}
-use native.Mathlib.Omega.{arith}
-use mathlib.Core.Path.{_≡_, refl, sym, ap, subst, _∙_}
+use mathlib.Core.Path.{_≡_, refl, sym, ap, _∙_}
 use mathlib.Core.Bool.{Bool, true, false, cond, not, _&&_, and-eq-true-iff, and-false, true≢false, false≢true}
 use mathlib.Core.List.{List}
 use lib.Dec.{leb, eqb}
@@ -11,7 +10,7 @@ use Rattle.text.specs.Fields.{name}
 use Rattle.text.specs.declared.field.Numeral.{Numeral}
 use Rattle.forms.specs.Forms.{fieldAt}
 use Rattle.survex_leg.specs.Limits.{tapeDecimals, compassDecimals, mostTape, compassTurn}
-use Rattle.survex_leg.specs.Legs.{Reads, Said, leg, wrong, number, scaled, tapeIn, compassIn, level, stepOf, legForm, legRange, readLeg}
+use Rattle.survex_leg.specs.Legs.{Reads, leg, wrong, number, tapeIn, compassIn, level, stepOf, legForm, legRange, readLeg}
 use Rattle.survex_leg.specs.Private.{NumbersOf}
 use Rattle.survex_leg.specs.declared.LegNumbers.{LegNumbers}
 

@@ -1,21 +1,20 @@
 -- The theorems of specs/Theorems.antt.
-use Prim.Native.Nat.{ℕ, suc, _+_, _-_, _*_, _/_, _%_, _^_, _≤_, _<_}
+use Prim.Native.Nat.{ℕ, suc, _+_, _-_, _*_, _/_, _^_, _≤_}
 use native.Mathlib.Omega.{arith}
 use native.Mathlib.Nat.{pow-succ'}
 use lib.Pow.{pow-add}
 use mathlib.Core.Path.{_≡_, refl, sym, ap, _∙_}
 use mathlib.Core.Bool.{Bool, true, false, not, _&&_, _||_, and-eq-true-iff}
 use mathlib.Core.List.{List, [], _∷_, _++_}
-use lib.Dec.{leb, ltb}
-use lib.ListN.{length, drop, drop-of-length-le}
-use native.Mathlib.Decide.{decLt}
-use borrow.Author.Tests.{leb-true, ltb-false, lt-ltb}
+use lib.Dec.{leb}
+use lib.ListN.{length, drop-of-length-le}
+use borrow.Author.Tests.{leb-true, ltb-false}
 use Rattle.text.specs.Fields.{all, digit, value}
 use Rattle.text.proofs.Decimal.{value-append}
 use Rattle.rows.specs.Rounding.{turnSteps}
 use Rattle.survex_leg.specs.Limits.{wholeDigits, compassTurn}
 use Rattle.survex_leg.specs.Legs.{whole, pointed, decimals, digitsUpTo, number, scaled, stepOf}
-use Rattle.survex_leg.specs.Theorems.{apart, Nearest, Theorems}
+use Rattle.survex_leg.specs.Theorems.{Nearest, Theorems}
 use Rattle.survex_leg.proofs.Facts.{step-below}
 
 -- the whole part of x / d + 1/2 is the nearest, halves up

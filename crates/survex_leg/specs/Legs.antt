@@ -1,7 +1,7 @@
 -- A leg of a Survex text (document 02, Job 12): its fields, its numbers, and the shot that it gives.
 use Prim.Native.Nat.{ℕ, suc, _+_, _-_, _*_, _/_, _%_, _^_}
 use mathlib.Core.Path.{_≡_}
-use mathlib.Core.Bool.{Bool, true, false, cond, not, _&&_, _||_}
+use mathlib.Core.Bool.{Bool, false, cond, not, _&&_, _||_}
 use mathlib.Core.List.{List, [], _∷_}
 use lib.Dec.{leb, ltb, eqb}
 use lib.ListN.{length, getD, drop}
@@ -10,7 +10,6 @@ use Rattle.text.specs.Scan.{oneOf, upTo, before}
 use Rattle.text.specs.Fields.{all, within, digit, name, value, partOf}
 use Rattle.text.specs.declared.field.Numeral.{Numeral}
 use Rattle.forms.specs.Forms.{fieldAt}
-use Rattle.forms.specs.declared.Shot.{Shot as ShotFields}
 use Rattle.rows.specs.Rounding.{turnSteps}
 use Rattle.survex_lines.specs.Lines.{blank}
 use Rattle.survex_leg.specs.Limits.{wholeDigits, tapeDecimals, compassDecimals, mostTape, compassTurn}

@@ -1,18 +1,18 @@
 -- What is handed out: a line of the text, what is left of it as a part of the text, and the lines passed over before it.
-use Prim.Native.Nat.{ℕ, suc, _+_, _-_, _≤_, _<_}
+use Prim.Native.Nat.{ℕ, _+_, _-_, _≤_, _<_}
 use native.Mathlib.Omega.{arith}
 use native.Mathlib.Nat.{add-assoc}
 use mathlib.Core.Path.{_≡_, refl, sym, ap, subst, _∙_}
-use mathlib.Core.Bool.{Bool, true, false, cond, true≢false, false≢true}
-use mathlib.Core.List.{List, [], _∷_, _++_, head-eq-of-cons-eq, tail-eq-of-cons-eq}
+use mathlib.Core.Bool.{Bool, true, false, true≢false, false≢true}
+use mathlib.Core.List.{List, [], _∷_, head-eq-of-cons-eq, tail-eq-of-cons-eq}
 use lib.ListN.{length, take, drop, length-drop, drop-of-length-le}
-use lib.Seq.{drop-drop, take-take, length-take-le}
+use lib.Seq.{drop-drop, take-take}
 use native.Mathlib.Decide.{decLt}
 use Rattle.text.specs.Ascii.{ascii}
 use Rattle.text.specs.Scan.{oneOf, upTo, lines, firstLine}
-use Rattle.text.proofs.Scan.{run-take, run-length}
+use Rattle.text.proofs.Scan.{run-take}
 use Rattle.text.proofs.Split.{lines-from, end-within, part-line}
-use Rattle.survex_lines.specs.Lines.{notBlank, uncommented, blanksBefore, trimStart, trimEnd, leftOf, fed, remains, keptOf, remainingIn, remainingFrom}
+use Rattle.survex_lines.specs.Lines.{uncommented, blanksBefore, trimStart, trimEnd, leftOf, fed, remains, keptOf, remainingIn}
 use Rattle.survex_lines.specs.declared.Remaining.{Remaining}
 use Rattle.survex_lines.proofs.Trim.{trim-take, trim-length}
 use Rattle.survex_lines.proofs.Places.{drop-of-take, left-within}

@@ -2,11 +2,10 @@
 use Prim.Native.Nat.{ℕ, zero, suc, _+_, _-_, _≤_, _<_}
 use native.Mathlib.Omega.{arith}
 use mathlib.Core.Path.{_≡_, refl, sym, ap, _∙_}
-use mathlib.Core.Bool.{Bool, true, false, cond, not, _||_}
-use mathlib.Core.List.{List, [], _∷_, _++_}
+use mathlib.Core.Bool.{Bool, true, false, not, _||_}
+use mathlib.Core.List.{List, [], _∷_}
 use lib.Dec.{ltb}
-use lib.ListN.{length, getD, take, drop, length-append, length-drop, drop-of-length-le}
-use lib.Seq.{length-take-le, drop-drop}
+use lib.ListN.{length, take, drop, length-drop, drop-of-length-le}
 use borrow.Author.Tests.{lt-ltb, le-ltb}
 use Rattle.text.specs.Ascii.{ascii}
 use Rattle.text.specs.Scan.{oneOf, upTo, lineFeed, lines, firstLine}
@@ -27,7 +26,6 @@ use Rattle.survex_lines.specs.Lines.{
   remainingFrom,
 }
 use Rattle.survex_lines.specs.declared.Kept.{Kept}
-use Rattle.survex_lines.specs.declared.Remaining.{Remaining}
 use Rattle.survex_lines.proofs.Trim.{trim-length}
 
 -- a list is empty just where its length is 0

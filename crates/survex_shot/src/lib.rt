@@ -9,7 +9,7 @@ ghost use lib.ListN.{length, replicate};
 ghost use mathlib.Core.List.{[], _∷_, _++_};
 ghost use Rattle.text.specs.Ascii.{ascii, byte};
 ghost use Rattle.text.specs.Buffer.{Puts};
-ghost use Rattle.text.specs.Fields.{partOf, decimal};
+ghost use Rattle.text.specs.Fields.{decimal};
 ghost use Rattle.forms.specs.Forms.{shotIn, printLine};
 ghost use Rattle.survex_shot.specs.Shot.{shotRoom};
 

@@ -61,6 +61,19 @@ module _ (f : ℕ) (form : List ℕ) where
   unfolding formed
   formed-byte e = rw (e, formed)
 
+-- a form without fields is printed as it stands
+pub unmarked : (form : List ℕ) (vs : List (List ℕ)) → 0 ≡ marks form → (printForm form vs ≡ form) × (formed form ≡ true)
+unfolding printForm formed
+unmarked [] vs e = (refl, refl)
+unmarked (f ∷ form) vs e = split (unmarked form vs) (eqb f 35) refl
+  where
+    split : (0 ≡ marks form → (printForm form vs ≡ form) × (formed form ≡ true)) → (b : Bool) → eqb f 35 ≡ b
+        → (printForm (f ∷ form) vs ≡ f ∷ form) × (formed (f ∷ form) ≡ true)
+    split ih true t = absurd (omega (arith, e, marks-mark f form t))
+    split ih false t =
+        let (p, q) = ih (e ∙ marks-byte f form t) in
+        (print-byte f form vs t ∙ ap (λ (l : List ℕ). f ∷ l) p, formed-byte f form t ∙ q)
+
 -- a field at the start of a printed form
 field-printed : (v : List ℕ) (form : List ℕ) (vs : List (List ℕ)) → startsSeparate form ≡ true → plain v ≡ true → field
     (v ++ printForm form vs) ≡ v

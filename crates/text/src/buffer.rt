@@ -2,7 +2,6 @@
 ghost use Prim.Native.Nat.{_-_, min};
 ghost use mathlib.Core.Path.{_≡_};
 ghost use mathlib.Core.List.{[], _∷_, _++_};
-ghost use lib.ListN.{length};
 ghost use Rattle.text.specs.Fields.{decimal};
 ghost use Rattle.text.specs.Buffer.{Puts};
 ghost use Rattle.text.specs.Private.{SpelledIn};

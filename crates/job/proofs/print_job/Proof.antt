@@ -2,7 +2,7 @@
 use native.Mathlib.Omega.{arith}
 use lib.ListN.{length}
 use Rattle.text.proofs.Writing.{puts-within}
-use mathlib.Core.Path.{_≡_, sym, ap, _∙_}
+use mathlib.Core.Path.{sym, ap, _∙_}
 use Rattle.job.specs.Job.{jobOf, outputOf}
 use Rattle.job.specs.declared.JobAnswer.{JobAnswer}
 use Rattle.job.proofs.Answered.{job-told, printed-listed, printed-refused}

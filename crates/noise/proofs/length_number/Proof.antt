@@ -1,5 +1,4 @@
 -- `length_number` is `lengthNumber`.
-use borrow.Author.Needs.{needs}
 use borrow.Author.Tests.{eq-eqb, ne-eqb}
 use Rattle.streams.specs.Streams.{lengthNumber}
 use Rattle.noise.proofs.length_number.Statement.{statement}

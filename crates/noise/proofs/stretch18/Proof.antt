@@ -1,13 +1,10 @@
 -- `stretch18` lends as many numbers as its slice has pairs.
 use mathlib.Core.Path.{_≡_, refl, ap, _∙_}
-use mathlib.Core.List.{List}
 use Prim.Native.Nat.{ℕ, _-_, _*_, _/_, _≤_}
 use native.Mathlib.Omega.{arith}
-use lib.IntN.{ℤ}
-use lib.ListN.{length, take, length-take}
+use lib.ListN.{length}
 use borrow.Author.Needs.{needs}
-use Rattle.streams.specs.declared.Generator.{Generator}
-use Rattle.streams.specs.Streams.{pairsNumber, after}
+use Rattle.streams.specs.Streams.{after}
 use Rattle.sample.specs.Steps.{fractionBits18}
 use Rattle.noise.specs.Noise.{samples}
 use Rattle.noise.proofs.StretchLaws.{lent-size, asked}

@@ -1,5 +1,4 @@
 -- `noisy_bearing` is `noisyBearing`: the sign of the sample picks the case.
-use native.Mathlib.Omega.{arith}
 use mathlib.Core.Path.{ap, _∙_}
 use lib.IntN.{ℤ, natAbs}
 use mir.Facts.{toZ-ofZ}

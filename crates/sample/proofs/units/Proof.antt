@@ -1,13 +1,11 @@
 -- `sample::units` meets its contract.
-use mathlib.Core.Path.{_≡_}
 use mathlib.Core.Logic.{inl, inr}
-use Prim.Native.Nat.{ℕ, _+_, _*_, _/_, _≤_, _<_, _^_}
+use Prim.Native.Nat.{ℕ, _+_, _*_, _/_, _≤_, _^_}
 use native.Mathlib.Nat.{mul-le-mul, le-of-lt}
 use native.Mathlib.Omega.{arith}
 use Rattle.radius.specs.Steps.{radiusLimit}
 use Rattle.sample.specs.Private.{Scale}
 use Rattle.sample.proofs.RoundingLaws.{scaled-size}
-use borrow.Author.Needs.{needs}
 use Rattle.sample.proofs.units.Statement.{statement}
 use Rattle.sample.proofs.units.Tie as tie
 

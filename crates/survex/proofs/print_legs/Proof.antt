@@ -1,6 +1,6 @@
 -- `survex::print_legs` meets its contract.
 use native.Mathlib.Omega.{arith}
-use mathlib.Core.Path.{_≡_, sym, ap, _∙_}
+use mathlib.Core.Path.{sym, ap, _∙_}
 use lib.ListN.{length}
 use Rattle.text.proofs.Writing.{puts-within}
 use Rattle.job.specs.Job.{outputOf}

@@ -2,7 +2,6 @@
 use native.Mathlib.Omega.{arith}
 use mathlib.Core.Path.{refl}
 use Rattle.survex_leg.proofs.Numbers.{digits-none, digits-many, digits-few}
-use borrow.Author.Needs.{needs}
 use Rattle.survex_leg.proofs.digits_up_to.Statement.{statement}
 use Rattle.survex_leg.proofs.digits_up_to.Tie as tie
 

@@ -1,6 +1,5 @@
 -- `survex_leg::fields_of` meets its contract.
 use Rattle.survex_leg.proofs.Words.{fields-are}
-use borrow.Author.Needs.{needs}
 use Rattle.survex_leg.proofs.fields_of.Statement.{statement}
 use Rattle.survex_leg.proofs.fields_of.Tie as tie
 

@@ -1,6 +1,5 @@
 -- `survex_leg::is_in_range` meets its contract.
 use Rattle.survex_leg.proofs.Legs.{range-1, range-2, range-3}
-use borrow.Author.Needs.{needs}
 use Rattle.survex_leg.proofs.is_in_range.Statement.{statement}
 use Rattle.survex_leg.proofs.is_in_range.Tie as tie
 

@@ -1,7 +1,6 @@
 -- `survex_leg::is_last` meets its contract.
 use borrow.Author.Tests.{lt-ltb, le-ltb}
 use Rattle.survex_leg.proofs.Words.{leb-not}
-use borrow.Author.Needs.{needs}
 use Rattle.survex_leg.proofs.is_last.Statement.{statement}
 use Rattle.survex_leg.proofs.is_last.Tie as tie
 

@@ -1,7 +1,6 @@
 -- `survex_leg::power_of_ten` meets its contract.
 use native.Mathlib.Omega.{arith}
 use mathlib.Core.Path.{_≡_}
-use borrow.Author.Needs.{needs}
 use Rattle.survex_leg.proofs.power_of_ten.Statement.{statement}
 use Rattle.survex_leg.proofs.power_of_ten.Tie as tie
 

@@ -1,5 +1,4 @@
 -- `survex_lines::is_left` meets its contract.
-use borrow.Author.Needs.{needs}
 use Rattle.survex_lines.proofs.is_left.Statement.{statement}
 use Rattle.survex_lines.proofs.is_left.Tie as tie
 
