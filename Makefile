@@ -6,9 +6,10 @@
 # make test             everything: the comparison with another implementation, then the gate
 # make lib              proves and writes target/staticlib/libjabulghi.a, for C and Rust
 # make bench            times beside plain C and other generators
+# make datasheet        docs/DATASHEET.md with its numbers and pictures; [PART=speed] one part of the numbers alone
 JOB ?= examples/traverse.job
 
-.PHONY: run miss test lib bench
+.PHONY: run miss test lib bench datasheet
 run:
 	@tools/run "$(JOB)"
 
@@ -33,3 +34,6 @@ install:
 
 bench:
 	bench/run
+
+datasheet:
+	tools/datasheet/run $(PART)

@@ -102,8 +102,8 @@ template <class Normal, class Rounded> static void fill_from(Normal normal, Roun
     }
 }
 
-static void add_ours(Contestants &all) {
-    for (size_t length : {LENGTH, (size_t)64, (size_t)16, (size_t)2}) {
+static void add_ours(Contestants &all, const std::vector<size_t> &lengths) {
+    for (size_t length : lengths) {
         all.push_back({"`jabulghi_block` of " + std::to_string(length), A_SAMPLE, LENGTH, [length] { fill_by(length); }});
     }
 }
@@ -179,10 +179,10 @@ static void add_job(Contestants &all) {
 }
 
 // From count 0, so that none is refused; beside a skip the same pairs drawn.
-static void add_skips(Contestants &all) {
+static void add_skips(Contestants &all, const std::vector<uint64_t> &numbers) {
     const int calls = 10;
     static jabulghi_record record = seeded();
-    for (uint64_t n : {UINT64_MAX, (uint64_t)1000}) {
+    for (uint64_t n : numbers) {
         all.push_back({"`jabulghi_skip` of " + std::to_string(n) + " pairs", A_CALL, calls, [n] {
             for (int j = 0; j < calls; j++) {
                 record.count = 0;
@@ -190,6 +190,9 @@ static void add_skips(Contestants &all) {
             }
         }});
     }
+}
+
+static void add_thousand(Contestants &all) {
     all.push_back({"`jabulghi_block` of 1000 pairs", A_CALL, 1, [] { jabulghi_block(&ours, buffer, 2000); }});
 }
 
@@ -378,18 +381,45 @@ static void print_quiet(double load, double share, const Contestant &loop) {
 
 static Contestants contestants() {
     Contestants all;
-    add_ours(all);
+    add_ours(all, {LENGTH, 64, 16, 2});
     add_wide(all);
     add_plain(all);
     add_others(all);
     add_pairs(all);
     add_job(all);
-    add_skips(all);
+    add_skips(all, {UINT64_MAX, 1000});
+    add_thousand(all);
     add_windows(all);
     return all;
 }
 
-int main() {
+// For the data sheet: blocks of every power of two, the others, and skips of as many pairs as just fit a number of bits.
+static Contestants of_sheet() {
+    Contestants all;
+    std::vector<size_t> lengths;
+    for (size_t length = LENGTH; length >= 2; length /= 2) lengths.push_back(length);
+    std::vector<uint64_t> numbers = {0};
+    for (int bits = 2; bits <= 64; bits += 2) numbers.push_back(UINT64_MAX >> (64 - bits));
+    add_ours(all, lengths);
+    add_wide(all);
+    add_plain(all);
+    add_others(all);
+    add_pairs(all);
+    add_skips(all, numbers);
+    return all;
+}
+
+// For a program to read.
+static void print_fields(const Contestants &all) {
+    for (const Contestant &each : all) {
+        double scale = each.unit.in_a_second;
+        printf("%s\t%s\t%.3f\t%.3f\n", each.name.c_str(), each.unit.name, each.least() * scale, each.median() * scale);
+    }
+}
+
+// With the argument `sheet` it times what the data sheet shows, and prints fields.
+int main(int argc, char **argv) {
+    bool sheet = argc > 1 && strcmp(argv[1], "sheet") == 0;
     double load = 0;
     getloadavg(&load, 1);
     plain_tables();
@@ -398,7 +428,7 @@ int main() {
     check_skips();
     check_wide();
     check_windows();
-    Contestants all = contestants();
+    Contestants all = sheet ? of_sheet() : contestants();
     check_spread(all);
     all.push_back({"a fixed loop", A_CALL, 1, calibrate});
     double start = seconds_of(CLOCK_MONOTONIC), used = seconds_of(CLOCK_PROCESS_CPUTIME_ID);
@@ -406,6 +436,11 @@ int main() {
     double share = (seconds_of(CLOCK_PROCESS_CPUTIME_ID) - used) / (seconds_of(CLOCK_MONOTONIC) - start);
     Contestant loop = all.back();
     all.pop_back();
+    if (sheet) {
+        print_fields(all);
+        print_quiet(load, share, loop);
+        return 0;
+    }
     print_table(all);
     const Contestant *eighteen = named(all, WIDE);
     printf("\nA block of samples of 18 bits takes %.2f of the time of one of 16 bits by the least and %.2f by the median.\n",
