@@ -3,7 +3,7 @@
 # make command          the command target/jabulghi
 # make install          the command, the library, its header and the manual pages, below PREFIX=folder (a packager's DESTDIR=folder stands before it)
 # make lib TARGET=name  the library for another processor, aarch64 or riscv64: target/name/libjabulghi.a
-# make test             everything: the comparison with another implementation, then the gate
+# make test             everything: the gate, every proof from nothing and the comparison with another implementation
 # make lib              proves and writes target/staticlib/libjabulghi.a, for C and Rust
 # make bench            times beside plain C and other generators
 # make datasheet        docs/DATASHEET.md with its numbers and pictures; [PART=speed] one part of the numbers alone
