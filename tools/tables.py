@@ -1,6 +1,6 @@
 #!/usr/bin/env python3
 """Recomputes the seven tables with mpmath at 200 bits and compares them with the sources: crate `tables` (src/logarithms.rt,
-cosines.rt, sines.rt, specs/Values.antt) and the matches of crates `log_coarse`, `log_fine` and `rotations`.
+cosines.rt, sines.rt, specs/Values.antt) and the matches of crates `log_coarse_lookup`, `log_fine_lookup` and `rotation_lookup`.
 
   python3 tools/tables.py           compare the sources with the recomputed tables
   python3 tools/tables.py --write   write the tables and the arms of the matches anew (then run `rt fmt`)
@@ -63,10 +63,10 @@ def parted(width):
 RECIPROCALS = [-(-(2**31) // h) for h in range(256, 512)]
 # (crate, function, how an entry is written, entries)
 MATCHES = [
-    ("log_coarse", "nth", parted(40), beside(RECIPROCALS, ENTRIES["LOG_COARSE"], 40)),
-    ("log_fine", "nth", str, ENTRIES["LOG_FINE"]),
-    ("rotations", "nth_coarse", parted(32), beside(ENTRIES["COS_COARSE"], ENTRIES["SIN_COARSE"], 32)),
-    ("rotations", "nth_fine", parted(32), beside(ENTRIES["COS_FINE"], ENTRIES["SIN_FINE"], 32)),
+    ("log_coarse_lookup", "nth", parted(40), beside(RECIPROCALS, ENTRIES["LOG_COARSE"], 40)),
+    ("log_fine_lookup", "nth", str, ENTRIES["LOG_FINE"]),
+    ("rotation_lookup", "nth_coarse", parted(32), beside(ENTRIES["COS_COARSE"], ENTRIES["SIN_COARSE"], 32)),
+    ("rotation_lookup", "nth_fine", parted(32), beside(ENTRIES["COS_FINE"], ENTRIES["SIN_FINE"], 32)),
 ]
 
 

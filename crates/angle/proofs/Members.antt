@@ -106,7 +106,7 @@ module _ (promise : Promise) (bounds : Bounds) (w : ℕ) (small : w < 16384) whe
       let ends = cosine-ends entries (pow-pos 96) (omega arith) (bounds .cosine (w / 128) (w % 128)) in
       let most = scaled-product _ _ (bounds .cos-coarse (w / 128)) (bounds .cos-fine (w % 128)) in
       record {
-        number = _;
+        size = _;
         value = refl;
         most = omega (arith, most);
         low = margin-low (2 ^ 96) _ _ (ends .0);
@@ -119,7 +119,7 @@ module _ (promise : Promise) (bounds : Bounds) (w : ℕ) (small : w < 16384) whe
       let ends = sine-ends entries (pow-pos 96) (omega arith) in
       let most = bounds .sine (w / 128) (w % 128) in
       record {
-        number = _;
+        size = _;
         value = refl;
         most = omega (arith, most);
         low = margin-low (2 ^ 96) _ _ (ends .0);
@@ -128,7 +128,7 @@ module _ (promise : Promise) (bounds : Bounds) (w : ℕ) (small : w < 16384) whe
 
 member-negate : (G : ℤ) (e : Enclosure) → Member G e → Member (negℤ G) (negate e)
 member-negate G e m = record {
-  number = m .number;
+  size = m .size;
   value = along-both (e .negative) G ∙ m .value;
   most = m .most;
   low = m .low;

@@ -7,8 +7,8 @@ use Rattle.exact.specs.Pair.{Enclosure, along}
 
 -- G at 2^30 has the enclosure's sign and is less than 3 units from each of its points
 pub record Member (G : ℤ) (e : Enclosure) : Type 0 where
-  pub number : ℕ
-  pub value : along (e .negative) G ≡ pos number
-  pub most : number ≤ 2 ^ 30
-  pub low : dyadic 30 (number - 3) ≤ᶠ e .low
-  pub high : e .high ≤ᶠ dyadic 30 (number + 3)
+  pub size : ℕ
+  pub value : along (e .negative) G ≡ pos size
+  pub most : size ≤ 2 ^ 30
+  pub low : dyadic 30 (size - 3) ≤ᶠ e .low
+  pub high : e .high ≤ᶠ dyadic 30 (size + 3)

@@ -23,10 +23,10 @@ pub fn angle_of(w: u64) -> Angle
 {
     let a = w / 128;
     let b = w % 128;
-    let coarse_cos = rotations::cos_coarse(a);
-    let coarse_sin = rotations::sin_coarse(a);
-    let fine_cos = rotations::cos_fine(b);
-    let fine_sin = rotations::sin_fine(b);
+    let coarse_cos = rotation_lookup::cos_coarse(a);
+    let coarse_sin = rotation_lookup::sin_coarse(a);
+    let fine_cos = rotation_lookup::cos_fine(b);
+    let fine_sin = rotation_lookup::sin_fine(b);
     Angle {
         sine: (coarse_sin * fine_cos + coarse_cos * fine_sin) / SCALE,
         cosine: (coarse_cos * fine_cos - coarse_sin * fine_sin) / SCALE,

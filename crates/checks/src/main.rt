@@ -45,7 +45,7 @@ fn part(bytes: &[u8], length: usize) {
 fn show_job(text: &[u8]) {
     let mut listing = [0u8; LISTING_ROOM];
     let answer = job::list(text, &mut listing);
-    number(answer.number);
+    number(answer.code);
     number(answer.line);
     word(b"\n");
     part(&listing, answer.length);
@@ -64,7 +64,7 @@ fn show_samples(k: u64, v: u32) {
     let s = sample::sample(k, v);
     let first = s.first;
     let second = s.second;
-    number(s.number);
+    number(s.code);
     samples(&[first, second]);
 }
 
@@ -73,8 +73,8 @@ fn show_block(s0: u32, others: u32) {
     let seeded = Generator::seed(s0, others, others, others, others, others);
     let mut block = [0i16; 6];
     let filled = noise::block(seeded.next, &mut block);
-    number(seeded.number);
-    number(filled.number);
+    number(seeded.code);
+    number(filled.code);
     samples(&block);
 }
 

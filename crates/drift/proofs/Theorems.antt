@@ -118,8 +118,8 @@ module _ (n : ℕ) (some : 1 ≤ n) (most : n ≤ mostSize) where
         }
 
   -- a run, from what was seen before
-  run : (l seen : List ℤ) (r : WindowAnswer) → r .number ≡ 0 → Holds n (latest n seen) (r .window) → Samples l
-      → (pushedFrom r l .number ≡ 0) × Holds n (latest n (seen ++ l)) (pushedFrom r l .window)
+  run : (l seen : List ℤ) (r : WindowAnswer) → r .code ≡ 0 → Holds n (latest n seen) (r .window) → Samples l
+      → (pushedFrom r l .code ≡ 0) × Holds n (latest n (seen ++ l)) (pushedFrom r l .window)
   unfolding pushedFrom Samples
   run [] seen r z h s = rw (append-nil seen) (z, h)
   run (x ∷ l) seen r z h (f, s) =
@@ -157,7 +157,7 @@ module _ (n : ℕ) (some : 1 ≤ n) (most : n ≤ mostSize) where
       let (a, b, d) = shape-bounds n (w .places) (omega (arith, h′ .room)) (latest n l) (w .held) (w .place) (h′ .shape) in
       record {
         made = rw made-is refl;
-        next = λ x g. rw made-is (ap (λ (r : WindowAnswer). r .number) (moves (latest n l) w h′ x));
+        next = λ x g. rw made-is (ap (λ (r : WindowAnswer). r .code) (moves (latest n l) w h′ x));
         at-once = rw (made-is, ← all-from (emptyWindow n) l, tested-start) z;
         size = rw made-is (h′ .sized);
         held = rw made-is a;

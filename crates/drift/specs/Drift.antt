@@ -45,11 +45,11 @@ abbrev pub emptyWindow : ℕ → Window
 emptyWindow n = windowOf n 0 0 emptyPlaces (pos 0) (pos 0)
 
 abbrev pub accepted : Window → WindowAnswer
-accepted w = record { number = 0; window = w }
+accepted w = record { code = 0; window = w }
 
 -- 17, "returned: N 0, no samples held, every place 0, sums 0"
 abbrev pub refusal : WindowAnswer
-refusal = record { number = 17; window = emptyWindow 0 }
+refusal = record { code = 17; window = emptyWindow 0 }
 
 -- The window passed in, or 17.
 unfoldable pub checkedOf : Window → WindowAnswer
@@ -102,12 +102,12 @@ abbrev pub withPlaces : Numbers → List ℤ → Window
 withPlaces m places = windowOf (m .size) (m .held) (m .place) places (m .sum) (m .squares)
 
 abbrev pub answerOf : Numbers → List ℤ → WindowAnswer
-answerOf m places = record { number = m .number; window = withPlaces m places }
+answerOf m places = record { code = m .code; window = withPlaces m places }
 
 abbrev pub numbersOf : WindowAnswer → Numbers
 numbersOf r =
     record {
-      number = r .number;
+      code = r .code;
       size = r .window .size;
       held = r .window .held;
       place = r .window .place;

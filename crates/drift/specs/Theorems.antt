@@ -40,9 +40,9 @@ afterRun n samples = after (madeOf n .window) samples
 
 pub record Drift (n : ℕ) (samples : List ℤ) : Type 0 where
   -- neither making, nor any next push of the run, nor all of it at once is refused
-  pub made : madeOf n .number ≡ 0
-  pub next : (x : ℤ) → SFits w16 x → pushedOf (afterRun n samples) x .number ≡ 0
-  pub at-once : pushedAll (madeOf n .window) samples .number ≡ 0
+  pub made : madeOf n .code ≡ 0
+  pub next : (x : ℤ) → SFits w16 x → pushedOf (afterRun n samples) x .code ≡ 0
+  pub at-once : pushedAll (madeOf n .window) samples .code ≡ 0
   -- "N is fixed when the window is made"
   pub size : afterRun n samples .size ≡ n
   pub held : afterRun n samples .held ≡ length (latest n samples)

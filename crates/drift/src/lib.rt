@@ -47,13 +47,13 @@ pub struct Window {
 }
 
 pub struct WindowAnswer {
-    pub number: u32,
+    pub code: u32,
     pub window: Window,
 }
 
 // An answer without its places.
 pub struct Numbers {
-    pub number: u32,
+    pub code: u32,
     pub size: u32,
     pub held: u32,
     pub place: u32,
@@ -174,11 +174,11 @@ fn place_after(place: u32, size: u32) -> u32
 // ---- The core, over lent places
 
 // The numbers of a window with none held.
-fn empty(number: u32, size: u32) -> Numbers
-    ensures { λ r. ⌜ r ≡ numbersOf (record { number = number; window = emptyWindow size }) ⌝ }
+fn empty(code: u32, size: u32) -> Numbers
+    ensures { λ r. ⌜ r ≡ numbersOf (record { code = code; window = emptyWindow size }) ⌝ }
 {
     Numbers {
-        number,
+        code,
         size,
         held: 0,
         place: 0,
@@ -226,7 +226,7 @@ fn checked(m: Numbers, places: &mut [i16; 4096]) -> Numbers
         return refuse(places);
     }
     Numbers {
-        number: 0,
+        code: 0,
         size,
         held,
         place,
@@ -255,7 +255,7 @@ fn moved(
     let sums = sums_after(sum, squares, out, sample);
     places[at] = sample;
     Numbers {
-        number: 0,
+        code: 0,
         size,
         held: held_after(held, size),
         place: place_after(place, size),
@@ -303,7 +303,7 @@ fn answer(m: Numbers, places: [i16; 4096]) -> WindowAnswer
     let sum = m.sum;
     let squares = m.squares;
     WindowAnswer {
-        number: m.number,
+        code: m.code,
         window: Window {
             size: m.size,
             held: m.held,
@@ -322,7 +322,7 @@ impl Window {
         let sum = self.sum;
         let squares = self.squares;
         Numbers {
-            number: 0,
+            code: 0,
             size: self.size,
             held: self.held,
             place: self.place,

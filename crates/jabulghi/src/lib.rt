@@ -81,33 +81,33 @@ pub extern "C" fn jabulghi_seed(
     b2: u32,
     words: &mut [u32; 10],
 ) -> u32
-    ensures { λ r. ⌜ r ≡ seedOf a0 a1 a2 b0 b1 b2 .number ⌝ }
+    ensures { λ r. ⌜ r ≡ seedOf a0 a1 a2 b0 b1 b2 .code ⌝ }
     ensures { λ _. ⌜ now (words .exit) ≡ wordsOf (seedOf a0 a1 a2 b0 b1 b2 .next) ⌝ }
 {
     let seeded = Generator::seed(a0, a1, a2, b0, b1, b2);
     let next = seeded.next;
     *words = packed(next);
-    seeded.number
+    seeded.code
 }
 
 // The two samples of k and v.
 #[no_mangle]
 pub extern "C" fn jabulghi_sample(k: u64, v: u32, samples: &mut [i16; 2]) -> u32
-    ensures { λ r. ⌜ r ≡ samplesOf fractionBits k v .number ⌝ }
+    ensures { λ r. ⌜ r ≡ samplesOf fractionBits k v .code ⌝ }
     ensures { λ _. ⌜ now (samples .exit) ≡ samplesOf fractionBits k v .first ∷ samplesOf fractionBits k v .second ∷ [] ⌝ }
     ensures close { λ _. ⌜ (k < 2 ^ numberBits → v < 65536 → Close nineSixteenths fractionBits (inverse k) v (samplesOf fractionBits k v .first) (samplesOf fractionBits k v .second)) ⌝ }
     ensures closer { λ _. ⌜ (k < 2 ^ numberBits → v < 65536 → Close thirtyThreeSixtyFourths fractionBits (inverse k) v (samplesOf fractionBits k v .first) (samplesOf fractionBits k v .second)) ⌝ }
 {
     let s = sample::sample(k, v);
     *samples = [s.first, s.second];
-    s.number
+    s.code
 }
 
 // One pair of samples from a record. (`noise::pair` written out: its record then stays in registers, and calls one after another
 // overlap.)
 #[no_mangle]
 pub extern "C" fn jabulghi_pair(words: &mut [u32; 10], samples: &mut [i16; 2]) -> u32
-    ensures { λ r. ⌜ r ≡ pairOf fractionBits (generatorOf (now (words .entry))) .number ⌝ }
+    ensures { λ r. ⌜ r ≡ pairOf fractionBits (generatorOf (now (words .entry))) .code ⌝ }
     ensures { λ _. ⌜ now (samples .exit) ≡ samplesIn (pairOf fractionBits (generatorOf (now (words .entry)))) ⌝ }
     ensures { λ _. ⌜ now (words .exit) ≡ wordsOf (pairOf fractionBits (generatorOf (now (words .entry))) .next) ⌝ }
 {
@@ -117,13 +117,13 @@ pub extern "C" fn jabulghi_pair(words: &mut [u32; 10], samples: &mut [i16; 2]) -
     let after_pair = pair.next;
     *samples = [pair.first, pair.second];
     *words = packed(after_pair);
-    pair.number
+    pair.code
 }
 
 // A block of samples from a record, first and second alternating.
 #[no_mangle]
 pub extern "C" fn jabulghi_block(words: &mut [u32; 10], block: &mut [i16]) -> u32
-    ensures { λ r. ⌜ r ≡ blockOf (generatorOf (now (words .entry))) (length (now (block .entry))) .number ⌝ }
+    ensures { λ r. ⌜ r ≡ blockOf (generatorOf (now (words .entry))) (length (now (block .entry))) .code ⌝ }
     ensures { λ _. ⌜ now (block .exit) ≡ blockHolds fractionBits (generatorOf (now (words .entry))) (now (block .entry)) ⌝ }
     ensures { λ _. ⌜ now (words .exit) ≡ wordsOf (blockOf (generatorOf (now (words .entry))) (length (now (block .entry))) .next) ⌝ }
 {
@@ -131,50 +131,50 @@ pub extern "C" fn jabulghi_block(words: &mut [u32; 10], block: &mut [i16]) -> u3
     let filled = noise::block(g, block);
     let after_block = filled.next;
     *words = packed(after_block);
-    filled.number
+    filled.code
 }
 
 // A look at the block that would come next. The record is lent to be read alone.
 #[no_mangle]
 pub extern "C" fn jabulghi_look(words: &[u32; 10], block: &mut [i16]) -> u32
-    ensures { λ r. ⌜ r ≡ lookOf (generatorOf (now (words .entry))) (length (now (block .entry))) .number ⌝ }
+    ensures { λ r. ⌜ r ≡ lookOf (generatorOf (now (words .entry))) (length (now (block .entry))) .code ⌝ }
     ensures { λ _. ⌜ now (block .exit) ≡ lookHolds fractionBits (generatorOf (now (words .entry))) (now (block .entry)) ⌝ }
 {
     let g = unpacked(*words);
     let shown = noise::look(g, block);
-    shown.number
+    shown.code
 }
 
 // A record n pairs on.
 #[no_mangle]
 pub extern "C" fn jabulghi_skip(words: &mut [u32; 10], n: u64) -> u32
-    ensures { λ r. ⌜ r ≡ skipOf (generatorOf (now (words .entry))) n .number ⌝ }
+    ensures { λ r. ⌜ r ≡ skipOf (generatorOf (now (words .entry))) n .code ⌝ }
     ensures { λ _. ⌜ now (words .exit) ≡ wordsOf (skipOf (generatorOf (now (words .entry))) n .next) ⌝ }
 {
     let g = unpacked(*words);
     let skipped = g.skip(n);
     let after_skip = skipped.next;
     *words = packed(after_skip);
-    skipped.number
+    skipped.code
 }
 
 // Notes a request for n pairs.
 #[no_mangle]
 pub extern "C" fn jabulghi_ask(words: &mut [u32; 10], n: u32) -> u32
-    ensures { λ r. ⌜ r ≡ askOf (generatorOf (now (words .entry))) n .number ⌝ }
+    ensures { λ r. ⌜ r ≡ askOf (generatorOf (now (words .entry))) n .code ⌝ }
     ensures { λ _. ⌜ now (words .exit) ≡ wordsOf (askOf (generatorOf (now (words .entry))) n .next) ⌝ }
 {
     let g = unpacked(*words);
     let asked = g.ask(n);
     let after_ask = asked.next;
     *words = packed(after_ask);
-    asked.number
+    asked.code
 }
 
 // The samples that were asked for.
 #[no_mangle]
 pub extern "C" fn jabulghi_take(words: &mut [u32; 10], block: &mut [i16]) -> u32
-    ensures { λ r. ⌜ r ≡ takeOf (generatorOf (now (words .entry))) (length (now (block .entry))) .number ⌝ }
+    ensures { λ r. ⌜ r ≡ takeOf (generatorOf (now (words .entry))) (length (now (block .entry))) .code ⌝ }
     ensures { λ _. ⌜ now (block .exit) ≡ takeHolds fractionBits (generatorOf (now (words .entry))) (now (block .entry)) ⌝ }
     ensures { λ _. ⌜ now (words .exit) ≡ wordsOf (takeOf (generatorOf (now (words .entry))) (length (now (block .entry))) .next) ⌝ }
 {
@@ -182,20 +182,20 @@ pub extern "C" fn jabulghi_take(words: &mut [u32; 10], block: &mut [i16]) -> u32
     let taken = noise::take(g, block);
     let after_take = taken.next;
     *words = packed(after_take);
-    taken.number
+    taken.code
 }
 
 // Clears the request.
 #[no_mangle]
 pub extern "C" fn jabulghi_give_up(words: &mut [u32; 10]) -> u32
-    ensures { λ r. ⌜ r ≡ giveUpOf (generatorOf (now (words .entry))) .number ⌝ }
+    ensures { λ r. ⌜ r ≡ giveUpOf (generatorOf (now (words .entry))) .code ⌝ }
     ensures { λ _. ⌜ now (words .exit) ≡ wordsOf (giveUpOf (generatorOf (now (words .entry))) .next) ⌝ }
 {
     let g = unpacked(*words);
     let given_up = g.give_up();
     let after_request = given_up.next;
     *words = packed(after_request);
-    given_up.number
+    given_up.code
 }
 
 // The listing of a job, and the line and the listing's length besides.
@@ -206,7 +206,7 @@ pub extern "C" fn jabulghi_list(
     line: &mut u32,
     written: &mut usize,
 ) -> u32
-    ensures { λ r. ⌜ r ≡ answerOf (jobOf (now (text .entry))) (length (now (listing .entry))) .number ⌝ }
+    ensures { λ r. ⌜ r ≡ answerOf (jobOf (now (text .entry))) (length (now (listing .entry))) .code ⌝ }
     ensures { λ _. ⌜ now (line .exit) ≡ answerOf (jobOf (now (text .entry))) (length (now (listing .entry))) .line ⌝ }
     ensures { λ _. ⌜ now (written .exit) ≡ answerOf (jobOf (now (text .entry))) (length (now (listing .entry))) .length ⌝ }
     ensures { λ _. ⌜ now (listing .exit) ≡ bufferAfter (jobOf (now (text .entry))) (now (listing .entry)) ⌝ }
@@ -214,5 +214,5 @@ pub extern "C" fn jabulghi_list(
     let answer = job::list(text, listing);
     *line = answer.line;
     *written = answer.length;
-    answer.number
+    answer.code
 }

@@ -12,7 +12,7 @@ pub extern "C" fn jabulghi_legs(
     line: &mut usize,
     written: &mut usize,
 ) -> u32
-    ensures { λ r. ⌜ r ≡ answerOf (survexOf (now (text .entry))) (length (now (shots .entry))) .number ⌝ }
+    ensures { λ r. ⌜ r ≡ answerOf (survexOf (now (text .entry))) (length (now (shots .entry))) .code ⌝ }
     ensures { λ _. ⌜ now (line .exit) ≡ answerOf (survexOf (now (text .entry))) (length (now (shots .entry))) .line ⌝ }
     ensures { λ _. ⌜ now (written .exit) ≡ answerOf (survexOf (now (text .entry))) (length (now (shots .entry))) .length ⌝ }
     ensures { λ _. ⌜ now (shots .exit) ≡ bufferAfter (survexOf (now (text .entry))) (now (shots .entry)) ⌝ }
@@ -20,5 +20,5 @@ pub extern "C" fn jabulghi_legs(
     let answer = survex::legs(text, shots);
     *line = answer.line;
     *written = answer.length;
-    answer.number
+    answer.code
 }

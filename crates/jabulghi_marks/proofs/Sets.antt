@@ -12,7 +12,7 @@ use borrow.Author.Tests.{eqb-true}
 use Rattle.streams.specs.declared.Generator.{Generator}
 use Rattle.text.specs.Limits.{nameLength}
 use Rattle.text.specs.Buffer.{written}
-use Rattle.streams.specs.Streams.{seedOf, recordNumber, fit}
+use Rattle.streams.specs.Streams.{seedOf, recordCode, fit}
 use Rattle.text.proofs.Writing.{written-length}
 use Rattle.jabulghi.specs.Words.{generatorOf}
 use Rattle.marks.specs.declared.Label.{Label}
@@ -115,12 +115,12 @@ stored-is m p u label w s h b t k =
 module _ (m : Members) (s : Sizes m) (words x : List ℕ) (size : length words ≡ recordWords) where
   pub save-is : setOf (savedIn m words x) ≡ savedOf (setOf m) (generatorOf words) x .next
   unfolding savedIn savedOf labelOf
-  save-is = by-test (eqb number 0) refl
+  save-is = by-test (eqb code 0) refl
     where
-      number : ℕ
-      number = placeToSave (setOf m .labels) (generatorOf words) x .number
+      code : ℕ
+      code = placeToSave (setOf m .labels) (generatorOf words) x .code
 
-      by-test : (t : Bool) → eqb number 0 ≡ t → setOf (savedIn m words x) ≡ savedOf (setOf m) (generatorOf words) x .next
+      by-test : (t : Bool) → eqb code 0 ≡ t → setOf (savedIn m words x) ≡ savedOf (setOf m) (generatorOf words) x .next
       by-test true e =
           rw (savedIn, savedOf, e)
           (stored-is m _ 1 (labelOf x) words s (save-inside (setOf m .labels) (generatorOf words) x (eqb-true _ _ e))
@@ -129,12 +129,12 @@ module _ (m : Members) (s : Sizes m) (words x : List ℕ) (size : length words �
 
   pub return-is : generatorOf (returnedWords m words x) ≡ returnedOf (setOf m) (generatorOf words) x .next
   unfolding returnedWords returnedOf
-  return-is = by-test (eqb number 0) refl
+  return-is = by-test (eqb code 0) refl
     where
-      number : ℕ
-      number = placeToReturn (setOf m .labels) (generatorOf words) x .number
+      code : ℕ
+      code = placeToReturn (setOf m .labels) (generatorOf words) x .code
 
-      by-test : (t : Bool) → eqb number 0 ≡ t
+      by-test : (t : Bool) → eqb code 0 ≡ t
           → generatorOf (returnedWords m words x) ≡ returnedOf (setOf m) (generatorOf words) x .next
       by-test true e =
           rw (returnedWords, returnedOf, e)
@@ -142,13 +142,13 @@ module _ (m : Members) (s : Sizes m) (words x : List ℕ) (size : length words �
       by-test false e = rw (returnedWords, returnedOf, e)
 
 pub drop-is : (m : Members) (s : Sizes m) (x : List ℕ) → setOf (droppedIn m x) ≡ droppedOf (setOf m) x .next
-unfolding droppedIn droppedOf noRecord seedOf recordNumber fit
-drop-is m s x = by-test (eqb number 0) refl
+unfolding droppedIn droppedOf noRecord seedOf recordCode fit
+drop-is m s x = by-test (eqb code 0) refl
   where
-    number : ℕ
-    number = placeToDrop (setOf m .labels) x .number
+    code : ℕ
+    code = placeToDrop (setOf m .labels) x .code
 
-    by-test : (t : Bool) → eqb number 0 ≡ t → setOf (droppedIn m x) ≡ droppedOf (setOf m) x .next
+    by-test : (t : Bool) → eqb code 0 ≡ t → setOf (droppedIn m x) ≡ droppedOf (setOf m) x .next
     by-test true e =
         rw (droppedIn, droppedOf, e)
         (stored-is m _ 0 noLabel (replicate recordWords 0) s (drop-inside (setOf m .labels) x (eqb-true _ _ e)) refl refl refl)

@@ -65,15 +65,15 @@ storedIn m place used label words =
 unfoldable pub savedIn : Members → List ℕ → List ℕ → Members
 savedIn m words x =
     let placed : Placed = placeToSave (setOf m .labels) (generatorOf words) x in
-    ifAccepted (placed .number) (storedIn m (placed .place) 1 (labelOf x) words) m
+    ifAccepted (placed .code) (storedIn m (placed .place) 1 (labelOf x) words) m
 
 -- the words of the record after a return: those that were saved, or, refused, those passed in
 unfoldable pub returnedWords : Members → List ℕ → List ℕ → List ℕ
 returnedWords m words x =
     let placed : Placed = placeToReturn (setOf m .labels) (generatorOf words) x in
-    ifAccepted (placed .number) (take recordWords (drop (placed .place * recordWords) (m .records))) words
+    ifAccepted (placed .code) (take recordWords (drop (placed .place * recordWords) (m .records))) words
 
 unfoldable pub droppedIn : Members → List ℕ → Members
 droppedIn m x =
     let placed : Placed = placeToDrop (setOf m .labels) x in
-    ifAccepted (placed .number) (storedIn m (placed .place) 0 noLabel (replicate recordWords 0)) m
+    ifAccepted (placed .code) (storedIn m (placed .place) 0 noLabel (replicate recordWords 0)) m

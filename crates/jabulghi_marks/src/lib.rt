@@ -144,15 +144,15 @@ pub extern "C" fn jabulghi_marks_save_members(
     words: &[u32; WORDS],
     name: &[u8],
 ) -> u32
-    ensures { λ r. ⌜ r ≡ placeToSave (labelsOf (now (used .entry)) (now (lengths .entry)) (now (names .entry))) (generatorOf (now (words .entry))) (now (name .entry)) .number ⌝ }
+    ensures { λ r. ⌜ r ≡ placeToSave (labelsOf (now (used .entry)) (now (lengths .entry)) (now (names .entry))) (generatorOf (now (words .entry))) (now (name .entry)) .code ⌝ }
     ensures { λ _. ⌜ members (now (used .exit)) (now (lengths .exit)) (now (names .exit)) (now (records .exit)) ≡ savedIn (members (now (used .entry)) (now (lengths .entry)) (now (names .entry)) (now (records .entry))) (now (words .entry)) (now (name .entry)) ⌝ }
 {
     let labels = labels_of(*used, *lengths, *names);
     let g = unpacked(*words);
     let placed = marks::place_to_save(labels, g, name);
-    let number = placed.number;
-    if number != 0 {
-        return number;
+    let code = placed.code;
+    if code != 0 {
+        return code;
     }
     let label = marks::label_of(name);
     store(
@@ -165,7 +165,7 @@ pub extern "C" fn jabulghi_marks_save_members(
         label,
         *words,
     );
-    number
+    code
 }
 
 // Returns to the record saved under a name.
@@ -178,19 +178,19 @@ pub extern "C" fn jabulghi_marks_return_members(
     words: &mut [u32; WORDS],
     name: &[u8],
 ) -> u32
-    ensures { λ r. ⌜ r ≡ placeToReturn (labelsOf (now (used .entry)) (now (lengths .entry)) (now (names .entry))) (generatorOf (now (words .entry))) (now (name .entry)) .number ⌝ }
+    ensures { λ r. ⌜ r ≡ placeToReturn (labelsOf (now (used .entry)) (now (lengths .entry)) (now (names .entry))) (generatorOf (now (words .entry))) (now (name .entry)) .code ⌝ }
     ensures { λ _. ⌜ now (words .exit) ≡ returnedWords (members (now (used .entry)) (now (lengths .entry)) (now (names .entry)) (now (records .entry))) (now (words .entry)) (now (name .entry)) ⌝ }
 {
     let labels = labels_of(*used, *lengths, *names);
     let g = unpacked(*words);
     let placed = marks::place_to_return(labels, g, name);
-    let number = placed.number;
+    let code = placed.code;
     let place = placed.place;
-    if number != 0 {
-        return number;
+    if code != 0 {
+        return code;
     }
     *words = words_at(*records, place * WORDS);
-    number
+    code
 }
 
 // Drops the mark of a name.
@@ -202,14 +202,14 @@ pub extern "C" fn jabulghi_marks_drop_members(
     records: &mut [u32; PLACES * WORDS],
     name: &[u8],
 ) -> u32
-    ensures { λ r. ⌜ r ≡ placeToDrop (labelsOf (now (used .entry)) (now (lengths .entry)) (now (names .entry))) (now (name .entry)) .number ⌝ }
+    ensures { λ r. ⌜ r ≡ placeToDrop (labelsOf (now (used .entry)) (now (lengths .entry)) (now (names .entry))) (now (name .entry)) .code ⌝ }
     ensures { λ _. ⌜ members (now (used .exit)) (now (lengths .exit)) (now (names .exit)) (now (records .exit)) ≡ droppedIn (members (now (used .entry)) (now (lengths .entry)) (now (names .entry)) (now (records .entry))) (now (name .entry)) ⌝ }
 {
     let labels = labels_of(*used, *lengths, *names);
     let placed = marks::place_to_drop(labels, name);
-    let number = placed.number;
-    if number != 0 {
-        return number;
+    let code = placed.code;
+    if code != 0 {
+        return code;
     }
     let label = marks::no_label();
     store(
@@ -222,5 +222,5 @@ pub extern "C" fn jabulghi_marks_drop_members(
         label,
         [0; WORDS],
     );
-    number
+    code
 }

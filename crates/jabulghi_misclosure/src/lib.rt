@@ -18,7 +18,7 @@ pub extern "C" fn jabulghi_misclosure(
     millimetres: &mut [i64; 2],
     line: &mut u32,
 ) -> u32
-    ensures { λ r. ⌜ r ≡ missOf (listingOf false (now (text .entry))) .number ⌝ }
+    ensures { λ r. ⌜ r ≡ missOf (listingOf false (now (text .entry))) .code ⌝ }
     ensures { λ _. ⌜ now (sums .exit) ≡ missOf (listingOf false (now (text .entry))) .east ∷ missOf (listingOf false (now (text .entry))) .north ∷ [] ⌝ }
     ensures { λ _. ⌜ now (millimetres .exit) ≡ missOf (listingOf false (now (text .entry))) .easting ∷ missOf (listingOf false (now (text .entry))) .northing ∷ [] ⌝ }
     ensures { λ _. ⌜ now (line .exit) ≡ missOf (listingOf false (now (text .entry))) .line ⌝ }
@@ -28,7 +28,7 @@ pub extern "C" fn jabulghi_misclosure(
     *sums = [miss.east, miss.north];
     *millimetres = [miss.easting, miss.northing];
     *line = miss.line;
-    miss.number
+    miss.code
 }
 
 // The lowest and the highest sums of a listing of distances between two readings: east low, east high, north low, north high; at 2^30 and in whole
@@ -40,7 +40,7 @@ pub extern "C" fn jabulghi_intervals(
     millimetres: &mut [i64; 4],
     line: &mut u32,
 ) -> u32
-    ensures { λ r. ⌜ r ≡ intervalsOf (listingOf true (now (text .entry))) .number ⌝ }
+    ensures { λ r. ⌜ r ≡ intervalsOf (listingOf true (now (text .entry))) .code ⌝ }
     ensures { λ _. ⌜ now (sums .exit) ≡ fourOf (intervalsOf (listingOf true (now (text .entry))) .east) (intervalsOf (listingOf true (now (text .entry))) .north) ⌝ }
     ensures { λ _. ⌜ now (millimetres .exit) ≡ fourOf (intervalsOf (listingOf true (now (text .entry))) .easting) (intervalsOf (listingOf true (now (text .entry))) .northing) ⌝ }
     ensures { λ _. ⌜ now (line .exit) ≡ intervalsOf (listingOf true (now (text .entry))) .line ⌝ }
@@ -54,5 +54,5 @@ pub extern "C" fn jabulghi_intervals(
     *sums = [east.low, east.high, north.low, north.high];
     *millimetres = [easting.low, easting.high, northing.low, northing.high];
     *line = r.line;
-    r.number
+    r.code
 }

@@ -13,9 +13,9 @@ use Rattle.text.proofs.Writing.{place-fits, written-fits}
 use Rattle.job.specs.Limits.{mostBytes}
 use Rattle.job.specs.Job.{Outcome, refused, listed, onto, outcome, start, listingOf, jobOf, answerOf, bufferAfter, outputOf}
 use Rattle.job.specs.Job.{printed, settingAfter}
-use Rattle.forms.specs.Forms.{readLine}
+use Rattle.job_lines.specs.Forms.{readLine}
 use Rattle.job.specs.Refusals.{refusal}
-use Rattle.rows.specs.Listing.{header, endRow, refusedRow}
+use Rattle.listing_writer.specs.Listing.{header, endRow, refusedRow}
 use Rattle.job.specs.declared.state.Setting.{Setting}
 use Rattle.text.specs.Scan.{lines}
 use Rattle.job.specs.Private.{Wrote}
@@ -29,34 +29,34 @@ pub job-short : (text : List ℕ) → length text ≤ mostBytes → jobOf text �
 unfolding jobOf
 job-short text h = rw (le-ltb mostBytes (length text) h)
 
-abbrev number : JobAnswer → ℕ
-number r = r .number
+abbrev code : JobAnswer → ℕ
+code r = r .code
 
 abbrev size : JobAnswer → ℕ
 size r = r .length
 
 module _ (r : JobAnswer) (buf out : List ℕ) where
-  pub wrote-size : (o : Outcome) → Wrote o r buf → r .number ≡ 0 → r .length ≤ length buf
-  wrote-size (refused n k) w z = absurd (omega (arith, ap number (w .0), w .1))
+  pub wrote-size : (o : Outcome) → Wrote o r buf → r .code ≡ 0 → r .length ≤ length buf
+  wrote-size (refused n k) w z = absurd (omega (arith, ap code (w .0), w .1))
   wrote-size (listed bytes) w z = omega (arith, ap size (w .0), w .2)
 
-  pub answered-refused : (o : Outcome) → Wrote o r buf → (r .number ≡ 0 → ⊥) → (r ≡ answerOf o (length out)) ×
+  pub answered-refused : (o : Outcome) → Wrote o r buf → (r .code ≡ 0 → ⊥) → (r ≡ answerOf o (length out)) ×
       (out ≡ bufferAfter o out)
   unfolding answerOf bufferAfter
   answered-refused (refused n k) w z = (w .0, refl)
-  answered-refused (listed bytes) w z = absurd (z (ap number (w .0)))
+  answered-refused (listed bytes) w z = absurd (z (ap code (w .0)))
 
-  pub answered-long : (o : Outcome) → Wrote o r buf → r .number ≡ 0 → length out < r .length
-      → (record { number = 10; line = 0; length = 0 } ≡ answerOf o (length out)) × (out ≡ bufferAfter o out)
+  pub answered-long : (o : Outcome) → Wrote o r buf → r .code ≡ 0 → length out < r .length
+      → (record { code = 10; line = 0; length = 0 } ≡ answerOf o (length out)) × (out ≡ bufferAfter o out)
   unfolding answerOf bufferAfter
-  answered-long (refused n k) w z h = absurd (omega (arith, ap number (w .0), w .1))
+  answered-long (refused n k) w z h = absurd (omega (arith, ap code (w .0), w .1))
   answered-long (listed bytes) w z h =
       rw (lt-leb (length bytes) (length out) (omega (arith, ap size (w .0)))) (refl, refl)
 
-  pub answered-listed : (o : Outcome) → Wrote o r buf → r .number ≡ 0 → r .length ≤ length out → (out′ : List ℕ)
+  pub answered-listed : (o : Outcome) → Wrote o r buf → r .code ≡ 0 → r .length ≤ length out → (out′ : List ℕ)
       → out′ ≡ written out 0 (take (r .length - 0) (drop 0 buf)) → (r ≡ answerOf o (length out)) × (out′ ≡ bufferAfter o out)
   unfolding answerOf bufferAfter
-  answered-listed (refused n k) w z h out′ e = absurd (omega (arith, ap number (w .0), w .1))
+  answered-listed (refused n k) w z h out′ e = absurd (omega (arith, ap code (w .0), w .1))
   answered-listed (listed bytes) w z h out′ e =
       let n : r .length - 0 ≡ length bytes = omega (arith, ap size (w .0)) in
       let t : take (r .length - 0) (drop 0 buf) ≡ bytes = ap (λ (m : ℕ). take m buf) n ∙ w .1 in
@@ -70,8 +70,8 @@ answer-fits (refused n k) room = omega arith
 answer-fits (listed bytes) room = go (leb (length bytes) room) refl
   where
     go : (b : Bool) → leb (length bytes) room ≡ b
-        → cond {A = JobAnswer} b (record { number = 0; line = 0; length = length bytes })
-        (record { number = 10; line = 0; length = 0 }) .length ≤ room
+        → cond {A = JobAnswer} b (record { code = 0; line = 0; length = length bytes })
+        (record { code = 10; line = 0; length = 0 }) .length ≤ room
     go true e = leb-true (length bytes) room e
     go false e = omega arith
 
@@ -81,22 +81,22 @@ answer-within o room r e = omega (arith, ap size e, answer-fits o room)
 -- ---- What the listing program prints
 
 -- A refusal leaves the buffer and gives the one line of number and line;
-pub printed-refused : (o : Outcome) (out : List ℕ) → (answerOf o (length out) .number ≡ 0 → ⊥)
-    → (bufferAfter o out ≡ out) × (refusedRow (answerOf o (length out) .number) (answerOf o (length out) .line) ≡ outputOf o (length out))
+pub printed-refused : (o : Outcome) (out : List ℕ) → (answerOf o (length out) .code ≡ 0 → ⊥)
+    → (bufferAfter o out ≡ out) × (refusedRow (answerOf o (length out) .code) (answerOf o (length out) .line) ≡ outputOf o (length out))
 unfolding answerOf bufferAfter outputOf
 printed-refused (refused n k) out z = (refl, refl)
 printed-refused (listed bytes) out z = go (leb (length bytes) (length out)) refl
   where
     go : (b : Bool) → leb (length bytes) (length out) ≡ b
         → (bufferAfter (listed bytes) out ≡ out)
-        × (refusedRow (answerOf (listed bytes) (length out) .number) (answerOf (listed bytes) (length out) .line)
+        × (refusedRow (answerOf (listed bytes) (length out) .code) (answerOf (listed bytes) (length out) .line)
         ≡ outputOf (listed bytes) (length out))
     go true e = absurd (z (rw (answerOf, e)))
     go false e = rw (bufferAfter, answerOf, outputOf, e) (refl, refl)
 
 -- a refused job has a number
 abbrev pub Told : Outcome → Type 0
-Told (refused number line) = 0 < number
+Told (refused code line) = 0 < code
 Told (listed bytes) = Unit {0}
 
 pub onto-told : (bytes : List ℕ) (o : Outcome) → Told o → Told (onto bytes o)
@@ -129,7 +129,7 @@ job-told text = go (ltb mostBytes (length text))
     go false = onto-told header (outcome 1 start (lines text)) (outcome-told 1 start (lines text))
 
 -- and an answer of 0 has the listing in the buffer.
-pub printed-listed : (o : Outcome) (out : List ℕ) → Told o → answerOf o (length out) .number ≡ 0
+pub printed-listed : (o : Outcome) (out : List ℕ) → Told o → answerOf o (length out) .code ≡ 0
     → Puts out 0 (outputOf o (length out)) (answerOf o (length out) .length) (bufferAfter o out)
 unfolding answerOf bufferAfter outputOf
 printed-listed (refused n k) out told z = absurd (omega (arith, told, z))

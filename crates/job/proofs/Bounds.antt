@@ -15,17 +15,17 @@ use Rattle.sample.specs.Steps.{fractionBits}
 use Rattle.noise.specs.Noise.{pairOf}
 use Rattle.noise.specs.declared.PairAnswer.{PairAnswer}
 use Rattle.job.specs.Limits.{lastLine, mostSigma, mostDistance, mostBearing}
-use Rattle.forms.specs.Forms.{Form, seeds, sigma, shot, noForm, readLine}
-use Rattle.rows.specs.Rounding.{noiseSize, noisyDistance, noisyBearing}
-use Rattle.rows.specs.Listing.{shotRow, noisyRow}
+use Rattle.job_lines.specs.Forms.{Form, seeds, sigma, shot, noForm, readLine}
+use Rattle.listing_writer.specs.Rounding.{noiseSize, noisyDistance, noisyBearing}
+use Rattle.listing_writer.specs.Listing.{shotRow, noisyRow}
 use Rattle.text.specs.Limits.{nameLength}
 use Rattle.text.proofs.Decimal.{decimal-length}
 use Rattle.job.specs.Private.{Steady, rowLength, mostSize, mostNoise}
-use Rattle.job.specs.Refusals.{formless, misplaced, tooMany, beyond, seedNumber, refusal}
+use Rattle.job.specs.Refusals.{formless, misplaced, tooMany, beyond, seedCode, refusal}
 use Rattle.job.specs.Job.{settingAfter, printed}
 use Rattle.job.specs.declared.state.Setting.{Setting}
 use Rattle.job.proofs.Refused.{or-false}
-use Rattle.rows.proofs.Rows.{row-length}
+use Rattle.listing_writer.proofs.Rows.{row-length}
 use Rattle.job.proofs.Names.{names-short}
 
 -- the samples of a pair have 16 bits
@@ -62,14 +62,14 @@ pub record Accepted (k : ℕ) (x : Form) : Type 0 where
   pub placed : misplaced k x ≡ false
   pub few : tooMany k x ≡ false
   pub ranged : beyond x ≡ false
-  pub fit : seedNumber x ≡ 0
+  pub fit : seedCode x ≡ 0
 
 pub accepted-line : (k : ℕ) (x : Form) → refusal k x ≡ 0 → Accepted k x
 unfolding refusal
 accepted-line k x h = go (formless x) refl (misplaced k x) refl (tooMany k x) refl (beyond x) refl h
   where
     go : (a : Bool) → formless x ≡ a → (b : Bool) → misplaced k x ≡ b → (c : Bool) → tooMany k x ≡ c → (d : Bool) → beyond x
-        ≡ d → _≡_ {A = ℕ} (cond a 6 (cond b 8 (cond c 9 (cond d 7 (seedNumber x))))) 0 → Accepted k x
+        ≡ d → _≡_ {A = ℕ} (cond a 6 (cond b 8 (cond c 9 (cond d 7 (seedCode x))))) 0 → Accepted k x
     go true p b q c r d s h = absurd (omega (arith, h))
     go false p true q c r d s h = absurd (omega (arith, h))
     go false p false q true r d s h = absurd (omega (arith, h))

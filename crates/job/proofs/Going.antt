@@ -14,8 +14,8 @@ use Rattle.text.proofs.Decimal.{decimal-length}
 use Rattle.text.proofs.Split.{lines-from, end-within, part-line}
 use Rattle.text.proofs.Writing.{written-length, written-take, place-fits}
 use Rattle.job.specs.Limits.{listingRoom}
-use Rattle.forms.specs.Forms.{Form, readLine}
-use Rattle.rows.specs.Listing.{header, endRow}
+use Rattle.job_lines.specs.Forms.{Form, readLine}
+use Rattle.listing_writer.specs.Listing.{header, endRow}
 use Rattle.job.specs.Refusals.{refusal}
 use Rattle.job.specs.Job.{Outcome, refused, listed, onto, outcome, start, listingOf, settingAfter, printed}
 use Rattle.job.specs.Private.{taken, takenOf, bufferOf, Going, Ended, Wrote}
@@ -24,7 +24,7 @@ use Rattle.job.specs.declared.state.State.{State}
 use Rattle.job.specs.declared.state.Taken.{Taken}
 use Rattle.job.specs.declared.walk.Walked.{Walked}
 use Rattle.job.proofs.Bounds.{steps}
-use Rattle.rows.proofs.Rows.{header-length, end-length}
+use Rattle.listing_writer.proofs.Rows.{header-length, end-length}
 
 pub onto-onto : (a b : List ℕ) (o : Outcome) → onto a (onto b o) ≡ onto (a ++ b) o
 onto-onto a b (refused n k) = refl
@@ -54,7 +54,7 @@ module _ (text out : List ℕ) (s : State) (at : ℕ) (g : Going text out s at) 
 
     taken-yes : refusal (s .line) x ≡ 0
         → takenOf s x out ≡ record {
-          number = 0;
+          code = 0;
           next = record {
             line = s .line + 1;
             used = placeAfter out (s .used) (printed x (s .setting));
@@ -99,15 +99,15 @@ module _ (text out : List ℕ) (s : State) (at : ℕ) (g : Going text out s at) 
     complete e = ended ∙ rw (le-ltb (s .line) 3 e)
 
 -- the number that is returned is the line's
-taken-number : (s : State) (number used : ℕ) (after : Setting) → taken s number used after .number ≡ number
+taken-code : (s : State) (code used : ℕ) (after : Setting) → taken s code used after .code ≡ code
 unfolding taken
-taken-number s number used after = go (eqb number 0) refl
+taken-code s code used after = go (eqb code 0) refl
   where
-    go : (b : Bool) → eqb number 0 ≡ b
+    go : (b : Bool) → eqb code 0 ≡ b
         → _≡_ {A = ℕ} (cond {A = Taken} b
-        (record { number = 0; next = record { line = s .line + 1; used = used; setting = after } })
-        (record { number = number; next = s }) .number) number
-    go true e = sym (eqb-true number 0 e)
+        (record { code = 0; next = record { line = s .line + 1; used = used; setting = after } })
+        (record { code = code; next = s }) .code) code
+    go true e = sym (eqb-true code 0 e)
     go false e = refl
 
 -- one round of the loop, on the part of the text from a line's start to its end
@@ -118,22 +118,22 @@ module _ (text out : List ℕ) (s : State) (at end : ℕ) (r : Taken) (out′ : 
   whole-line : take (end - at) (drop at text) ≡ firstLine (drop at text)
   whole-line = rw e (part-line text at h)
 
-  number : r .number ≡ refusal (s .line) (readLine (firstLine (drop at text)))
+  code : r .code ≡ refusal (s .line) (readLine (firstLine (drop at text)))
   unfolding takenOf
-  number = ap (λ (t : Taken). t .number) er ∙ taken-number s _ _ _ ∙ ap (λ (l : List ℕ). refusal (s .line) (readLine l)) whole-line
+  code = ap (λ (t : Taken). t .code) er ∙ taken-code s _ _ _ ∙ ap (λ (l : List ℕ). refusal (s .line) (readLine l)) whole-line
 
-  pub line-on : r .number ≡ 0 → Going text out′ (r .next) end
-  line-on z = rw (er, eo, whole-line, e) (going-on text out s at g h (sym number ∙ z))
+  pub line-on : r .code ≡ 0 → Going text out′ (r .next) end
+  line-on z = rw (er, eo, whole-line, e) (going-on text out s at g h (sym code ∙ z))
 
-  pub line-off : (r .number ≡ 0 → ⊥) → Ended text out′ (record { number = r .number; state = s })
+  pub line-off : (r .code ≡ 0 → ⊥) → Ended text out′ (record { code = r .code; state = s })
   line-off z =
       record {
         yes = λ t. absurd (z t);
-        no = λ t. stopped text out s at g h (λ u. z (number ∙ u)) ∙ ap (λ (n : ℕ). refused n (s .line)) (sym number);
+        no = λ t. stopped text out s at g h (λ u. z (code ∙ u)) ∙ ap (λ (n : ℕ). refused n (s .line)) (sym code);
       }
 
 pub all-taken : (text out : List ℕ) (s : State) (at : ℕ) → Going text out s at → length text ≤ at → Ended text out
-    (record { number = 0; state = s })
+    (record { code = 0; state = s })
 all-taken text out s at g h =
     let e : at ≡ length text = omega (arith, g .place) in
     record { yes = λ t. subst (λ (n : ℕ). Going text out s n) e g; no = λ t. absurd (t refl) }
@@ -163,12 +163,12 @@ module _ (text out : List ℕ) (s : State) (g : Going text out s (length text)) 
       let d = decimal-length 2 (s .line - 3) (omega (arith, g .line)) in
       omega (arith, end-length (s .line - 3), g .used, g .line, g .room)
 
-  pub wrote-missing : s .line < 3 → Wrote (listingOf text) (record { number = 8; line = s .line; length = 0 }) out
+  pub wrote-missing : s .line < 3 → Wrote (listingOf text) (record { code = 8; line = s .line; length = 0 }) out
   wrote-missing h = rw (missing text out s (length text) g (omega arith) h) (refl, omega arith)
 
   pub wrote-listed : (out′ : List ℕ) (n : ℕ) → 3 ≤ s .line → n ≡ placeAfter out (s .used) (endRow (s .line - 3)) → out′ ≡ written out
       (s .used) (endRow (s .line - 3))
-      → Wrote (listingOf text) (record { number = 0; line = 0; length = n }) out′
+      → Wrote (listingOf text) (record { code = 0; line = 0; length = n }) out′
   wrote-listed out′ n h e f =
       let w = written-take out (s .used) (endRow (s .line - 3)) end-room in
       let t : length (take (s .used) out) ≡ s .used = length-take-le (s .used) out (omega (arith, end-room)) in
@@ -176,14 +176,14 @@ module _ (text out : List ℕ) (s : State) (g : Going text out s (length text)) 
       let k : n ≡ length (take (s .used) out ++ endRow (s .line - 3)) = omega
       (arith, m, t, length-append (take (s .used) out) (endRow (s .line - 3))) in
       rw (complete text out s (length text) g (omega arith) h) (
-        ap (λ (m : ℕ). record { number = 0; line = 0; length = m }) k,
+        ap (λ (m : ℕ). record { code = 0; line = 0; length = m }) k,
         rw (← k, m, f) w,
         rw (← k, m, f, written-length out (s .used) (endRow (s .line - 3))) end-room,
       )
 
-pub wrote-refused : (text out : List ℕ) (r : Walked) → Ended text out r → (r .number ≡ 0 → ⊥)
-    → Wrote (listingOf text) (record { number = r .number; line = r .state .line; length = 0 }) out
-wrote-refused text out r e h = rw (e .no h) (refl, positive (r .number) h)
+pub wrote-refused : (text out : List ℕ) (r : Walked) → Ended text out r → (r .code ≡ 0 → ⊥)
+    → Wrote (listingOf text) (record { code = r .code; line = r .state .line; length = 0 }) out
+wrote-refused text out r e h = rw (e .no h) (refl, positive (r .code) h)
   where
     positive : (n : ℕ) → (n ≡ 0 → ⊥) → 0 < n
     positive zero h = absurd (h refl)

@@ -14,7 +14,7 @@ use Rattle.text.specs.Forms.{isEmpty}
 use Rattle.text.specs.Theorems.{join}
 use Rattle.text.proofs.Split.{join-lines}
 use Rattle.text.proofs.Plain.{plains, no-plains, decimal-plain, name-plain, feedForm, line-printed as line-form}
-use Rattle.forms.specs.Forms.{
+use Rattle.job_lines.specs.Forms.{
   Form,
   seeds,
   sigma,
@@ -27,12 +27,12 @@ use Rattle.forms.specs.Forms.{
   printLine,
   Printable,
 }
-use Rattle.rows.specs.Listing.{header, endRow}
+use Rattle.listing_writer.specs.Listing.{header, endRow}
 use Rattle.job.specs.Refusals.{formless, refusal}
 use Rattle.job.specs.Job.{Outcome, refused, listed, onto, outcome, start, listingOf, settingAfter, printed}
 use Rattle.job.specs.Theorems.{textOf, rows, Accepts}
 use Rattle.job.specs.declared.state.Setting.{Setting}
-use Rattle.forms.proofs.RoundTrip.{all-marks, read-printed, printed-read}
+use Rattle.job_lines.proofs.RoundTrip.{all-marks, read-printed, printed-read}
 use Rattle.job.proofs.Going.{outcome-yes, outcome-no}
 
 all-feed : (feedForm seedsForm ≡ true) × (feedForm sigmaForm ≡ true) × (feedForm shotForm ≡ true)

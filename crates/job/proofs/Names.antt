@@ -9,13 +9,13 @@ use Rattle.text.specs.Limits.{nameLength}
 use Rattle.text.specs.Buffer.{written}
 use Rattle.text.proofs.Plain.{name-length}
 use Rattle.text.proofs.Writing.{written-none}
-use Rattle.forms.specs.Forms.{Form, shot, readLine, Printable}
+use Rattle.job_lines.specs.Forms.{Form, shot, readLine, Printable}
 use Rattle.job.specs.Refusals.{refusal}
 use Rattle.job.specs.Job.{printed, settingAfter}
 use Rattle.job.specs.Private.{taken, takenOf, bufferOf}
 use Rattle.job.specs.declared.state.State.{State}
 use Rattle.job.specs.declared.state.Taken.{Taken}
-use Rattle.forms.proofs.RoundTrip.{printed-read, shot-not-none}
+use Rattle.job_lines.proofs.RoundTrip.{printed-read, shot-not-none}
 
 -- a line that prints nothing leaves the buffer and the place in it as they were
 module _ (s : State) (x : Form) (out : List ℕ) (e : printed x (s .setting) ≡ []) where

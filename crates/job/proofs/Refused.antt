@@ -9,8 +9,8 @@ use borrow.Author.Tests.{lt-ltb, le-ltb, eq-eqb, ne-eqb, ltb-false}
 use Rattle.streams.specs.Streams.{seedOf}
 use Rattle.streams.proofs.Theorems.{record-cases}
 use Rattle.job.specs.Limits.{lastLine, mostSeed, mostSigma, mostDistance, mostBearing}
-use Rattle.forms.specs.Forms.{Form, seeds, sigma, shot, noForm}
-use Rattle.job.specs.Refusals.{formless, misplaced, tooMany, beyond, seedNumber, refusal}
+use Rattle.job_lines.specs.Forms.{Form, seeds, sigma, shot, noForm}
+use Rattle.job.specs.Refusals.{formless, misplaced, tooMany, beyond, seedCode, refusal}
 
 pub none-6 : (k : ℕ) → refusal k noForm ≡ 6
 unfolding refusal formless
@@ -60,9 +60,9 @@ module _ (a0 a1 a2 b0 b1 b2 : ℕ) where
     unfolding refusal formless misplaced tooMany
     seeds-7 h e = rw (eq-eqb k 1 h, e)
 
-    pub seeds-number : k ≡ 1 → beyond x ≡ false → refusal k x ≡ seedOf a0 a1 a2 b0 b1 b2 .number
-    unfolding refusal formless misplaced tooMany seedNumber
-    seeds-number h e = rw (eq-eqb k 1 h, e)
+    pub seeds-code : k ≡ 1 → beyond x ≡ false → refusal k x ≡ seedOf a0 a1 a2 b0 b1 b2 .code
+    unfolding refusal formless misplaced tooMany seedCode
+    seeds-code h e = rw (eq-eqb k 1 h, e)
 
 module _ (k d b : ℕ) where
   pub sigma-8 : (k ≡ 2 → ⊥) → refusal k (sigma d b) ≡ 8
@@ -74,7 +74,7 @@ module _ (k d b : ℕ) where
   sigma-7 h e = rw (eq-eqb k 2 h, e)
 
   pub sigma-0 : k ≡ 2 → d ≤ mostSigma → b ≤ mostSigma → refusal k (sigma d b) ≡ 0
-  unfolding refusal formless misplaced tooMany beyond seedNumber
+  unfolding refusal formless misplaced tooMany beyond seedCode
   sigma-0 h e f = rw (eq-eqb k 2 h, le-ltb mostSigma d e, le-ltb mostSigma b f)
 
   module _ (from to : List ℕ) where
@@ -91,12 +91,12 @@ module _ (k d b : ℕ) where
     shot-7 h e f = rw (le-ltb k 3 h, le-ltb lastLine k e, f)
 
     pub shot-0 : 3 ≤ k → k ≤ lastLine → d ≤ mostDistance → b ≤ mostBearing → refusal k (shot from to d b) ≡ 0
-    unfolding refusal formless misplaced tooMany beyond seedNumber
+    unfolding refusal formless misplaced tooMany beyond seedCode
     shot-0 h e f g = rw (le-ltb k 3 h, le-ltb lastLine k e, le-ltb mostDistance d f, le-ltb mostBearing b g)
 
 -- seeding does not answer with a job's own number for a listing that is too long
-pub seed-not-10 : (x : Form) → seedNumber x ≡ 10 → ⊥
-unfolding seedNumber seedOf
+pub seed-not-10 : (x : Form) → seedCode x ≡ 10 → ⊥
+unfolding seedCode seedOf
 seed-not-10 (seeds a0 a1 a2 b0 b1 b2) e =
     record-cases (λ (n : ℕ). n ≡ 10 → ⊥) _ (λ e. omega (arith, e)) (λ e. omega (arith, e)) (λ e. omega (arith, e)) e
 seed-not-10 (sigma d b) e = omega (arith, e)

@@ -11,14 +11,14 @@ use borrow.Author.Tests.{eqb-true, eqb-false, le-leb, ltb-false, not-false}
 use Rattle.text.specs.Scan.{lines}
 use Rattle.text.proofs.Decimal.{decimal-length}
 use Rattle.job.specs.Limits.{mostBytes, lastLine, listingRoom, longestListing}
-use Rattle.forms.specs.Forms.{Form, seeds, sigma, shot, noForm, readLine, printLine}
-use Rattle.rows.specs.Listing.{header, endRow}
-use Rattle.job.specs.Refusals.{formless, misplaced, tooMany, beyond, seedNumber, refusal}
+use Rattle.job_lines.specs.Forms.{Form, seeds, sigma, shot, noForm, readLine, printLine}
+use Rattle.listing_writer.specs.Listing.{header, endRow}
+use Rattle.job.specs.Refusals.{formless, misplaced, tooMany, beyond, seedCode, refusal}
 use Rattle.job.specs.Job.{Outcome, refused, listed, onto, outcome, start, listingOf, jobOf, answerOf, settingAfter, printed}
 use Rattle.job.specs.Theorems.{Theorems, Accepts, textOf, rows, isShot, shots}
 use Rattle.job.specs.Private.{Steady, rowLength}
 use Rattle.job.specs.declared.state.Setting.{Setting}
-use Rattle.rows.proofs.Rows.{header-length, end-length}
+use Rattle.listing_writer.proofs.Rows.{header-length, end-length}
 use Rattle.job.proofs.Refused.{seed-not-10}
 use Rattle.job.proofs.Bounds.{steps, accepted-line}
 use Rattle.job.proofs.Going.{outcome-yes, outcome-no}
@@ -105,7 +105,7 @@ refusal-not-10 : (k : ℕ) (x : Form) → refusal k x ≡ 10 → ⊥
 unfolding refusal
 refusal-not-10 k x = go (formless x) (misplaced k x) (tooMany k x) (beyond x)
   where
-    go : (a b c d : Bool) → _≡_ {A = ℕ} (cond a 6 (cond b 8 (cond c 9 (cond d 7 (seedNumber x))))) 10 → ⊥
+    go : (a b c d : Bool) → _≡_ {A = ℕ} (cond a 6 (cond b 8 (cond c 9 (cond d 7 (seedCode x))))) 10 → ⊥
     go true b c d e = omega (arith, e)
     go false true c d e = omega (arith, e)
     go false false true d e = omega (arith, e)
@@ -143,11 +143,11 @@ job-not-10 text = go (ltb mostBytes (length text))
     go true = λ e. omega (arith, e)
     go false = not-10-onto header (outcome 1 start (lines text)) (outcome-not-10 (lines text) 1 start)
 
-never-too-long : (text : List ℕ) → answerOf (jobOf text) listingRoom .number ≡ 10 → ⊥
+never-too-long : (text : List ℕ) → answerOf (jobOf text) listingRoom .code ≡ 10 → ⊥
 unfolding answerOf
 never-too-long text e = go (jobOf text) refl (job-not-10 text) e
   where
-    go : (o : Outcome) → jobOf text ≡ o → Not10 o → answerOf o listingRoom .number ≡ 10 → ⊥
+    go : (o : Outcome) → jobOf text ≡ o → Not10 o → answerOf o listingRoom .code ≡ 10 → ⊥
     go (refused n k) p h e = h e
     go (listed bytes) p h e = let t = rw (le-leb (length bytes) listingRoom (fits text bytes p)) at e in omega (arith, t)
 

@@ -9,8 +9,8 @@ use Rattle.sample.specs.Steps.{fractionBits}
 use Rattle.noise.specs.Noise.{pairOf}
 use Rattle.text.specs.Scan.{lines}
 use Rattle.job.specs.Limits.{mostBytes}
-use Rattle.forms.specs.Forms.{Form, seeds, sigma, shot, noForm, readLine}
-use Rattle.rows.specs.Listing.{header, endRow, refusedRow, noisyRow}
+use Rattle.job_lines.specs.Forms.{Form, seeds, sigma, shot, noForm, readLine}
+use Rattle.listing_writer.specs.Listing.{header, endRow, refusedRow, noisyRow}
 use Rattle.job.specs.Refusals.{refusal}
 use Rattle.job.specs.declared.state.Setting.{Setting}
 use Rattle.job.specs.declared.JobAnswer.{JobAnswer}
@@ -38,7 +38,7 @@ pub data Outcome : Type 0 where
   listed : List ℕ → Outcome
 
 abbrev pub onto : List ℕ → Outcome → Outcome
-onto bytes (refused number line) = refused number line
+onto bytes (refused code line) = refused code line
 onto bytes (listed rest) = listed (bytes ++ rest)
 
 -- The lines from line k on. At the end the text lacks line 1 or 2 (8), or the count of shots follows: all lines but those two
@@ -63,18 +63,18 @@ jobOf text = cond (ltb mostBytes (length text)) (refused 5 0) (listingOf text)
 
 -- The call's answer with a buffer of a given length: "listing longer than the buffer lent" last
 unfoldable pub answerOf : Outcome → ℕ → JobAnswer
-answerOf (refused number line) room = record { number = number; line = line; length = 0 }
+answerOf (refused code line) room = record { code = code; line = line; length = 0 }
 answerOf (listed bytes) room =
     cond (leb (length bytes) room)
-    (record { number = 0; line = 0; length = length bytes })
-    (record { number = 10; line = 0; length = 0 })
+    (record { code = 0; line = 0; length = length bytes })
+    (record { code = 10; line = 0; length = 0 })
 
 -- What the buffer then holds: "bytes beyond the listing's length keep their contents"; refused, what it held
 unfoldable pub bufferAfter : Outcome → List ℕ → List ℕ
-bufferAfter (refused number line) out = out
+bufferAfter (refused code line) out = out
 bufferAfter (listed bytes) out = cond (leb (length bytes) (length out)) (bytes ++ drop (length bytes) out) out
 
 -- What the listing program prints by way of a buffer of a given length: the listing, or its one line where the job is refused
 unfoldable pub outputOf : Outcome → ℕ → List ℕ
-outputOf (refused number line) room = refusedRow number line
+outputOf (refused code line) room = refusedRow code line
 outputOf (listed bytes) room = cond (leb (length bytes) room) bytes (refusedRow 10 0)

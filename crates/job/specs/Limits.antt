@@ -1,6 +1,6 @@
 -- The limits of a job (document 01, "A job and its listing"); src/limits.rt has the same.
 use Prim.Native.Nat.{ℕ, _+_, _-_, _*_}
-use Rattle.rows.specs.Rounding.{turnSteps}
+use Rattle.listing_writer.specs.Rounding.{turnSteps}
 
 -- "A job is text of at most" so many bytes
 abbrev pub mostBytes : ℕ

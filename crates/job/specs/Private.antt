@@ -10,10 +10,10 @@ use Rattle.text.specs.Fields.{partOf}
 use Rattle.text.specs.Scan.{lines}
 use Rattle.text.specs.Buffer.{written, placeAfter}
 use Rattle.job.specs.Limits.{lastLine, listingRoom, mostSigma, mostDistance, mostBearing}
-use Rattle.forms.specs.Forms.{Form}
-use Rattle.forms.specs.declared.Shot.{Shot as ShotFields}
+use Rattle.job_lines.specs.Forms.{Form}
+use Rattle.job_lines.specs.declared.Shot.{Shot as ShotFields}
 use Rattle.job.specs.Refusals.{refusal}
-use Rattle.rows.specs.Listing.{noisyRow}
+use Rattle.listing_writer.specs.Listing.{noisyRow}
 use Rattle.job.specs.Job.{Outcome, refused, listed, onto, outcome, listingOf, printed, settingAfter}
 use Rattle.job.specs.declared.shot.Noise.{Noise}
 use Rattle.job.specs.declared.state.Setting.{Setting}
@@ -48,10 +48,10 @@ rowOf line x n = noisyRow (n .distance) (n .bearing) (partOf line (x .from)) (pa
 
 -- accepted, the next line with its setting and the listing's length; refused, the state as it was
 unfoldable pub taken : State → ℕ → ℕ → Setting → Taken
-taken s number used setting =
-    cond (eqb number 0)
-    (record { number = 0; next = record { line = s .line + 1; used = used; setting = setting } })
-    (record { number = number; next = s })
+taken s code used setting =
+    cond (eqb code 0)
+    (record { code = 0; next = record { line = s .line + 1; used = used; setting = setting } })
+    (record { code = code; next = s })
 
 -- a line that says x: the state after it, and the buffer with what it prints
 unfoldable pub takenOf : State → Form → List ℕ → Taken
@@ -78,11 +78,11 @@ pub record Going (text out : List ℕ) (s : State) (at : ℕ) : Type 0 where
 
 -- all lines are accepted, or the first that is not gives number and line
 pub record Ended (text out : List ℕ) (r : Walked) : Type 0 where
-  pub yes : r .number ≡ 0 → Going text out (r .state) (length text)
-  pub no : (r .number ≡ 0 → ⊥) → listingOf text ≡ refused (r .number) (r .state .line)
+  pub yes : r .code ≡ 0 → Going text out (r .state) (length text)
+  pub no : (r .code ≡ 0 → ⊥) → listingOf text ≡ refused (r .code) (r .state .line)
 
 -- the refusal, or the listing at the start of the buffer
 abbrev pub Wrote : Outcome → JobAnswer → List ℕ → Type 0
-Wrote (refused number line) r out = (r ≡ record { number = number; line = line; length = 0 }) × (0 < number)
+Wrote (refused code line) r out = (r ≡ record { code = code; line = line; length = 0 }) × (0 < code)
 Wrote (listed bytes) r out =
-    (r ≡ record { number = 0; line = 0; length = length bytes }) × (take (length bytes) out ≡ bytes) × (length bytes ≤ length out)
+    (r ≡ record { code = 0; line = 0; length = length bytes }) × (take (length bytes) out ≡ bytes) × (length bytes ≤ length out)

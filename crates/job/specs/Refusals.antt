@@ -5,7 +5,7 @@ use mathlib.Core.Bool.{Bool, true, false, cond, not, _||_}
 use lib.Dec.{ltb, eqb}
 use Rattle.streams.specs.Streams.{seedOf}
 use Rattle.job.specs.Limits.{lastLine, mostSeed, mostSigma, mostDistance, mostBearing}
-use Rattle.forms.specs.Forms.{Form, seeds, sigma, shot, noForm}
+use Rattle.job_lines.specs.Forms.{Form, seeds, sigma, shot, noForm}
 
 -- "line is none of the three forms, or lacks its line feed"
 unfoldable pub formless : Form → Bool
@@ -37,12 +37,12 @@ beyond (shot from to d b) = ltb mostDistance d || ltb mostBearing b
 beyond noForm = false
 
 -- "a register below its minimum in either stream": the number that seeding answers
-unfoldable pub seedNumber : Form → ℕ
-seedNumber (seeds a0 a1 a2 b0 b1 b2) = seedOf a0 a1 a2 b0 b1 b2 .number
-seedNumber (sigma d b) = 0
-seedNumber (shot from to d b) = 0
-seedNumber noForm = 0
+unfoldable pub seedCode : Form → ℕ
+seedCode (seeds a0 a1 a2 b0 b1 b2) = seedOf a0 a1 a2 b0 b1 b2 .code
+seedCode (sigma d b) = 0
+seedCode (shot from to d b) = 0
+seedCode noForm = 0
 
 -- the number of line k that says x: its first cause in the order 6, 8, 9, 7 and seeding's, or 0 where it is accepted
 unfoldable pub refusal : ℕ → Form → ℕ
-refusal k x = cond (formless x) 6 (cond (misplaced k x) 8 (cond (tooMany k x) 9 (cond (beyond x) 7 (seedNumber x))))
+refusal k x = cond (formless x) 6 (cond (misplaced k x) 8 (cond (tooMany k x) 9 (cond (beyond x) 7 (seedCode x))))

@@ -5,8 +5,8 @@ use mathlib.Core.List.{List, [], _∷_, _++_, map}
 use lib.ListN.{length}
 use Rattle.text.specs.Scan.{lines}
 use Rattle.job.specs.Limits.{mostBytes, listingRoom, longestListing}
-use Rattle.forms.specs.Forms.{Form, seeds, sigma, shot, noForm, readLine, printLine, Printable}
-use Rattle.rows.specs.Listing.{header, endRow}
+use Rattle.job_lines.specs.Forms.{Form, seeds, sigma, shot, noForm, readLine, printLine, Printable}
+use Rattle.listing_writer.specs.Listing.{header, endRow}
 use Rattle.job.specs.Refusals.{refusal}
 use Rattle.job.specs.Job.{refused, listed, start, jobOf, answerOf, printed, settingAfter}
 use Rattle.job.specs.declared.state.Setting.{Setting}
@@ -55,4 +55,4 @@ pub record Theorems : Type 0 where
   pub longest : (text bytes : List ℕ) → jobOf text ≡ listed bytes → length bytes ≤ longestListing
   -- a listing fits the listing program's buffer, so that it never prints 10
   pub fits : (text bytes : List ℕ) → jobOf text ≡ listed bytes → length bytes ≤ listingRoom
-  pub never-too-long : (text : List ℕ) → answerOf (jobOf text) listingRoom .number ≡ 10 → ⊥
+  pub never-too-long : (text : List ℕ) → answerOf (jobOf text) listingRoom .code ≡ 10 → ⊥

@@ -7,7 +7,7 @@ mod walk;
 use crate::limits::LISTING_ROOM;
 use crate::limits::MOST_BYTES;
 use crate::walk::write_listing;
-use rows::put_refused;
+use listing_writer::put_refused;
 use text::buffer::put;
 ghost use Prim.Native.Nat.{_≤_};
 ghost use mathlib.Core.Path.{_≡_};
@@ -17,7 +17,7 @@ ghost use Rattle.job.specs.Job.{jobOf, answerOf, bufferAfter, outputOf};
 
 // The number, 0 where the job is accepted; the line, 0 where no line is at fault; and the listing's length.
 pub struct JobAnswer {
-    pub number: u32,
+    pub code: u32,
     pub line: u32,
     pub length: usize,
 }
@@ -31,20 +31,20 @@ pub fn list(text: &[u8], out: &mut [u8]) -> JobAnswer
 {
     if MOST_BYTES < text.len() {
         return JobAnswer {
-            number: 5,
+            code: 5,
             line: 0,
             length: 0,
         };
     }
     let mut listing = [0u8; LISTING_ROOM];
     let answer = write_listing(text, &mut listing);
-    if answer.number != 0 {
+    if answer.code != 0 {
         return answer;
     }
     let n = answer.length;
     if out.len() < n {
         return JobAnswer {
-            number: 10,
+            code: 10,
             line: 0,
             length: 0,
         };
@@ -59,8 +59,8 @@ pub fn print_job(text: &[u8], out: &mut [u8]) -> usize
     ensures { λ r. ⌜ r ≤ length (now (out .exit)) ⌝ }
 {
     let answer = list(text, out);
-    if answer.number == 0 {
+    if answer.code == 0 {
         return answer.length;
     }
-    put_refused(out, answer.number, answer.line as u64)
+    put_refused(out, answer.code, answer.line as u64)
 }

@@ -1,6 +1,6 @@
 // The limits of a job (document 01, "A job and its listing"); specs/Limits.antt has the same.
 
-use rows::TURN_STEPS;
+use listing_writer::TURN_STEPS;
 
 // The bytes of a job.
 pub const MOST_BYTES: usize = 60000;

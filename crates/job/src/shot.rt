@@ -1,8 +1,8 @@
 // The row of a shot with its noise.
-use forms::Shot;
-use rows::noisy_bearing;
-use rows::noisy_distance;
-use rows::put_shot;
+use job_lines::Shot;
+use listing_writer::noisy_bearing;
+use listing_writer::noisy_distance;
+use listing_writer::put_shot;
 use text::field::part;
 ghost use Rattle.text.specs.Buffer.{Puts};
 ghost use Rattle.job.specs.Private.{Steady, Ranged, rowOf};

@@ -6,11 +6,11 @@ use crate::limits::MOST_SEED;
 use crate::limits::MOST_SIGMA;
 use crate::shot::Noise;
 use crate::shot::print_shot;
-use forms::Line;
-use forms::Seeds;
-use forms::Shot;
-use forms::Sigma;
-use forms::read_line;
+use job_lines::Line;
+use job_lines::Seeds;
+use job_lines::Shot;
+use job_lines::Sigma;
+use job_lines::read_line;
 use streams::Generator;
 use streams::RecordAnswer;
 ghost use Prim.Native.Nat.{_≤_};
@@ -20,11 +20,11 @@ ghost use lib.Dec.{ltb};
 ghost use Rattle.streams.specs.Streams.{seedOf};
 ghost use Rattle.text.specs.Buffer.{written, placeAfter};
 ghost use Rattle.job.specs.Limits.{lastLine, mostSeed};
-ghost use Rattle.forms.specs.Forms.{readLine};
+ghost use Rattle.job_lines.specs.Forms.{readLine};
 ghost use Rattle.job.specs.Refusals.{beyond, refusal};
 ghost use Rattle.job.specs.Job.{printed, settingAfter};
 ghost use Rattle.job.specs.Private.{taken, takenOf, bufferOf, Steady, Ranged};
-ghost use Rattle.forms.specs.Forms.{seedsIn, sigmaIn, shotIn};
+ghost use Rattle.job_lines.specs.Forms.{seedsIn, sigmaIn, shotIn};
 
 // What the shots to come are printed with: the generator record and the sigmas.
 pub struct Setting {
@@ -42,7 +42,7 @@ pub struct State {
 
 // The number of a line, 0 where it is accepted, and the state after it.
 pub struct Taken {
-    pub number: u32,
+    pub code: u32,
     pub next: State,
 }
 
@@ -86,15 +86,15 @@ fn on_seeds(x: Seeds, s: State) -> Taken
     ensures { λ r. ⌜ r ≡ taken s (refusal (s .line) (seedsIn x)) (s .used) (settingAfter (seedsIn x) (s .setting)) ⌝ }
 {
     if s.line != 1 {
-        return Taken { number: 8, next: s };
+        return Taken { code: 8, next: s };
     }
     if seeds_beyond(x) {
-        return Taken { number: 7, next: s };
+        return Taken { code: 7, next: s };
     }
     let answer = seeded(x);
-    let number = answer.number;
-    if number != 0 {
-        return Taken { number, next: s };
+    let code = answer.code;
+    if code != 0 {
+        return Taken { code, next: s };
     }
     let generator = answer.next;
     let old = s.setting;
@@ -108,20 +108,20 @@ fn on_seeds(x: Seeds, s: State) -> Taken
         used: s.used,
         setting,
     };
-    Taken { number: 0, next }
+    Taken { code: 0, next }
 }
 
 fn on_sigma(x: Sigma, s: State) -> Taken
     ensures { λ r. ⌜ r ≡ taken s (refusal (s .line) (sigmaIn x)) (s .used) (settingAfter (sigmaIn x) (s .setting)) ⌝ }
 {
     if s.line != 2 {
-        return Taken { number: 8, next: s };
+        return Taken { code: 8, next: s };
     }
     if MOST_SIGMA < x.distance {
-        return Taken { number: 7, next: s };
+        return Taken { code: 7, next: s };
     }
     if MOST_SIGMA < x.bearing {
-        return Taken { number: 7, next: s };
+        return Taken { code: 7, next: s };
     }
     let old = s.setting;
     let generator = old.generator;
@@ -135,7 +135,7 @@ fn on_sigma(x: Sigma, s: State) -> Taken
         used: s.used,
         setting,
     };
-    Taken { number: 0, next }
+    Taken { code: 0, next }
 }
 
 // A shot in its place and within its ranges: its row is printed, and one pair is drawn.
@@ -167,7 +167,7 @@ fn listed_shot(line: &[u8], x: Shot, s: State, out: &mut [u8]) -> Taken
         used,
         setting,
     };
-    Taken { number: 0, next }
+    Taken { code: 0, next }
 }
 
 fn on_shot(line: &[u8], x: Shot, s: State, out: &mut [u8]) -> Taken
@@ -176,16 +176,16 @@ fn on_shot(line: &[u8], x: Shot, s: State, out: &mut [u8]) -> Taken
         × (now (out .exit) ≡ bufferOf s (shotIn (now (line .entry)) x) (now (out .entry))) ⌝ }
 {
     if s.line < 3 {
-        return Taken { number: 8, next: s };
+        return Taken { code: 8, next: s };
     }
     if LAST_LINE < s.line {
-        return Taken { number: 9, next: s };
+        return Taken { code: 9, next: s };
     }
     if MOST_DISTANCE < x.distance {
-        return Taken { number: 7, next: s };
+        return Taken { code: 7, next: s };
     }
     if MOST_BEARING < x.bearing {
-        return Taken { number: 7, next: s };
+        return Taken { code: 7, next: s };
     }
     listed_shot(line, x, s, out)
 }
@@ -201,6 +201,6 @@ pub fn take_line(line: &[u8], s: State, out: &mut [u8]) -> Taken
         Line::Seeds(x) => on_seeds(x, s),
         Line::Sigma(x) => on_sigma(x, s),
         Line::Shot(x) => on_shot(line, x, s, out),
-        Line::NoForm => Taken { number: 6, next: s },
+        Line::NoForm => Taken { code: 6, next: s },
     }
 }

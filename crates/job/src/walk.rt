@@ -3,8 +3,8 @@ use crate::JobAnswer;
 use crate::state::Setting;
 use crate::state::State;
 use crate::state::take_line;
-use rows::put_end;
-use rows::put_header;
+use listing_writer::put_end;
+use listing_writer::put_header;
 use streams::Generator;
 use text::line::line_end;
 ghost use mathlib.Core.Path.{_≡_};
@@ -15,7 +15,7 @@ ghost use Rattle.job.specs.Private.{Going, Ended, Wrote};
 
 // The number of the first line that is refused and the state before it; or 0 and the state after the last line.
 pub struct Walked {
-    pub number: u32,
+    pub code: u32,
     pub state: State,
 }
 
@@ -46,17 +46,14 @@ fn walk(text: &[u8], out: &mut [u8], first: State) -> Walked
     while at < text.len() {
         let end = line_end(text, at);
         let t = take_line(&text[at..end], s, out);
-        let number = t.number;
-        if number != 0 {
-            return Walked { number, state: s };
+        let code = t.code;
+        if code != 0 {
+            return Walked { code, state: s };
         }
         s = t.next;
         at = end;
     }
-    Walked {
-        number: 0,
-        state: s,
-    }
+    Walked { code: 0, state: s }
 }
 
 // The listing, or the refusal of a line.
@@ -67,26 +64,26 @@ pub fn write_listing(text: &[u8], out: &mut [u8]) -> JobAnswer
     let used = put_header(out);
     let first = first_state(used);
     let walked = walk(text, out, first);
-    let number = walked.number;
+    let code = walked.code;
     let s = walked.state;
     let line = s.line;
-    if number != 0 {
+    if code != 0 {
         return JobAnswer {
-            number,
+            code,
             line,
             length: 0,
         };
     }
     if line < 3 {
         return JobAnswer {
-            number: 8,
+            code: 8,
             line,
             length: 0,
         };
     }
     let length = put_end(out, s.used, line - 3);
     JobAnswer {
-        number: 0,
+        code: 0,
         line: 0,
         length,
     }

@@ -1,7 +1,7 @@
 -- Two streams side by side: each register of a in the upper half of a number of 64 bits, and that of b in the lower.
 use mathlib.Core.List.{List, [], _∷_}
 use Prim.Native.Nat.{ℕ, zero, suc, _+_, _*_, _/_, _%_, _^_}
-use Rattle.squares.specs.Squares.{repeat}
+use Rattle.bit_matrix.specs.Squares.{repeat}
 use Rattle.streams.specs.declared.Stream.{Stream}
 use Rattle.streams.specs.Streams.{advance, output}
 use Rattle.lanes.specs.declared.Lanes.{Lanes}

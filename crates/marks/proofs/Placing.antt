@@ -12,16 +12,16 @@ use Rattle.streams.specs.Streams.{firstCause}
 use Rattle.streams.proofs.Causes.{none-applies}
 use Rattle.marks.specs.declared.Label.{Label}
 use Rattle.marks.specs.declared.Placed.{Placed}
-use Rattle.marks.specs.Marks.{places, placeOf, savePlace, idleNumber, nameNumber, placeNumber, placeToSave, placeToReturn, placeToDrop}
+use Rattle.marks.specs.Marks.{places, placeOf, savePlace, idleCode, nameCode, placeCode, placeToSave, placeToReturn, placeToDrop}
 
-pub inside : (place number : ℕ) → 0 < number → placeNumber place number ≡ 0 → place < places
-unfolding placeNumber
-inside place number some h = by-test (ltb place places) refl
+pub inside : (place code : ℕ) → 0 < code → placeCode place code ≡ 0 → place < places
+unfolding placeCode
+inside place code some h = by-test (ltb place places) refl
   where
     by-test : (t : Bool) → ltb place places ≡ t → place < places
     by-test true e = ltb-true _ _ e
     by-test false e =
-        let none : number ≡ 0 = rw (placeNumber, e) at h in
+        let none : code ≡ 0 = rw (placeCode, e) at h in
         absurd (omega (arith, none))
 
 -- no cause of an accepted call applies
@@ -31,25 +31,25 @@ each-none (cause ∷ causes) h zero = none-applies cause causes h .0
 each-none (cause ∷ causes) h (suc i) = each-none causes (none-applies cause causes h .1) i
 
 abbrev pub Inside : Placed → Type 0
-Inside placed = placed .number ≡ 0 → placed .place < places
+Inside placed = placed .code ≡ 0 → placed .place < places
 
 pub save-inside : (labels : List Label) (g : Generator) (bytes : List ℕ) → Inside (placeToSave labels g bytes)
 unfolding placeToSave
 save-inside labels g bytes h =
     let place = savePlace labels bytes in
-    inside place 20 (omega arith) (each-none (idleNumber g ∷ nameNumber bytes ∷ placeNumber place 20 ∷ []) h 2)
+    inside place 20 (omega arith) (each-none (idleCode g ∷ nameCode bytes ∷ placeCode place 20 ∷ []) h 2)
 
 pub return-inside : (labels : List Label) (g : Generator) (bytes : List ℕ) → Inside (placeToReturn labels g bytes)
 unfolding placeToReturn
 return-inside labels g bytes h =
     let place = placeOf labels bytes in
-    inside place 19 (omega arith) (each-none (idleNumber g ∷ nameNumber bytes ∷ placeNumber place 19 ∷ []) h 2)
+    inside place 19 (omega arith) (each-none (idleCode g ∷ nameCode bytes ∷ placeCode place 19 ∷ []) h 2)
 
 pub drop-inside : (labels : List Label) (bytes : List ℕ) → Inside (placeToDrop labels bytes)
 unfolding placeToDrop
 drop-inside labels bytes h =
     let place = placeOf labels bytes in
-    inside place 19 (omega arith) (each-none (nameNumber bytes ∷ placeNumber place 19 ∷ []) h 1)
+    inside place 19 (omega arith) (each-none (nameCode bytes ∷ placeCode place 19 ∷ []) h 1)
 
 -- so is that of what equals it
 pub both : {r placed : Placed} → Inside placed → r ≡ placed → (r ≡ placed) × Inside r

@@ -12,18 +12,18 @@ use borrow.Author.Tests.{eqb-true, eqb-false, ne-eqb}
 use Rattle.streams.specs.declared.Stream.{Stream}
 use Rattle.streams.specs.declared.Generator.{Generator}
 use Rattle.streams.specs.declared.RecordAnswer.{RecordAnswer}
-use Rattle.streams.specs.Streams.{Call, recordNumber, openNumber, noteNumber, ownNumber, roomNumber, firstCause, ifAccepted}
+use Rattle.streams.specs.Streams.{Call, recordCode, openCode, noteCode, ownCode, roomCode, firstCause, ifAccepted}
 use Rattle.streams.specs.Recurrence.{InRange, Sound, seedFrom}
 use Rattle.streams.proofs.Theorems.{sound, sound-accepted, seeded-range, fit-call}
 use Rattle.streams.proofs.Causes.{lone-cause}
 use Rattle.noise.specs.Noise.{blockHolds}
 use Rattle.noise.specs.Runs.{returned, handed, sumOver}
 use Rattle.noise.specs.Runs.{run as run-on-record}
-use Rattle.noise.proofs.Runs.{returned-number, next-is, call-sound, unfit-call, run-count}
+use Rattle.noise.proofs.Runs.{returned-code, next-is, call-sound, unfit-call, run-count}
 use Rattle.marks.specs.declared.Label.{Label}
 use Rattle.marks.specs.declared.Marks.{Marks}
-use Rattle.marks.specs.Marks.{places, hasName, labelOf, noLabel, noRecord, empty, placeOf, savePlace, idleNumber, nameNumber, placeNumber, placeToSave, placeToReturn, placeToDrop, stored, savedOf, returnedOf, droppedOf, Sized}
-use Rattle.marks.specs.Runs.{State, MarkCall, numberIn, nextIn, run, Tally, tallied, tally, Untouched}
+use Rattle.marks.specs.Marks.{places, hasName, labelOf, noLabel, noRecord, empty, placeOf, savePlace, idleCode, nameCode, placeCode, placeToSave, placeToReturn, placeToDrop, stored, savedOf, returnedOf, droppedOf, Sized}
+use Rattle.marks.specs.Runs.{State, MarkCall, codeIn, nextIn, run, Tally, tallied, tally, Untouched}
 use Rattle.marks.specs.Runs.MarkCall.{on-record, a-save, a-return, a-drop}
 use Rattle.marks.proofs.Placing.{each-none}
 use Rattle.marks.proofs.Names.{has}
@@ -59,25 +59,25 @@ untouched (a-drop y ∷ l) s x h sized (other, u) =
 
 -- Save, then any run that does not touch that mark, then return: refused for the record passed in alone; accepted, the record is the one
 -- that was saved,
-pub comes-back : (s : State) (x : List ℕ) (l : List MarkCall) → Sized (s .marks) → numberIn (a-save x) s ≡ 0 → Untouched x l
+pub comes-back : (s : State) (x : List ℕ) (l : List MarkCall) → Sized (s .marks) → codeIn (a-save x) s ≡ 0 → Untouched x l
     → (h : Generator) → returnedOf (run l (nextIn (a-save x) s) .marks) h x
-    ≡ record { number = idleNumber h; next = ifAccepted (idleNumber h) (s .generator) h }
-unfolding numberIn nextIn
+    ≡ record { code = idleCode h; next = ifAccepted (idleCode h) (s .generator) h }
+unfolding codeIn nextIn
 comes-back s x l sized e u h =
     untouched l (nextIn (a-save x) s) x h (save-sized (s .marks) sized (s .generator) x) u
     ∙ save-return (s .marks) sized (s .generator) x h e
 
 -- so that every block from there, of either width, holds the samples that followed the save.
-pub as-before : (s : State) (x : List ℕ) (l : List MarkCall) → Sized (s .marks) → numberIn (a-save x) s ≡ 0 → Untouched x l
+pub as-before : (s : State) (x : List ℕ) (l : List MarkCall) → Sized (s .marks) → codeIn (a-save x) s ≡ 0 → Untouched x l
     → let later : State = run l (nextIn (a-save x) s) in
-    numberIn (a-return x) later ≡ 0
+    codeIn (a-return x) later ≡ 0
     → (nextIn (a-return x) later .generator ≡ s .generator)
     × ((f : ℕ) (old : List ℤ) → blockHolds f (nextIn (a-return x) later .generator) old ≡ blockHolds f (s .generator) old)
-unfolding numberIn nextIn
+unfolding codeIn nextIn
 as-before s x l sized e u k =
     let later = run l (nextIn (a-save x) s) in
     let answer = comes-back s x l sized e u (later .generator) in
-    let fits : idleNumber (later .generator) ≡ 0 = sym (ap (λ (r : RecordAnswer). r .number) answer) ∙ k in
+    let fits : idleCode (later .generator) ≡ 0 = sym (ap (λ (r : RecordAnswer). r .code) answer) ∙ k in
     let is : returnedOf (later .marks) (later .generator) x .next ≡ s .generator
     = ap (λ (r : RecordAnswer). r .next) answer ∙ rw fits in
     (is, λ f old. ap (λ (g : Generator). blockHolds f g old) is)
@@ -104,7 +104,7 @@ put-both P (x ∷ l) (y ∷ r) (suc p) m g e new old (suc i) = put-both P l r p 
 
 module _ (Now Saved : Generator → Type 0)
     (goes-on : (c : Call) (g : Generator) → Now g → Now (returned c g .next))
-    (is-saved : (g : Generator) → idleNumber g ≡ 0 → Now g → Saved g)
+    (is-saved : (g : Generator) → idleCode g ≡ 0 → Now g → Saved g)
     (comes : (g : Generator) → Saved g → Now g) where
   abbrev Under : Label → Generator → Type 0
   Under label g = label .used ≡ true → Saved g
@@ -161,14 +161,14 @@ pub record Ranged (g : Generator) : Type 0 where
   pub range-b : InRange (g .b)
 
 call-ranged : (c : Call) (g : Generator) → Ranged g → Ranged (returned c g .next)
-call-ranged c g h = by-test (eqb (recordNumber g) 0) refl
+call-ranged c g h = by-test (eqb (recordCode g) 0) refl
   where
-    by-test : (t : Bool) → eqb (recordNumber g) 0 ≡ t → Ranged (returned c g .next)
+    by-test : (t : Bool) → eqb (recordCode g) 0 ≡ t → Ranged (returned c g .next)
     by-test true e =
         let fits = call-sound c g (sound g (h .range-a) (h .range-b) (eqb-true _ _ e)) in
         record { range-a = fits .range-a; range-b = fits .range-b }
     by-test false e =
-        let unfit = eqb-false (recordNumber g) 0 e in
+        let unfit = eqb-false (recordCode g) 0 e in
         rw (next-is c g, unfit-call c g unfit, ne-eqb _ _ unfit) h
 
 call-count : (c : Call) (g : Generator) → Ranged g → returned c g .next .count ≡ g .count + handed c g
@@ -177,18 +177,18 @@ call-count c g h = run-count (c ∷ []) g (h .range-a) (h .range-b) ∙ rw (add-
 
 step : (c : MarkCall) (s : State) (t : Tally) → Each Ranged Ranged s → s .generator .count ≡ t .base + t .since
     → nextIn c s .generator .count ≡ tallied c s t .base + tallied c s t .since
-unfolding nextIn tallied numberIn
+unfolding nextIn tallied codeIn
 step (on-record c) s t h e = call-count c (s .generator) (h .current) ∙ omega (arith, e)
 step (a-save x) s t h e = e
-step (a-return x) s t h e = by-test (eqb (returnedOf (s .marks) (s .generator) x .number) 0) refl
+step (a-return x) s t h e = by-test (eqb (returnedOf (s .marks) (s .generator) x .code) 0) refl
   where
-    by-test : (b : Bool) → eqb (returnedOf (s .marks) (s .generator) x .number) 0 ≡ b
+    by-test : (b : Bool) → eqb (returnedOf (s .marks) (s .generator) x .code) 0 ≡ b
         → nextIn (a-return x) s .generator .count ≡ tallied (a-return x) s t .base + tallied (a-return x) s t .since
     by-test true u =
         let (at, is) = return-accepted (s .marks) (s .generator) x (eqb-true _ _ u) in
-        rw (tallied, numberIn, u) (ap (λ (g : Generator). g .count) is ∙ sym (add-zero _))
+        rw (tallied, codeIn, u) (ap (λ (g : Generator). g .count) is ∙ sym (add-zero _))
     by-test false u =
-        rw (tallied, numberIn, u)
+        rw (tallied, codeIn, u)
         (ap (λ (g : Generator). g .count) (return-refused (s .marks) (s .generator) x (eqb-false _ _ u)) ∙ e)
 step (a-drop x) s t h e = e
 
@@ -226,16 +226,16 @@ empty-sized = record { labels-size = length-replicate places noLabel; records-si
 -- a saved record: fit, with no request open
 pub record Settled (g : Generator) : Type 0 where
   pub fits : Sound g
-  pub none-open : openNumber g ≡ 0
+  pub none-open : openCode g ≡ 0
 
-idle : (g : Generator) → idleNumber g ≡ 0 → Sound g → Settled g
-unfolding idleNumber
-idle g e h = record { fits = h; none-open = each-none (recordNumber g ∷ openNumber g ∷ []) e 1 }
+idle : (g : Generator) → idleCode g ≡ 0 → Sound g → Settled g
+unfolding idleCode
+idle g e h = record { fits = h; none-open = each-none (recordCode g ∷ openCode g ∷ []) e 1 }
 
 -- fit streams are refused for the note alone
-fit-idle : (g : Generator) → Sound g → idleNumber g ≡ openNumber g
-unfolding idleNumber
-fit-idle g h = rw (sound-accepted g h) (lone-cause (openNumber g))
+fit-idle : (g : Generator) → Sound g → idleCode g ≡ openCode g
+unfolding idleCode
+fit-idle g h = rw (sound-accepted g h) (lone-cause (openCode g))
 
 module _ (g : Generator) (fits : Sound g) (l : List MarkCall) where
   grown : Each Sound Settled (run l (record { generator = g; marks = empty }))
@@ -254,17 +254,17 @@ module _ (g : Generator) (fits : Sound g) (l : List MarkCall) where
 
   -- An accepted generator is refused later only for its note, for a call's own arguments, or for its count,
   pub never-refused : (c : Call) → let s : State = run l (record { generator = g; marks = empty }) in
-      numberIn (on-record c) s
-      ≡ firstCause (noteNumber c (s .generator) ∷ ownNumber c (s .generator) ∷ roomNumber c (s .generator) ∷ [])
-  unfolding numberIn
-  never-refused c = returned-number c _ ∙ fit-call c _ (grown .current)
+      codeIn (on-record c) s
+      ≡ firstCause (noteCode c (s .generator) ∷ ownCode c (s .generator) ∷ roomCode c (s .generator) ∷ [])
+  unfolding codeIn
+  never-refused c = returned-code c _ ∙ fit-call c _ (grown .current)
 
   -- by a save or a return for its note or the name, and by a drop for the name.
   pub names-refused : (x : List ℕ) → let s : State = run l (record { generator = g; marks = empty }) in
-      (numberIn (a-save x) s
-      ≡ firstCause (openNumber (s .generator) ∷ nameNumber x ∷ placeNumber (savePlace (s .marks .labels) x) 20 ∷ []))
-      × (numberIn (a-return x) s
-      ≡ firstCause (openNumber (s .generator) ∷ nameNumber x ∷ placeNumber (placeOf (s .marks .labels) x) 19 ∷ []))
-      × (numberIn (a-drop x) s ≡ firstCause (nameNumber x ∷ placeNumber (placeOf (s .marks .labels) x) 19 ∷ []))
-  unfolding numberIn savedOf placeToSave returnedOf placeToReturn droppedOf placeToDrop
+      (codeIn (a-save x) s
+      ≡ firstCause (openCode (s .generator) ∷ nameCode x ∷ placeCode (savePlace (s .marks .labels) x) 20 ∷ []))
+      × (codeIn (a-return x) s
+      ≡ firstCause (openCode (s .generator) ∷ nameCode x ∷ placeCode (placeOf (s .marks .labels) x) 19 ∷ []))
+      × (codeIn (a-drop x) s ≡ firstCause (nameCode x ∷ placeCode (placeOf (s .marks .labels) x) 19 ∷ []))
+  unfolding codeIn savedOf placeToSave returnedOf placeToReturn droppedOf placeToDrop
   names-refused x = (rw (fit-idle _ (grown .current)), rw (fit-idle _ (grown .current)), refl)

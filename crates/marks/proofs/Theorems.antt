@@ -26,9 +26,9 @@ use Rattle.marks.specs.Marks.{
   firstPlace,
   placeOf,
   savePlace,
-  idleNumber,
-  nameNumber,
-  placeNumber,
+  idleCode,
+  nameCode,
+  placeCode,
   placeToSave,
   placeToReturn,
   placeToDrop,
@@ -64,10 +64,10 @@ first-is-meant labels x i h = first-before (hasName x) labels i noLabel h
 
 -- what a return gives, of its place and the record there
 answerAt : Generator → List ℕ → ℕ → Generator → RecordAnswer
-unfolding placeNumber
+unfolding placeCode
 answerAt h x place kept =
-    let number : ℕ = firstCause (idleNumber h ∷ nameNumber x ∷ placeNumber place 19 ∷ []) in
-    record { number = number; next = ifAccepted number kept h }
+    let code : ℕ = firstCause (idleCode h ∷ nameCode x ∷ placeCode place 19 ∷ []) in
+    record { code = code; next = ifAccepted code kept h }
 
 return-is : (marks : Marks) (h : Generator) (x : List ℕ)
     → returnedOf marks h x ≡ answerAt h x (placeOf (marks .labels) x) (getD (marks .records) (placeOf (marks .labels) x) noRecord)
@@ -76,12 +76,12 @@ return-is marks h x = refl
 
 -- a well-formed name that is held is refused for the record alone
 accepted-at : (h : Generator) (x : List ℕ) (p : ℕ) (kept : Generator) → name x ≡ true → p < places
-    → answerAt h x p kept ≡ record { number = idleNumber h; next = ifAccepted (idleNumber h) kept h }
-unfolding answerAt nameNumber placeNumber
+    → answerAt h x p kept ≡ record { code = idleCode h; next = ifAccepted (idleCode h) kept h }
+unfolding answerAt nameCode placeCode
 accepted-at h x p kept good at =
-    let number-is : firstCause (idleNumber h ∷ nameNumber x ∷ placeNumber p 19 ∷ []) ≡ idleNumber h
-    = rw (nameNumber, placeNumber, good, lt-ltb p places at) (lone-cause (idleNumber h)) in
-    ap (λ (n : ℕ). record { number = n; next = ifAccepted n kept h }) number-is
+    let code-is : firstCause (idleCode h ∷ nameCode x ∷ placeCode p 19 ∷ []) ≡ idleCode h
+    = rw (nameCode, placeCode, good, lt-ltb p places at) (lone-cause (idleCode h)) in
+    ap (λ (n : ℕ). record { code = n; next = ifAccepted n kept h }) code-is
 
 module _ (marks : Marks) (sized : Sized marks) (p : ℕ) (at : p < places) (label : Label) (g : Generator) where
   pub stored-sized : Sized (stored marks p label g)
@@ -121,7 +121,7 @@ module _ (marks : Marks) (sized : Sized marks) (p : ℕ) (at : p < places) (labe
 
   -- where the name is put no later than it stands, returning to it gives the record that was put there
   pub stored-here : (h : Generator) (x : List ℕ) → name x ≡ true → p ≤ placeOf (marks .labels) x → hasName x label ≡ true
-      → returnedOf (stored marks p label g) h x ≡ record { number = idleNumber h; next = ifAccepted (idleNumber h) g h }
+      → returnedOf (stored marks p label g) h x ≡ record { code = idleCode h; next = ifAccepted (idleCode h) g h }
   stored-here h x good early new =
       return-is (stored marks p label g) h x
       ∙ ap (λ (n : ℕ). answerAt h x n (getD (set (marks .records) p g) n noRecord)) meant
@@ -166,40 +166,40 @@ saved-at labels x size at = by-test (ltb (placeOf labels x) places) refl
               λ y other. free-name y _ (not-true _ (first-passes isFree labels noLabel (omega (arith, size, free))));
         })
 
-name-good : (x : List ℕ) → nameNumber x ≡ 0 → name x ≡ true
-unfolding nameNumber
+name-good : (x : List ℕ) → nameCode x ≡ 0 → name x ≡ true
+unfolding nameCode
 name-good x h = by-test (name x) refl
   where
     by-test : (t : Bool) → name x ≡ t → t ≡ true
     by-test true e = refl
     by-test false e =
-        let none : _≡_ {A = ℕ} 18 0 = rw (nameNumber, e) at h in
+        let none : _≡_ {A = ℕ} 18 0 = rw (nameCode, e) at h in
         absurd (omega (arith, none))
 
 module _ (marks : Marks) (g : Generator) (x : List ℕ) where
   -- An accepted save puts the mark in its place, and nothing else is changed;
-  pub save-accepted : savedOf marks g x .number ≡ 0
-      → (idleNumber g ≡ 0) × (name x ≡ true) × (savePlace (marks .labels) x < places)
+  pub save-accepted : savedOf marks g x .code ≡ 0
+      → (idleCode g ≡ 0) × (name x ≡ true) × (savePlace (marks .labels) x < places)
       × (savedOf marks g x .next ≡ stored marks (savePlace (marks .labels) x) (labelOf x) g)
   unfolding savedOf placeToSave
   save-accepted h =
-      let none = each-none (idleNumber g ∷ nameNumber x ∷ placeNumber (savePlace (marks .labels) x) 20 ∷ []) h in
+      let none = each-none (idleCode g ∷ nameCode x ∷ placeCode (savePlace (marks .labels) x) 20 ∷ []) h in
       (none 0, name-good x (none 1), save-inside (marks .labels) g x h, rw (savedOf, h))
 
   -- refused, all comes back as passed.
-  pub save-refused : (savedOf marks g x .number ≡ 0 → ⊥) → savedOf marks g x .next ≡ marks
+  pub save-refused : (savedOf marks g x .code ≡ 0 → ⊥) → savedOf marks g x .next ≡ marks
   unfolding savedOf
   save-refused h = rw (savedOf, ne-eqb _ 0 h)
 
 module _ (marks : Marks) (sized : Sized marks) (g : Generator) (x : List ℕ) where
   -- What holds of the set passed in and of one with the mark in its place holds of the set that a save returns.
   pub save-either : (P : Marks → Type 0) → P marks
-      → (idleNumber g ≡ 0 → name x ≡ true → SavedAt (marks .labels) x (savePlace (marks .labels) x)
+      → (idleCode g ≡ 0 → name x ≡ true → SavedAt (marks .labels) x (savePlace (marks .labels) x)
       → P (stored marks (savePlace (marks .labels) x) (labelOf x) g))
       → P (savedOf marks g x .next)
-  save-either P before after = by-test (eqb (savedOf marks g x .number) 0) refl
+  save-either P before after = by-test (eqb (savedOf marks g x .code) 0) refl
     where
-      by-test : (t : Bool) → eqb (savedOf marks g x .number) 0 ≡ t → P (savedOf marks g x .next)
+      by-test : (t : Bool) → eqb (savedOf marks g x .code) 0 ≡ t → P (savedOf marks g x .next)
       by-test true e =
           let (fits, good, at, is) = save-accepted marks g x (eqb-true _ _ e) in
           rw is (after fits good (saved-at (marks .labels) x (sized .labels-size) at))
@@ -209,8 +209,8 @@ module _ (marks : Marks) (sized : Sized marks) (g : Generator) (x : List ℕ) wh
   save-sized = save-either Sized sized (λ fits good at. stored-sized marks sized _ (at .within) (labelOf x) g)
 
   -- Save, then return: the record is the saved one, refused for the record passed in alone.
-  pub save-return : (h : Generator) → savedOf marks g x .number ≡ 0
-      → returnedOf (savedOf marks g x .next) h x ≡ record { number = idleNumber h; next = ifAccepted (idleNumber h) g h }
+  pub save-return : (h : Generator) → savedOf marks g x .code ≡ 0
+      → returnedOf (savedOf marks g x .next) h x ≡ record { code = idleCode h; next = ifAccepted (idleCode h) g h }
   save-return h e =
       let (fits, good, at, is) = save-accepted marks g x e in
       let placed = saved-at (marks .labels) x (sized .labels-size) at in
@@ -238,15 +238,15 @@ module _ (marks : Marks) (sized : Sized marks) (g : Generator) (x : List ℕ) wh
 -- ---- Dropping
 
 module _ (marks : Marks) (x : List ℕ) where
-  pub drop-accepted : droppedOf marks x .number ≡ 0
+  pub drop-accepted : droppedOf marks x .code ≡ 0
       → (name x ≡ true) × (placeOf (marks .labels) x < places)
       × (droppedOf marks x .next ≡ stored marks (placeOf (marks .labels) x) noLabel noRecord)
   unfolding droppedOf placeToDrop
   drop-accepted h =
-      let none = each-none (nameNumber x ∷ placeNumber (placeOf (marks .labels) x) 19 ∷ []) h in
+      let none = each-none (nameCode x ∷ placeCode (placeOf (marks .labels) x) 19 ∷ []) h in
       (name-good x (none 0), drop-inside (marks .labels) x h, rw (droppedOf, h))
 
-  pub drop-refused : (droppedOf marks x .number ≡ 0 → ⊥) → droppedOf marks x .next ≡ marks
+  pub drop-refused : (droppedOf marks x .code ≡ 0 → ⊥) → droppedOf marks x .next ≡ marks
   unfolding droppedOf
   drop-refused h = rw (droppedOf, ne-eqb _ 0 h)
 
@@ -254,9 +254,9 @@ module _ (marks : Marks) (sized : Sized marks) (x : List ℕ) where
   pub drop-either : (P : Marks → Type 0) → P marks
       → (placeOf (marks .labels) x < places → P (stored marks (placeOf (marks .labels) x) noLabel noRecord))
       → P (droppedOf marks x .next)
-  drop-either P before after = by-test (eqb (droppedOf marks x .number) 0) refl
+  drop-either P before after = by-test (eqb (droppedOf marks x .code) 0) refl
     where
-      by-test : (t : Bool) → eqb (droppedOf marks x .number) 0 ≡ t → P (droppedOf marks x .next)
+      by-test : (t : Bool) → eqb (droppedOf marks x .code) 0 ≡ t → P (droppedOf marks x .next)
       by-test true e =
           let (good, at, is) = drop-accepted marks x (eqb-true _ _ e) in
           rw is (after at)
@@ -285,12 +285,12 @@ module _ (marks : Marks) (sized : Sized marks) (x : List ℕ) where
       (λ at. stored-others marks sized _ at noLabel noRecord j other)
 
   -- Drop, then save under a new name: the freed place is used where no place before it is free.
-  pub drop-save : (g : Generator) (y : List ℕ) → droppedOf marks x .number ≡ 0
+  pub drop-save : (g : Generator) (y : List ℕ) → droppedOf marks x .code ≡ 0
       → placeOf (marks .labels) x ≤ firstPlace isFree (marks .labels)
-      → places ≤ placeOf (droppedOf marks x .next .labels) y → idleNumber g ≡ 0 → name y ≡ true
+      → places ≤ placeOf (droppedOf marks x .next .labels) y → idleCode g ≡ 0 → name y ≡ true
       → savedOf (droppedOf marks x .next) g y
-      ≡ record { number = 0; next = stored marks (placeOf (marks .labels) x) (labelOf y) g }
-  unfolding savedOf placeToSave savePlace nameNumber placeNumber
+      ≡ record { code = 0; next = stored marks (placeOf (marks .labels) x) (labelOf y) g }
+  unfolding savedOf placeToSave savePlace nameCode placeCode
   drop-save g y h first new fits good =
       let p = placeOf (marks .labels) x in
       let (_, at, is) = drop-accepted marks x h in
@@ -304,13 +304,13 @@ module _ (marks : Marks) (sized : Sized marks) (x : List ℕ) where
         savePlace,
         le-ltb (placeOf (set (marks .labels) p noLabel) y) places new′,
         freed,
-        nameNumber,
-        placeNumber,
+        nameCode,
+        placeCode,
         fits,
         good,
         lt-ltb p places at,
       )
-      (ap₂ (λ (l : List Label) (r : List Generator). record { number = 0; next = record { labels = l; records = r } })
+      (ap₂ (λ (l : List Label) (r : List Generator). record { code = 0; next = record { labels = l; records = r } })
       (set-set (marks .labels) p noLabel (labelOf y))
       (set-set (marks .records) p noRecord g))
 
@@ -318,14 +318,14 @@ module _ (marks : Marks) (sized : Sized marks) (x : List ℕ) where
 
 module _ (marks : Marks) (h : Generator) (x : List ℕ) where
   -- An accepted return gives the record in the place of the name,
-  pub return-accepted : returnedOf marks h x .number ≡ 0
+  pub return-accepted : returnedOf marks h x .code ≡ 0
       → (placeOf (marks .labels) x < places)
       × (returnedOf marks h x .next ≡ getD (marks .records) (placeOf (marks .labels) x) noRecord)
   unfolding returnedOf placeToReturn
   return-accepted e = (return-inside (marks .labels) h x e, rw (returnedOf, e))
 
   -- a refused one the record passed in.
-  pub return-refused : (returnedOf marks h x .number ≡ 0 → ⊥) → returnedOf marks h x .next ≡ h
+  pub return-refused : (returnedOf marks h x .code ≡ 0 → ⊥) → returnedOf marks h x .next ≡ h
   unfolding returnedOf
   return-refused e = rw (returnedOf, ne-eqb _ 0 e)
 
@@ -333,9 +333,9 @@ module _ (marks : Marks) (h : Generator) (x : List ℕ) where
   pub return-either : (P : Generator → Type 0) → P h
       → (placeOf (marks .labels) x < places → P (getD (marks .records) (placeOf (marks .labels) x) noRecord))
       → P (returnedOf marks h x .next)
-  return-either P before after = by-test (eqb (returnedOf marks h x .number) 0) refl
+  return-either P before after = by-test (eqb (returnedOf marks h x .code) 0) refl
     where
-      by-test : (t : Bool) → eqb (returnedOf marks h x .number) 0 ≡ t → P (returnedOf marks h x .next)
+      by-test : (t : Bool) → eqb (returnedOf marks h x .code) 0 ≡ t → P (returnedOf marks h x .next)
       by-test true e =
           let (at, is) = return-accepted (eqb-true _ _ e) in
           rw is (after at)

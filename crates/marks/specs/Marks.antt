@@ -7,7 +7,7 @@ use lib.Dec.{leb, ltb}
 use lib.ListN.{length, getD, take, set, replicate}
 use Rattle.streams.specs.declared.Generator.{Generator}
 use Rattle.streams.specs.declared.RecordAnswer.{RecordAnswer}
-use Rattle.streams.specs.Streams.{recordNumber, openNumber, firstCause, ifAccepted, seedOf}
+use Rattle.streams.specs.Streams.{recordCode, openCode, firstCause, ifAccepted, seedOf}
 use Rattle.text.specs.Limits.{nameLength}
 use Rattle.text.specs.Fields.{name, same}
 use Rattle.text.specs.Buffer.{written}
@@ -66,22 +66,22 @@ savePlace labels bytes = cond (ltb (placeOf labels bytes) places) (placeOf label
 -- ---- Numbers
 
 -- "Saving and returning wait until no request is open; 11 and 12 apply to the record passed in .. before 14"
-unfoldable pub idleNumber : Generator → ℕ
-idleNumber g = firstCause (recordNumber g ∷ openNumber g ∷ [])
+unfoldable pub idleCode : Generator → ℕ
+idleCode g = firstCause (recordCode g ∷ openCode g ∷ [])
 
 -- "18: name malformed"
-unfoldable pub nameNumber : List ℕ → ℕ
-nameNumber bytes = cond (name bytes) 0 18
+unfoldable pub nameCode : List ℕ → ℕ
+nameCode bytes = cond (name bytes) 0 18
 
 -- that number where the set has no such place
-unfoldable pub placeNumber : ℕ → ℕ → ℕ
-placeNumber place number = cond (ltb place places) 0 number
+unfoldable pub placeCode : ℕ → ℕ → ℕ
+placeCode place code = cond (ltb place places) 0 code
 
 -- "20: 16 held and the name is new"
 unfoldable pub placeToSave : List Label → Generator → List ℕ → Placed
 placeToSave labels g bytes =
     record {
-      number = firstCause (idleNumber g ∷ nameNumber bytes ∷ placeNumber (savePlace labels bytes) 20 ∷ []);
+      code = firstCause (idleCode g ∷ nameCode bytes ∷ placeCode (savePlace labels bytes) 20 ∷ []);
       place = savePlace labels bytes;
     }
 
@@ -89,14 +89,14 @@ placeToSave labels g bytes =
 unfoldable pub placeToReturn : List Label → Generator → List ℕ → Placed
 placeToReturn labels g bytes =
     record {
-      number = firstCause (idleNumber g ∷ nameNumber bytes ∷ placeNumber (placeOf labels bytes) 19 ∷ []);
+      code = firstCause (idleCode g ∷ nameCode bytes ∷ placeCode (placeOf labels bytes) 19 ∷ []);
       place = placeOf labels bytes;
     }
 
 unfoldable pub placeToDrop : List Label → List ℕ → Placed
 placeToDrop labels bytes =
     record {
-      number = firstCause (nameNumber bytes ∷ placeNumber (placeOf labels bytes) 19 ∷ []);
+      code = firstCause (nameCode bytes ∷ placeCode (placeOf labels bytes) 19 ∷ []);
       place = placeOf labels bytes;
     }
 
@@ -108,19 +108,19 @@ stored marks place label g = record { labels = set (marks .labels) place label; 
 unfoldable pub savedOf : Marks → Generator → List ℕ → SetAnswer
 savedOf marks g bytes =
     let placed : Placed = placeToSave (marks .labels) g bytes in
-    record { number = placed .number; next = ifAccepted (placed .number) (stored marks (placed .place) (labelOf bytes) g) marks }
+    record { code = placed .code; next = ifAccepted (placed .code) (stored marks (placed .place) (labelOf bytes) g) marks }
 
 -- "Returning gives the saved record exactly"
 unfoldable pub returnedOf : Marks → Generator → List ℕ → RecordAnswer
 returnedOf marks g bytes =
     let placed : Placed = placeToReturn (marks .labels) g bytes in
-    record { number = placed .number; next = ifAccepted (placed .number) (getD (marks .records) (placed .place) noRecord) g }
+    record { code = placed .code; next = ifAccepted (placed .code) (getD (marks .records) (placed .place) noRecord) g }
 
 -- "dropping a mark makes its place usable again"
 unfoldable pub droppedOf : Marks → List ℕ → SetAnswer
 droppedOf marks bytes =
     let placed : Placed = placeToDrop (marks .labels) bytes in
-    record { number = placed .number; next = ifAccepted (placed .number) (stored marks (placed .place) noLabel noRecord) marks }
+    record { code = placed .code; next = ifAccepted (placed .code) (stored marks (placed .place) noLabel noRecord) marks }
 
 -- ---- For theorems
 

@@ -20,11 +20,11 @@ pub data MarkCall : Type 0 where
   a-save a-return a-drop : List ℕ → MarkCall
 
 -- Its number, and what it leaves: a return leaves the set, a save and a drop leave the record.
-unfoldable pub numberIn : MarkCall → State → ℕ
-numberIn (on-record c) s = returned c (s .generator) .number
-numberIn (a-save x) s = savedOf (s .marks) (s .generator) x .number
-numberIn (a-return x) s = returnedOf (s .marks) (s .generator) x .number
-numberIn (a-drop x) s = droppedOf (s .marks) x .number
+unfoldable pub codeIn : MarkCall → State → ℕ
+codeIn (on-record c) s = returned c (s .generator) .code
+codeIn (a-save x) s = savedOf (s .marks) (s .generator) x .code
+codeIn (a-return x) s = returnedOf (s .marks) (s .generator) x .code
+codeIn (a-drop x) s = droppedOf (s .marks) x .code
 
 unfoldable pub nextIn : MarkCall → State → State
 nextIn (on-record c) s = record { generator = returned c (s .generator) .next; marks = s .marks }
@@ -52,7 +52,7 @@ pub record Tally : Type 0 where
 unfoldable pub tallied : MarkCall → State → Tally → Tally
 tallied (on-record c) s t = record { base = t .base; since = t .since + handed c (s .generator) }
 tallied (a-save x) s t = t
-tallied (a-return x) s t = ifAccepted (numberIn (a-return x) s) (record { base = savedCount (s .marks) x; since = 0 }) t
+tallied (a-return x) s t = ifAccepted (codeIn (a-return x) s) (record { base = savedCount (s .marks) x; since = 0 }) t
 tallied (a-drop x) s t = t
 
 unfoldable pub tally : List MarkCall → State → Tally → Tally

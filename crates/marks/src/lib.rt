@@ -12,9 +12,9 @@ ghost use Rattle.marks.specs.Marks.{
   empty,
   firstPlace,
   savePlace,
-  idleNumber,
-  nameNumber,
-  placeNumber,
+  idleCode,
+  nameCode,
+  placeCode,
   placeToSave,
   placeToReturn,
   placeToDrop,
@@ -49,13 +49,13 @@ pub struct Marks {
 
 // A number and the set that a call leaves.
 pub struct SetAnswer {
-    pub number: u32,
+    pub code: u32,
     pub next: Marks,
 }
 
 // A call's number, and the place that it is about.
 pub struct Placed {
-    pub number: u32,
+    pub code: u32,
     pub place: usize,
 }
 
@@ -147,18 +147,18 @@ fn save_place(labels: [Label; PLACES], name: &[u8]) -> usize
 }
 
 // 11, 12, and then 14, a request is open: saving and returning wait for the record passed in.
-fn idle_number(g: Generator) -> u32
-    ensures { λ r. ⌜ r ≡ idleNumber g ⌝ }
+fn idle_code(g: Generator) -> u32
+    ensures { λ r. ⌜ r ≡ idleCode g ⌝ }
 {
-    let unfit = g.record_number();
-    let open = g.open_number();
+    let unfit = g.record_code();
+    let open = g.open_code();
     let causes = [unfit, open];
     first_cause(&causes)
 }
 
 // 18: the name is malformed.
-fn name_number(name: &[u8]) -> u32
-    ensures { λ r. ⌜ r ≡ nameNumber (now (name .entry)) ⌝ }
+fn name_code(name: &[u8]) -> u32
+    ensures { λ r. ⌜ r ≡ nameCode (now (name .entry)) ⌝ }
 {
     if is_name(name) {
         return 0;
@@ -167,13 +167,13 @@ fn name_number(name: &[u8]) -> u32
 }
 
 // That number where the set has no such place.
-fn place_number(place: usize, number: u32) -> u32
-    ensures { λ r. ⌜ r ≡ placeNumber place number ⌝ }
+fn place_code(place: usize, code: u32) -> u32
+    ensures { λ r. ⌜ r ≡ placeCode place code ⌝ }
 {
     if place < PLACES {
         return 0;
     }
-    number
+    code
 }
 
 // ---- The calls on labels: a call's number, and its place
@@ -181,41 +181,41 @@ fn place_number(place: usize, number: u32) -> u32
 // 20: all places are used and the name is new.
 pub fn place_to_save(labels: [Label; PLACES], g: Generator, name: &[u8]) -> Placed
     ensures { λ r. ⌜ r ≡ placeToSave labels g (now (name .entry)) ⌝ }
-    ensures { λ r. ⌜ (r .number ≡ 0 → r .place < places) ⌝ }
+    ensures { λ r. ⌜ (r .code ≡ 0 → r .place < places) ⌝ }
 {
     let place = save_place(labels, name);
-    let busy = idle_number(g);
-    let malformed = name_number(name);
-    let full = place_number(place, 20);
+    let busy = idle_code(g);
+    let malformed = name_code(name);
+    let full = place_code(place, 20);
     let causes = [busy, malformed, full];
-    let number = first_cause(&causes);
-    Placed { number, place }
+    let code = first_cause(&causes);
+    Placed { code, place }
 }
 
 // 19: the name is not held.
 pub fn place_to_return(labels: [Label; PLACES], g: Generator, name: &[u8]) -> Placed
     ensures { λ r. ⌜ r ≡ placeToReturn labels g (now (name .entry)) ⌝ }
-    ensures { λ r. ⌜ (r .number ≡ 0 → r .place < places) ⌝ }
+    ensures { λ r. ⌜ (r .code ≡ 0 → r .place < places) ⌝ }
 {
     let place = place_of(labels, name);
-    let busy = idle_number(g);
-    let malformed = name_number(name);
-    let absent = place_number(place, 19);
+    let busy = idle_code(g);
+    let malformed = name_code(name);
+    let absent = place_code(place, 19);
     let causes = [busy, malformed, absent];
-    let number = first_cause(&causes);
-    Placed { number, place }
+    let code = first_cause(&causes);
+    Placed { code, place }
 }
 
 pub fn place_to_drop(labels: [Label; PLACES], name: &[u8]) -> Placed
     ensures { λ r. ⌜ r ≡ placeToDrop labels (now (name .entry)) ⌝ }
-    ensures { λ r. ⌜ (r .number ≡ 0 → r .place < places) ⌝ }
+    ensures { λ r. ⌜ (r .code ≡ 0 → r .place < places) ⌝ }
 {
     let place = place_of(labels, name);
-    let malformed = name_number(name);
-    let absent = place_number(place, 19);
+    let malformed = name_code(name);
+    let absent = place_code(place, 19);
     let causes = [malformed, absent];
-    let number = first_cause(&causes);
-    Placed { number, place }
+    let code = first_cause(&causes);
+    Placed { code, place }
 }
 
 // ---- The calls
@@ -257,21 +257,21 @@ pub fn save(set: Marks, g: Generator, name: &[u8]) -> SetAnswer
 {
     let labels = set.labels;
     let placed = place_to_save(labels, g, name);
-    let number = placed.number;
-    if number != 0 {
-        return SetAnswer { number, next: set };
+    let code = placed.code;
+    if code != 0 {
+        return SetAnswer { code, next: set };
     }
     let label = label_of(name);
     let next = store(set, placed.place, label, g);
-    SetAnswer { number, next }
+    SetAnswer { code, next }
 }
 
 // An accepted return: the record as it was saved, whatever it is.
 fn accepted(kept: Generator) -> RecordAnswer
-    ensures { λ r. ⌜ r ≡ record { number = 0; next = kept } ⌝ }
+    ensures { λ r. ⌜ r ≡ record { code = 0; next = kept } ⌝ }
 {
     let next = kept;
-    RecordAnswer { number: 0, next }
+    RecordAnswer { code: 0, next }
 }
 
 // The record that was saved under the name.
@@ -280,10 +280,10 @@ pub fn return_to(set: Marks, g: Generator, name: &[u8]) -> RecordAnswer
 {
     let labels = set.labels;
     let placed = place_to_return(labels, g, name);
-    let number = placed.number;
+    let code = placed.code;
     let place = placed.place;
-    if number != 0 {
-        return RecordAnswer { number, next: g };
+    if code != 0 {
+        return RecordAnswer { code, next: g };
     }
     let kept = set.records[place];
     accepted(kept)
@@ -295,12 +295,12 @@ pub fn drop_mark(set: Marks, name: &[u8]) -> SetAnswer
 {
     let labels = set.labels;
     let placed = place_to_drop(labels, name);
-    let number = placed.number;
-    if number != 0 {
-        return SetAnswer { number, next: set };
+    let code = placed.code;
+    if code != 0 {
+        return SetAnswer { code, next: set };
     }
     let label = no_label();
     let kept = no_record();
     let next = store(set, placed.place, label, kept);
-    SetAnswer { number, next }
+    SetAnswer { code, next }
 }

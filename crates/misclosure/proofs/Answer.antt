@@ -20,7 +20,7 @@ use Rattle.misclosure.proofs.Listings.{accepted-level}
 -- low sums with each rounded
 abbrev answer : Sums → Miss
 answer r = record {
-  number = r .number;
+  code = r .code;
   line = r .line;
   east = r .east .low;
   north = r .north .low;
@@ -31,7 +31,7 @@ answer r = record {
 -- both ends with each rounded
 abbrev answers : Sums → IntervalSums
 answers r = record {
-  number = r .number;
+  code = r .code;
   line = r .line;
   east = r .east;
   north = r .north;
@@ -42,15 +42,15 @@ answers r = record {
 -- where low equals high throughout, the low sums are those of the only choice
 low-answer : (text : List ℕ) (o : Outcome) → listingOf false text ≡ o → answer (sumsOf o) ≡ missOf o
 unfolding missOf
-low-answer text (refused number line) e = refl
+low-answer text (refused code line) e = refl
 low-answer text (accepted l) e =
     let h = accepted-level text l e in
-    ap₂ (λ (x y : ℤ). record { number = 0; line = 0; east = x; north = y; easting = rounded x; northing = rounded y })
+    ap₂ (λ (x y : ℤ). record { code = 0; line = 0; east = x; north = y; easting = rounded x; northing = rounded y })
     (level-sums sine l h .0) (level-sums cosine l h .0)
 
 all-answers : (o : Outcome) → answers (sumsOf o) ≡ intervalsOf o
 unfolding intervalsOf
-all-answers (refused number line) = refl
+all-answers (refused code line) = refl
 all-answers (accepted l) = refl
 
 -- and both ends are
@@ -59,7 +59,7 @@ unfolding missOf intervalsOf
 level-answer text = go (listingOf false text) refl
   where
     go : (o : Outcome) → listingOf false text ≡ o → intervalsOf o ≡ level (missOf o)
-    go (refused number line) e = refl
+    go (refused code line) e = refl
     go (accepted l) e =
         let h = accepted-level text l e in
         let (a, b) = level-sums sine l h in
@@ -68,7 +68,7 @@ level-answer text = go (listingOf false text) refl
 
 pub miss-is : (text : List ℕ) (r : Sums) (a b : ℤ) → r ≡ sumsOf (listingOf false text) → SmallSums r → a ≡ rounded (again (r .east .low))
     → b ≡ rounded (again (r .north .low))
-    → _≡_ {A = Miss} (record { number = r .number; line = r .line; east = again (r .east .low); north = again (r .north .low); easting = again a; northing = again b })
+    → _≡_ {A = Miss} (record { code = r .code; line = r .line; east = again (r .east .low); north = again (r .north .low); easting = again a; northing = again b })
     (missOf (listingOf false text))
 miss-is text r a b e small east north =
     rw (
@@ -80,5 +80,5 @@ miss-is text r a b e small east north =
     (ap answer e ∙ low-answer text (listingOf false text) refl)
 
 pub intervals-are : (o : Outcome) (r : Sums) (a b : Ends) → r ≡ sumsOf o → a ≡ roundedEnds (r .east) → b ≡ roundedEnds (r .north)
-    → _≡_ {A = IntervalSums} (record { number = r .number; line = r .line; east = r .east; north = r .north; easting = a; northing = b }) (intervalsOf o)
+    → _≡_ {A = IntervalSums} (record { code = r .code; line = r .line; east = r .east; north = r .north; easting = a; northing = b }) (intervalsOf o)
 intervals-are o r a b e east north = rw (east, north) (ap answers e ∙ all-answers o)

@@ -20,8 +20,8 @@ use Rattle.sums.specs.Spans.{Span, Chosen, leastShot, greatestShot, Ranged}
 use Rattle.sums.proofs.SumLaws.{total-more, total-size}
 use Rattle.sums.proofs.Nearness.{distances-most}
 use Rattle.sums.proofs.Choices.{choice-allowed, least-chosen, greatest-chosen}
-use Rattle.entries.proofs.RoundTrip.{header-lengths, header-is}
-use Rattle.entries.specs.Entries.{isHeader, Said, leg, last, neither, readEntry}
+use Rattle.listing_reader.proofs.RoundTrip.{header-lengths, header-is}
+use Rattle.listing_reader.specs.Entries.{isHeader, Said, leg, last, neither, readEntry}
 use Rattle.misclosure.specs.Misclosure.{
   refusal,
   Outcome,
@@ -217,19 +217,19 @@ module _ (b : Bool) (text : List ℕ) (s : State) (before at end : ℕ) (r : Tak
   so-far = g .so-far ∙ ap (λ (ls : List (List ℕ)). ontoAll (g .done) (outcome b (s .line) station ls)) next-line
 
   module _ (t : Takes station row s (readEntry b row) r) where
-    pub line-off : (r .number ≡ 0 → ⊥) → listingOf b text ≡ refused (r .number) (s .line)
+    pub line-off : (r .code ≡ 0 → ⊥) → listingOf b text ≡ refused (r .code) (s .line)
     line-off z =
         so-far
-        ∙ ap (ontoAll (g .done)) (outcome-no b (s .line) station row (lines (drop end text)) (λ u. z (t .number ∙ u)))
-        ∙ onto-refused (g .done) _ _ ∙ ap (λ (n : ℕ). refused n (s .line)) (sym (t .number))
+        ∙ ap (ontoAll (g .done)) (outcome-no b (s .line) station row (lines (drop end text)) (λ u. z (t .code ∙ u)))
+        ∙ onto-refused (g .done) _ _ ∙ ap (λ (n : ℕ). refused n (s .line)) (sym (t .code))
 
-    module _ (z : r .number ≡ 0) where
+    module _ (z : r .code ≡ 0) where
       onward-from : listingOf b text ≡ ontoAll (g .done) (onward (s .line) (readEntry b row) (lines (drop end text))
           (outcome b (s .line + 1) (stationAfter (readEntry b row)) (lines (drop end text))))
-      onward-from = so-far ∙ ap (ontoAll (g .done)) (outcome-yes b (s .line) station row (lines (drop end text)) (sym (t .number) ∙ z))
+      onward-from = so-far ∙ ap (ontoAll (g .done)) (outcome-yes b (s .line) station row (lines (drop end text)) (sym (t .code) ∙ z))
 
       pub line-on : r .ended ≡ false → Going b text (r .next) at end
-      line-on f = go (readEntry b row) (sym (t .number) ∙ z) (sym (t .ended) ∙ f) (t .next z) onward-from
+      line-on f = go (readEntry b row) (sym (t .code) ∙ z) (sym (t .ended) ∙ f) (t .next z) onward-from
         where
           go : (x : Said) → refusal (s .line) station x ≡ 0 → isEnd x ≡ false → Leads row x s (r .next)
               → listingOf b text ≡ ontoAll (g .done) (onward (s .line) x (lines (drop end text)) (outcome b (s .line + 1) (stationAfter x) (lines (drop end text))))

@@ -10,11 +10,11 @@ use borrow.Author.Tests.{lt-ltb, le-ltb, ltb-false, eq-eqb, ne-eqb, eqb-true}
 use Rattle.text.specs.Fields.{partOf}
 use Rattle.text.specs.Forms.{isEmpty}
 use Rattle.text.specs.Fields.{same}
-use Rattle.entries.specs.Entries.{leg, last, neither}
-use Rattle.entries.specs.declared.Span.{Span as SpanFields}
+use Rattle.listing_reader.specs.Entries.{leg, last, neither}
+use Rattle.listing_reader.specs.declared.Span.{Span as SpanFields}
 use Rattle.misclosure.specs.Misclosure.{lastLine, mostStep, beyond, follows, refusal}
 use Rattle.sums.specs.Sums.{mostDistance}
-use Rattle.misclosure.specs.Private.{Limited, limitNumber, orderNumber, stationNumber, Moved, Takes, shotSaid}
+use Rattle.misclosure.specs.Private.{Limited, limitCode, orderCode, stationCode, Moved, Takes, shotSaid}
 use Rattle.misclosure.specs.declared.entry.State.{State}
 
 pub follows-none : (station from : List ℕ) → length station ≡ 0 → follows station from ≡ true
@@ -49,38 +49,38 @@ module _ (k low high step : ℕ) where
   unfolding beyond
   in-range h d e f = rw (le-ltb lastLine k h, le-ltb mostDistance low d, le-ltb mostDistance high e, le-ltb mostStep step f)
 
-  pub limits-kept : k ≤ lastLine → low ≤ mostDistance → high ≤ mostDistance → step ≤ mostStep → 0 ≡ limitNumber k low high step
-  unfolding limitNumber
+  pub limits-kept : k ≤ lastLine → low ≤ mostDistance → high ≤ mostDistance → step ≤ mostStep → 0 ≡ limitCode k low high step
+  unfolding limitCode
   limits-kept h d e f = rw (in-range h d e f)
 
-  pub limit-passed : beyond k low high step ≡ true → 24 ≡ limitNumber k low high step
-  unfolding limitNumber
+  pub limit-passed : beyond k low high step ≡ true → 24 ≡ limitCode k low high step
+  unfolding limitCode
   limit-passed e = rw e
 
-pub order-0 : (low high : ℕ) → low ≤ high → 0 ≡ orderNumber low high
-unfolding orderNumber
+pub order-0 : (low high : ℕ) → low ≤ high → 0 ≡ orderCode low high
+unfolding orderCode
 order-0 low high h = rw (le-ltb high low h)
 
-pub order-25 : (low high : ℕ) → high < low → 25 ≡ orderNumber low high
-unfolding orderNumber
+pub order-25 : (low high : ℕ) → high < low → 25 ≡ orderCode low high
+unfolding orderCode
 order-25 low high h = rw (lt-ltb high low h)
 
-pub station-0 : (station from : List ℕ) → follows station from ≡ true → 0 ≡ stationNumber station from
-unfolding stationNumber
+pub station-0 : (station from : List ℕ) → follows station from ≡ true → 0 ≡ stationCode station from
+unfolding stationCode
 station-0 station from e = rw e
 
-pub station-23 : (station from : List ℕ) → follows station from ≡ false → 23 ≡ stationNumber station from
-unfolding stationNumber
+pub station-23 : (station from : List ℕ) → follows station from ≡ false → 23 ≡ stationCode station from
+unfolding stationCode
 station-23 station from e = rw e
 
 -- the number of a shot: its first cause
 module _ (k : ℕ) (station from to : List ℕ) (low high step : ℕ) where
-  pub leg-number : cond (eqb (limitNumber k low high step) 0)
-      (cond (eqb (orderNumber low high) 0) (stationNumber station from) (orderNumber low high))
-      (limitNumber k low high step)
+  pub leg-code : cond (eqb (limitCode k low high step) 0)
+      (cond (eqb (orderCode low high) 0) (stationCode station from) (orderCode low high))
+      (limitCode k low high step)
       ≡ refusal k station (leg from to low high step)
-  unfolding refusal limitNumber orderNumber stationNumber
-  leg-number = go (beyond k low high step) (ltb high low)
+  unfolding refusal limitCode orderCode stationCode
+  leg-code = go (beyond k low high step) (ltb high low)
     where
       go : (b c : Bool) → _≡_ {A = ℕ} (cond (eqb (cond b 24 0) 0) (cond (eqb (cond c 25 0) 0) (cond (follows station from) 0 23) (cond c 25 0)) (cond b 24 0))
           (cond b 24 (cond c 25 (cond (follows station from) 0 23)))
@@ -134,33 +134,33 @@ neither-6 k station = refl
 
 -- what is returned for each
 module _ (station row : List ℕ) (s : State) where
-  pub takes-end-6 : (count : ℕ) (t : State) → (count ≡ s .line - 2 → ⊥) → Takes station row s (last count) (record { number = 6; ended = true; next = t })
-  takes-end-6 count t h = record { number = sym (last-6 (s .line) station count h); ended = refl; next = λ z. tt }
+  pub takes-end-6 : (count : ℕ) (t : State) → (count ≡ s .line - 2 → ⊥) → Takes station row s (last count) (record { code = 6; ended = true; next = t })
+  takes-end-6 count t h = record { code = sym (last-6 (s .line) station count h); ended = refl; next = λ z. tt }
 
-  pub takes-end : (count : ℕ) (t : State) → count ≡ s .line - 2 → Takes station row s (last count) (record { number = 0; ended = true; next = t })
-  takes-end count t h = record { number = sym (last-0 (s .line) station count h); ended = refl; next = λ z. tt }
+  pub takes-end : (count : ℕ) (t : State) → count ≡ s .line - 2 → Takes station row s (last count) (record { code = 0; ended = true; next = t })
+  takes-end count t h = record { code = sym (last-0 (s .line) station count h); ended = refl; next = λ z. tt }
 
-  pub takes-neither : (t : State) → Takes station row s neither (record { number = 6; ended = false; next = t })
-  takes-neither t = record { number = sym (neither-6 (s .line) station); ended = refl; next = λ z. tt }
+  pub takes-neither : (t : State) → Takes station row s neither (record { code = 6; ended = false; next = t })
+  takes-neither t = record { code = sym (neither-6 (s .line) station); ended = refl; next = λ z. tt }
 
   -- a shot whose number was worked out on the parts of two lines
-  module _ (x : SpanFields) (t : State) {number first limit order place : ℕ} {a b : List ℕ} (n : number ≡ cond (eqb limit 0) first limit)
-      (f : first ≡ cond (eqb order 0) place order) (l : limit ≡ limitNumber (s .line) (x .low) (x .high) (x .step)) (o : order ≡ orderNumber (x .low) (x .high))
-      (p : place ≡ stationNumber a b) (here : a ≡ station) (there : b ≡ partOf row (x .from)) where
-    shot-number : number ≡ refusal (s .line) station (shotSaid row x)
-    shot-number = rw (n, f, l, o, p, here, there) (leg-number (s .line) station (partOf row (x .from)) (partOf row (x .to)) (x .low) (x .high) (x .step))
+  module _ (x : SpanFields) (t : State) {code first limit order place : ℕ} {a b : List ℕ} (n : code ≡ cond (eqb limit 0) first limit)
+      (f : first ≡ cond (eqb order 0) place order) (l : limit ≡ limitCode (s .line) (x .low) (x .high) (x .step)) (o : order ≡ orderCode (x .low) (x .high))
+      (p : place ≡ stationCode a b) (here : a ≡ station) (there : b ≡ partOf row (x .from)) where
+    shot-code : code ≡ refusal (s .line) station (shotSaid row x)
+    shot-code = rw (n, f, l, o, p, here, there) (leg-code (s .line) station (partOf row (x .from)) (partOf row (x .to)) (x .low) (x .high) (x .step))
 
-    pub takes-refused : (number ≡ 0 → ⊥) → Takes station row s (shotSaid row x) (record { number = number; ended = false; next = t })
-    takes-refused z = record { number = shot-number; ended = refl; next = λ e. absurd (z e) }
+    pub takes-refused : (code ≡ 0 → ⊥) → Takes station row s (shotSaid row x) (record { code = code; ended = false; next = t })
+    takes-refused z = record { code = shot-code; ended = refl; next = λ e. absurd (z e) }
 
-    pub shot-limited : number ≡ 0 → Limited (s .line) x
+    pub shot-limited : code ≡ 0 → Limited (s .line) x
     shot-limited z =
-        let (few, far, turn, order, next) = leg-within (s .line) station (partOf row (x .from)) (partOf row (x .to)) (x .low) (x .high) (x .step) (sym shot-number ∙ z) in
+        let (few, far, turn, order, next) = leg-within (s .line) station (partOf row (x .from)) (partOf row (x .to)) (x .low) (x .high) (x .step) (sym shot-code ∙ z) in
         record { few = few; low = omega (arith, far, order); high = far; step = turn }
 
-    pub takes-shot : number ≡ 0 → Moved x s t → Takes station row s (shotSaid row x) (record { number = 0; ended = false; next = t })
+    pub takes-shot : code ≡ 0 → Moved x s t → Takes station row s (shotSaid row x) (record { code = 0; ended = false; next = t })
     takes-shot z m = record {
-      number = sym z ∙ shot-number;
+      code = sym z ∙ shot-code;
       ended = refl;
       next = λ e. record { line = m .line; station = ap (partOf row) (m .station); east = m .east; north = m .north };
     }

@@ -16,12 +16,12 @@ use Rattle.text.specs.Theorems.{join}
 use Rattle.text.proofs.Split.{join-lines}
 use Rattle.text.proofs.Decimal.{decimal-length}
 use Rattle.text.proofs.Plain.{name-length}
-use Rattle.rows.specs.Listing.{endRow}
-use Rattle.rows.proofs.Rows.{row-length, end-length}
+use Rattle.listing_writer.specs.Listing.{endRow}
+use Rattle.listing_writer.proofs.Rows.{row-length, end-length}
 use Rattle.sums.specs.Sums.{Shot, mostShots, mostDistance}
 use Rattle.sums.specs.Spans.{Span, Chosen, lowShots, Ranged, Level}
-use Rattle.entries.specs.Entries.{headerOf, isHeader, rowForm, Said, leg, last, neither, endOf, readEntry, rowOf}
-use Rattle.entries.proofs.RoundTrip.{Alike, row-line, row-read, end-line, end-said, end-read, header-line, header-lengths, header-read, header-is, Printed, entry-printed}
+use Rattle.listing_reader.specs.Entries.{headerOf, isHeader, rowForm, Said, leg, last, neither, endOf, readEntry, rowOf}
+use Rattle.listing_reader.proofs.RoundTrip.{Alike, row-line, row-read, end-line, end-said, end-read, header-line, header-lengths, header-read, header-is, Printed, entry-printed}
 use Rattle.misclosure.specs.Misclosure.{
   lastLine,
   mostStep,

@@ -11,10 +11,10 @@ use lib.ListN.{length}
 use borrow.Author.Tests.{eqb-true, eqb-false, ltb-false, not-false}
 use Rattle.text.specs.Fields.{name}
 use Rattle.text.specs.Scan.{lines}
-use Rattle.forms.specs.Forms.{Form, seeds, sigma, shot, noForm, readLine, Printable}
-use Rattle.forms.proofs.RoundTrip.{printed-read, shot-not-none}
-use Rattle.rows.specs.Rounding.{noiseSize, noisyDistance, noisyBearing}
-use Rattle.rows.specs.Listing.{header, endRow, noisyRow}
+use Rattle.job_lines.specs.Forms.{Form, seeds, sigma, shot, noForm, readLine, Printable}
+use Rattle.job_lines.proofs.RoundTrip.{printed-read, shot-not-none}
+use Rattle.listing_writer.specs.Rounding.{noiseSize, noisyDistance, noisyBearing}
+use Rattle.listing_writer.specs.Listing.{header, endRow, noisyRow}
 use Rattle.sample.specs.Steps.{fractionBits}
 use Rattle.noise.specs.Noise.{pairOf}
 use Rattle.noise.proofs.Theorems.{pair-sizes}
@@ -29,7 +29,7 @@ use Rattle.job.proofs.Going as going
 use Rattle.job.proofs.Jobs as jobLaws
 use Rattle.sums.specs.Sums.{mostDistance}
 use Rattle.sums.specs.Spans.{Span}
-use Rattle.entries.specs.Entries.{rowOf, headerOf}
+use Rattle.listing_reader.specs.Entries.{rowOf, headerOf}
 use Rattle.misclosure.specs.Misclosure.{lastLine, mostStep, accepted, onto, outcome, listingOf}
 use Rattle.misclosure.specs.Theorems.{Following}
 use Rattle.misclosure.proofs.Listings.{outcome-leg, outcome-end, listing-headed}

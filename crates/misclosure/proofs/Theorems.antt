@@ -101,7 +101,7 @@ intervals-joined first second h few =
 
 choice : (rows : List Row) (c : List Shot) → Linked true [] rows → length rows ≤ mostShots → Chosen (spansIn rows) c
     → missIn (chosenRows rows c) ≡ record {
-      number = 0;
+      code = 0;
       line = 0;
       east = total sine c;
       north = total cosine c;
@@ -113,7 +113,7 @@ choice rows c h few e =
     let (linked, count, same) = chosen-linked rows c [] h e in
     miss-linked (chosenRows rows c) (omega (arith, few, count)) linked
     ∙ ap (λ (l : List Shot). record {
-      number = 0;
+      code = 0;
       line = 0;
       east = total sine l;
       north = total cosine l;

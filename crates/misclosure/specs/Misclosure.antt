@@ -7,9 +7,9 @@ use lib.Dec.{ltb, eqb}
 use lib.IntN.{ℤ, pos}
 use Rattle.text.specs.Scan.{lines}
 use Rattle.text.specs.Forms.{isEmpty}
-use Rattle.rows.specs.Rounding.{turnSteps}
+use Rattle.listing_writer.specs.Rounding.{turnSteps}
 use Rattle.text.specs.Fields.{same}
-use Rattle.entries.specs.Entries.{isHeader, Said, leg, last, neither, readEntry}
+use Rattle.listing_reader.specs.Entries.{isHeader, Said, leg, last, neither, readEntry}
 use Rattle.sums.specs.Sums.{sine, cosine, total, rounded, mostShots, mostDistance}
 use Rattle.sums.specs.Spans.{Span, lowShots, lowestTotal, highestTotal}
 use Rattle.misclosure.specs.declared.Miss.{Miss}
@@ -45,7 +45,7 @@ pub data Outcome : Type 0 where
   accepted : List Span → Outcome
 
 abbrev pub onto : Span → Outcome → Outcome
-onto s (refused number line) = refused number line
+onto s (refused code line) = refused code line
 onto s (accepted l) = accepted (s ∷ l)
 
 unfoldable pub none : List (List ℕ) → Bool
@@ -82,9 +82,9 @@ listingOf between text = headed between (lines text)
 
 -- Job 13's answer: "return each sum both so and rounded once"; refused, "line told as in a job, sums 0". A shot's one distance is its low and its high
 unfoldable pub missOf : Outcome → Miss
-missOf (refused number line) = record { number = number; line = line; east = pos 0; north = pos 0; easting = pos 0; northing = pos 0 }
+missOf (refused code line) = record { code = code; line = line; east = pos 0; north = pos 0; easting = pos 0; northing = pos 0 }
 missOf (accepted l) = record {
-  number = 0;
+  code = 0;
   line = 0;
   east = total sine (lowShots l);
   north = total cosine (lowShots l);
@@ -103,8 +103,8 @@ abbrev pub roundedEnds : Ends → Ends
 roundedEnds e = record { low = rounded (e .low); high = rounded (e .high) }
 
 unfoldable pub intervalsOf : Outcome → IntervalSums
-intervalsOf (refused number line) = record {
-  number = number;
+intervalsOf (refused code line) = record {
+  code = code;
   line = line;
   east = bothEnds (pos 0);
   north = bothEnds (pos 0);
@@ -112,7 +112,7 @@ intervalsOf (refused number line) = record {
   northing = bothEnds (pos 0);
 }
 intervalsOf (accepted l) = record {
-  number = 0;
+  code = 0;
   line = 0;
   east = endsOf sine l;
   north = endsOf cosine l;

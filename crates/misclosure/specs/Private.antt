@@ -9,8 +9,8 @@ use lib.Signed.{nonNeg}
 use lib.ListN.{length, take, drop}
 use Rattle.text.specs.Fields.{partOf}
 use Rattle.text.specs.Scan.{lines}
-use Rattle.entries.specs.Entries.{Said, leg, last, neither}
-use Rattle.entries.specs.declared.Span.{Span as SpanFields}
+use Rattle.listing_reader.specs.Entries.{Said, leg, last, neither}
+use Rattle.listing_reader.specs.declared.Span.{Span as SpanFields}
 use Rattle.sums.specs.Sums.{sine, cosine, mostDistance}
 use Rattle.sums.specs.Spans.{Span, Ranged}
 use Rattle.misclosure.specs.Misclosure.{
@@ -54,14 +54,14 @@ pub record Limited (k : ℕ) (x : SpanFields) : Type 0 where
   pub step : x .step ≤ mostStep
 
 -- the three causes of a shot
-unfoldable pub limitNumber : ℕ → ℕ → ℕ → ℕ → ℕ
-limitNumber k low high step = cond (beyond k low high step) 24 0
+unfoldable pub limitCode : ℕ → ℕ → ℕ → ℕ → ℕ
+limitCode k low high step = cond (beyond k low high step) 24 0
 
-unfoldable pub orderNumber : ℕ → ℕ → ℕ
-orderNumber low high = cond (ltb high low) 25 0
+unfoldable pub orderCode : ℕ → ℕ → ℕ
+orderCode low high = cond (ltb high low) 25 0
 
-unfoldable pub stationNumber : List ℕ → List ℕ → ℕ
-stationNumber station from = cond (follows station from) 0 23
+unfoldable pub stationCode : List ℕ → List ℕ → ℕ
+stationCode station from = cond (follows station from) 0 23
 
 -- two sums with the least and the greatest product of a shot by a factor added
 abbrev pub widenedBy : ℤ → ℕ → ℕ → Ends → Ends
@@ -97,9 +97,9 @@ Leads line neither s t = Unit {0}
 
 -- a line that says x, after a station
 pub record Takes (station line : List ℕ) (s : State) (x : Said) (r : Taken) : Type 0 where
-  pub number : r .number ≡ refusal (s .line) station x
+  pub code : r .code ≡ refusal (s .line) station x
   pub ended : r .ended ≡ isEnd x
-  pub next : r .number ≡ 0 → Leads line x s (r .next)
+  pub next : r .code ≡ 0 → Leads line x s (r .next)
 
 -- ---- A listing half way and at its end
 
@@ -121,17 +121,17 @@ pub record Going (between : Bool) (text : List ℕ) (s : State) (before at : ℕ
       ≡ ontoAll done (outcome between (s .line) (partOf (take (at - before) (drop before text)) (s .station)) (lines (drop at text)))
 
 abbrev pub refusedSums : ℕ → ℕ → Sums
-refusedSums number line = record { number = number; line = line; east = bothEnds (pos 0); north = bothEnds (pos 0) }
+refusedSums code line = record { code = code; line = line; east = bothEnds (pos 0); north = bothEnds (pos 0) }
 
 -- after the end: nothing follows, or one line more
 abbrev pub endSums : State → Bool → Sums
 endSums s true = refusedSums 6 (s .line + 1)
-endSums s false = record { number = 0; line = 0; east = s .east; north = s .north }
+endSums s false = record { code = 0; line = 0; east = s .east; north = s .north }
 
 -- the answer but for the rounding
 abbrev pub sumsOf : Outcome → Sums
-sumsOf (refused number line) = refusedSums number line
-sumsOf (accepted l) = record { number = 0; line = 0; east = endsOf sine l; north = endsOf cosine l }
+sumsOf (refused code line) = refusedSums code line
+sumsOf (accepted l) = record { code = 0; line = 0; east = endsOf sine l; north = endsOf cosine l }
 
 pub record SmallSums (r : Sums) : Type 0 where
   pub east : SmallEnds (r .east)

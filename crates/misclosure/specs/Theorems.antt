@@ -8,9 +8,9 @@ use lib.ListN.{length}
 use Rattle.text.specs.Limits.{numeralBound}
 use Rattle.text.specs.Fields.{name}
 use Rattle.text.specs.Scan.{lines}
-use Rattle.forms.specs.Forms.{Form, seeds, sigma, shot, noForm, readLine}
-use Rattle.rows.specs.Listing.{endRow}
-use Rattle.entries.specs.Entries.{headerOf, rowOf}
+use Rattle.job_lines.specs.Forms.{Form, seeds, sigma, shot, noForm, readLine}
+use Rattle.listing_writer.specs.Listing.{endRow}
+use Rattle.listing_reader.specs.Entries.{headerOf, rowOf}
 use Rattle.job.specs.Job.{listed, jobOf}
 use Rattle.sums.specs.Sums.{Shot, sine, cosine, total, rounded, mostShots, mostDistance}
 use Rattle.sums.specs.Exact.{exactSine, exactCosine, Close}
@@ -98,7 +98,7 @@ intervalsIn rows = intervalsOf (listingOf true (textOf true rows))
 -- an answer of Job 13 as one of Job 14: each sum is the lowest and the highest
 abbrev pub level : Miss → IntervalSums
 level m = record {
-  number = m .number;
+  code = m .code;
   line = m .line;
   east = bothEnds (m .east);
   north = bothEnds (m .north);
@@ -124,7 +124,7 @@ pub record Theorems : Type 0 where
       → Close 3 (lowShots l) (missOf (listingOf false text) .easting) (missOf (listingOf false text) .northing)
       × Close 2 (lowShots l) (missOf (listingOf false text) .easting) (missOf (listingOf false text) .northing)
   -- "No shots give 0 and 0."
-  pub no-shots : missIn [] ≡ record { number = 0; line = 0; east = pos 0; north = pos 0; easting = pos 0; northing = pos 0 }
+  pub no-shots : missIn [] ≡ record { code = 0; line = 0; east = pos 0; north = pos 0; easting = pos 0; northing = pos 0 }
   -- "Where a run of shots joined to a second is accepted, it adds up, before rounding, to the two sums added."
   pub joined : (first second : List Row) → Linked false [] (first ++ second) → length (first ++ second) ≤ mostShots
       → (missIn (first ++ second) .east ≡ missIn first .east +ℤ missIn second .east)
@@ -141,7 +141,7 @@ pub record Theorems : Type 0 where
   -- the sums of a choice are those of Job 13's listing with the distances chosen
   pub choice : (rows : List Row) (c : List Shot) → Linked true [] rows → length rows ≤ mostShots → Chosen (spansIn rows) c
       → missIn (chosenRows rows c) ≡ record {
-        number = 0;
+        code = 0;
         line = 0;
         east = total sine c;
         north = total cosine c;

@@ -5,9 +5,9 @@ use crate::limits::MOST_DISTANCE;
 use crate::limits::MOST_STEP;
 use crate::sum::widened;
 use angle::signed_of;
-use entries::Entry;
-use entries::Span;
-use entries::read_entry;
+use listing_reader::Entry;
+use listing_reader::Span;
+use listing_reader::read_entry;
 use text::field::Place;
 use text::field::is_same;
 use text::field::part;
@@ -15,8 +15,8 @@ ghost use mathlib.Core.Path.{_≡_};
 ghost use mathlib.Core.Bool.{false, cond};
 ghost use lib.Dec.{eqb};
 ghost use Rattle.text.specs.Fields.{partOf};
-ghost use Rattle.misclosure.specs.Private.{Small, Limited, limitNumber, orderNumber, stationNumber, Takes, Moved, shotSaid};
-ghost use Rattle.entries.specs.Entries.{readEntry, last};
+ghost use Rattle.misclosure.specs.Private.{Small, Limited, limitCode, orderCode, stationCode, Takes, Moved, shotSaid};
+ghost use Rattle.listing_reader.specs.Entries.{readEntry, last};
 
 // The number of the next line, where the last station stands in the line before it, and the sums so far.
 pub struct State {
@@ -28,14 +28,14 @@ pub struct State {
 
 // The number of a line, 0 where it is accepted; whether it is the end; and after an accepted shot the state.
 pub struct Taken {
-    pub number: u32,
+    pub code: u32,
     pub ended: bool,
     pub next: State,
 }
 
 // 24 for a shot beyond a limit, else 0.
-fn limit_number(line: u32, x: Span) -> u32
-    ensures { λ r. ⌜ r ≡ limitNumber line (x .low) (x .high) (x .step) ⌝ }
+fn limit_code(line: u32, x: Span) -> u32
+    ensures { λ r. ⌜ r ≡ limitCode line (x .low) (x .high) (x .step) ⌝ }
 {
     if LAST_LINE < line {
         return 24;
@@ -53,8 +53,8 @@ fn limit_number(line: u32, x: Span) -> u32
 }
 
 // 25 for a low distance above the high one, else 0.
-fn order_number(x: Span) -> u32
-    ensures { λ r. ⌜ r ≡ orderNumber (x .low) (x .high) ⌝ }
+fn order_code(x: Span) -> u32
+    ensures { λ r. ⌜ r ≡ orderCode (x .low) (x .high) ⌝ }
 {
     if x.high < x.low {
         return 25;
@@ -63,8 +63,8 @@ fn order_number(x: Span) -> u32
 }
 
 // 23 for a shot that does not start at the station, else 0: any may be the first.
-fn station_number(station: &[u8], from: &[u8]) -> u32
-    ensures { λ r. ⌜ r ≡ stationNumber (now (station .entry)) (now (from .entry)) ⌝ }
+fn station_code(station: &[u8], from: &[u8]) -> u32
+    ensures { λ r. ⌜ r ≡ stationCode (now (station .entry)) (now (from .entry)) ⌝ }
 {
     if station.len() == 0 {
         return 0;
@@ -104,11 +104,11 @@ fn moved(x: Span, s: State) -> State
 }
 
 // A line that is refused.
-fn refused_line(number: u32, s: State) -> Taken
-    ensures { λ r. ⌜ r ≡ record { number = number; ended = false; next = s } ⌝ }
+fn refused_line(code: u32, s: State) -> Taken
+    ensures { λ r. ⌜ r ≡ record { code = code; ended = false; next = s } ⌝ }
 {
     Taken {
-        number,
+        code,
         ended: false,
         next: s,
     }
@@ -120,16 +120,16 @@ fn on_shot(previous: &[u8], line: &[u8], x: Span, s: State) -> Taken
 {
     let station = s.station;
     let from = x.from;
-    let limit = limit_number(s.line, x);
-    let order = order_number(x);
-    let place = station_number(part(previous, station), part(line, from));
-    let number = first_of(limit, first_of(order, place));
-    if number != 0 {
-        return refused_line(number, s);
+    let limit = limit_code(s.line, x);
+    let order = order_code(x);
+    let place = station_code(part(previous, station), part(line, from));
+    let code = first_of(limit, first_of(order, place));
+    if code != 0 {
+        return refused_line(code, s);
     }
     let next = moved(x, s);
     Taken {
-        number: 0,
+        code: 0,
         ended: false,
         next,
     }
@@ -143,13 +143,13 @@ fn on_end(previous: &[u8], line: &[u8], count: u64, s: State) -> Taken
     let shots = (s.line - 2) as u64;
     if count != shots {
         return Taken {
-            number: 6,
+            code: 6,
             ended: true,
             next: s,
         };
     }
     Taken {
-        number: 0,
+        code: 0,
         ended: true,
         next: s,
     }

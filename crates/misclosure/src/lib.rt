@@ -8,7 +8,7 @@ mod walk;
 use crate::sum::both_millimetres;
 use crate::sum::millimetres;
 use crate::walk::read_listing;
-use entries::is_header;
+use listing_reader::is_header;
 use text::line::line_end;
 ghost use mathlib.Core.Path.{_≡_};
 ghost use mathlib.Core.Bool.{true, false};
@@ -17,7 +17,7 @@ ghost use Rattle.misclosure.specs.Misclosure.{listingOf, missOf, interva
 // The number, 0 where the listing is accepted; the line, 0 where no line is at fault; east and north at 2^30, and each in whole
 // millimetres.
 pub struct Miss {
-    pub number: u32,
+    pub code: u32,
     pub line: u32,
     pub east: i64,
     pub north: i64,
@@ -33,7 +33,7 @@ pub struct Ends {
 
 // A miss with the lowest and the highest of each sum.
 pub struct IntervalSums {
-    pub number: u32,
+    pub code: u32,
     pub line: u32,
     pub east: Ends,
     pub north: Ends,
@@ -51,7 +51,7 @@ pub fn misclosure(text: &[u8]) -> Miss
     let easting = millimetres(east.low);
     let northing = millimetres(north.low);
     Miss {
-        number: sums.number,
+        code: sums.code,
         line: sums.line,
         east: east.low,
         north: north.low,
@@ -70,7 +70,7 @@ pub fn intervals(text: &[u8]) -> IntervalSums
     let easting = both_millimetres(east);
     let northing = both_millimetres(north);
     IntervalSums {
-        number: sums.number,
+        code: sums.code,
         line: sums.line,
         east,
         north,

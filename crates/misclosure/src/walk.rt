@@ -2,7 +2,7 @@
 use crate::Ends;
 use crate::entry::State;
 use crate::entry::take_line;
-use entries::is_header;
+use listing_reader::is_header;
 use text::field::Place;
 use text::line::line_end;
 ghost use mathlib.Core.Path.{_≡_};
@@ -15,17 +15,17 @@ ghost use Rattle.misclosure.specs.Private.{sumsOf, SmallSums, refusedSum
 
 // The number and the line as in a Miss, and the sums at 2^30.
 pub struct Sums {
-    pub number: u32,
+    pub code: u32,
     pub line: u32,
     pub east: Ends,
     pub north: Ends,
 }
 
-fn refused(number: u32, line: u32) -> Sums
-    ensures { λ r. ⌜ r ≡ refusedSums number line ⌝ }
+fn refused(code: u32, line: u32) -> Sums
+    ensures { λ r. ⌜ r ≡ refusedSums code line ⌝ }
 {
     Sums {
-        number,
+        code,
         line,
         east: Ends { low: 0, high: 0 },
         north: Ends { low: 0, high: 0 },
@@ -43,7 +43,7 @@ fn ended(s: State, more: bool) -> Sums
     let east = s.east;
     let north = s.north;
     Sums {
-        number: 0,
+        code: 0,
         line: 0,
         east,
         north,
@@ -66,8 +66,8 @@ fn walk(text: &[u8], between: bool, first: usize) -> Sums
     while at < text.len() {
         let end = line_end(text, at);
         let t = take_line(&text[before..at], &text[at..end], between, s);
-        if t.number != 0 {
-            return refused(t.number, s.line);
+        if t.code != 0 {
+            return refused(t.code, s.line);
         }
         if t.ended {
             return ended(s, end < text.len());

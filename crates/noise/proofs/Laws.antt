@@ -9,26 +9,26 @@ use lib.IntN.{ℤ}
 use lib.ListN.{length}
 use Rattle.streams.specs.declared.Generator.{Generator}
 use Rattle.streams.specs.declared.Uniforms.{Uniforms}
-use Rattle.streams.specs.Streams.{advance, output, noted, cleared, recordNumber, mostAsked, mostCount, noteNumber, ownNumber, roomNumber}
-use Rattle.streams.specs.Streams.{numberOf, pairsNumber, uniformsOf, after}
+use Rattle.streams.specs.Streams.{advance, output, noted, cleared, recordCode, mostAsked, mostCount, noteCode, ownCode, roomCode}
+use Rattle.streams.specs.Streams.{codeOf, pairsCode, uniformsOf, after}
 use Rattle.streams.specs.Streams.Call.{a-skip, a-block, a-take}
 use Rattle.streams.specs.Recurrence.{Sound, moved}
 use Rattle.streams.proofs.Theorems.{sound-accepted, pairs-accepted, moved-sound, uniforms-accepted, next-sound, numbers-bounded}
 use Rattle.streams.proofs.Causes.{accepted-causes, one-open, just-taken, even-length, count-room}
-use Rattle.squares.specs.Squares.{repeat}
+use Rattle.bit_matrix.specs.Squares.{repeat}
 use Rattle.lanes.specs.Lanes.{words}
 use Rattle.lanes.proofs.Theorems.{word-is-pair}
 use Rattle.sample.specs.Sample.{firstOf, secondOf, samplesAt, filled}
 use Rattle.sample.proofs.Closeness.{accepts}
 use Rattle.sample.proofs.FillLaws.{filled-whole}
-use Rattle.noise.specs.Noise.{pairOf, samples, blockNumber}
+use Rattle.noise.specs.Noise.{pairOf, samples, blockCode}
 use Rattle.noise.specs.Private.{numbers}
 
 -- ---- Which blocks are accepted
 
 -- A block is accepted just where its length is even and its pairs are.
-pub block-accepted : (g : Generator) (n : ℕ) → (blockNumber g n ≡ 0) ↔ ((pairsNumber g (n / 2) ≡ 0) × (n % 2 ≡ 0))
-unfolding noteNumber ownNumber roomNumber
+pub block-accepted : (g : Generator) (n : ℕ) → (blockCode g n ≡ 0) ↔ ((pairsCode g (n / 2) ≡ 0) × (n % 2 ≡ 0))
+unfolding noteCode ownCode roomCode
 block-accepted g n = (
   λ h.
       let (fits, note, own, room) = accepted-causes (a-block n) g .0 h in
@@ -41,9 +41,9 @@ block-accepted g n = (
 -- A take is accepted just where the streams are fit, a request is open, the block has two samples for each of its pairs, and these are at most the
 -- most and have room in the count;
 pub take-accepted : (g : Generator) (n : ℕ)
-    → (numberOf (a-take n) g ≡ 0)
-    ↔ ((recordNumber g ≡ 0) × (g .waiting ≡ 0 → ⊥) × (g .asked ≤ mostAsked) × (n ≡ 2 * g .asked) × (g .count + g .asked ≤ mostCount))
-unfolding noteNumber ownNumber roomNumber
+    → (codeOf (a-take n) g ≡ 0)
+    ↔ ((recordCode g ≡ 0) × (g .waiting ≡ 0 → ⊥) × (g .asked ≤ mostAsked) × (n ≡ 2 * g .asked) × (g .count + g .asked ≤ mostCount))
+unfolding noteCode ownCode roomCode
 take-accepted g n = (
   λ h.
       let (fits, note, own, room) = accepted-causes (a-take n) g .0 h in
@@ -53,8 +53,8 @@ take-accepted g n = (
 )
 
 -- its pairs are then accepted on the record with its note cleared.
-pub taken-pairs : (g : Generator) (n : ℕ) → numberOf (a-take n) g ≡ 0 → pairsNumber (cleared g) (g .asked) ≡ 0
-unfolding recordNumber
+pub taken-pairs : (g : Generator) (n : ℕ) → codeOf (a-take n) g ≡ 0 → pairsCode (cleared g) (g .asked) ≡ 0
+unfolding recordCode
 taken-pairs g n e =
     let (fits, _, _, _, room) = take-accepted g n .0 e in
     pairs-accepted (cleared g) (g .asked) .1 (fits, room, refl)
@@ -62,9 +62,9 @@ taken-pairs g n e =
 -- ---- One pair
 
 -- A pair's number is that of its two draws, which is that of one pair.
-pub pair-number : (f : ℕ) (g : Generator) → pairOf f g .number ≡ pairsNumber g 1
+pub pair-code : (f : ℕ) (g : Generator) → pairOf f g .code ≡ pairsCode g 1
 unfolding pairOf uniformsOf
-pair-number f g = refl
+pair-code f g = refl
 
 -- ---- The samples of n pairs
 
@@ -85,23 +85,23 @@ pub numbers-words : (n : ℕ) (g : Generator) → Sound g → g .waiting ≡ 0 �
 unfolding numbers words repeat
 numbers-words zero g h none room = refl
 numbers-words (suc n) g h none room =
-    let accepted : pairsNumber g 1 ≡ 0 = pairs-accepted g 1 .1 (sound-accepted g h, omega arith, none) in
+    let accepted : pairsCode g 1 ≡ 0 = pairs-accepted g 1 .1 (sound-accepted g h, omega arith, none) in
     let a = output (advance (g .a)) in
     let b = output (advance (g .b)) in
-    let number : ℕ = (a * 65536 + b / 65536) * 65536 + b % 65536 in
+    let code : ℕ = (a * 65536 + b / 65536) * 65536 + b % 65536 in
     rw (uniforms-accepted g accepted, word-is-pair (advance (g .a)) (advance (g .b)))
-    (ap (λ (l : List ℕ). number ∷ l) (numbers-words n (moved 1 g) (moved-sound 1 g h) none (omega arith)))
+    (ap (λ (l : List ℕ). code ∷ l) (numbers-words n (moved 1 g) (moved-sound 1 g h) none (omega arith)))
 
 pub length-numbers : (n : ℕ) (g : Generator) → length (numbers n g) ≡ n
 unfolding numbers
 length-numbers zero g = refl
 length-numbers (suc n) g = ap suc (length-numbers n (uniformsOf g .next))
 
--- The call from k and v accepts the numbers of a pair, so the pair's samples are those of the whole-number steps.
-pub pair-is : (f : ℕ) (g : Generator) → Sound g → pairsNumber g 1 ≡ 0
+-- The call from k and v accepts the numbers of a pair, so the pair's samples are those of the whole-code steps.
+pub pair-is : (f : ℕ) (g : Generator) → Sound g → pairsCode g 1 ≡ 0
     → pairOf f g
     ≡ record {
-      number = 0;
+      code = 0;
       first = firstOf f (uniformsOf g .k) (uniformsOf g .v);
       second = secondOf f (uniformsOf g .k) (uniformsOf g .v);
       next = uniformsOf g .next;
@@ -109,7 +109,7 @@ pub pair-is : (f : ℕ) (g : Generator) → Sound g → pairsNumber g 1 ≡ 0
 unfolding pairOf
 pair-is f g h e =
     let (hk, hv) = numbers-bounded g h in
-    let accepted : uniformsOf g .number ≡ 0 = ap (λ (u : Uniforms). u .number) (uniforms-accepted g e) in
+    let accepted : uniformsOf g .code ≡ 0 = ap (λ (u : Uniforms). u .code) (uniforms-accepted g e) in
     rw (pairOf, accepted, accepts f (uniformsOf g .k) (uniformsOf g .v) hk hv)
 
 -- The samples are then those of their numbers.
@@ -121,7 +121,7 @@ samples-numbers f (suc n) g h none room =
     let (hk, hv) = numbers-bounded g h in
     let high : (uniformsOf g .k * 65536 + uniformsOf g .v) / 65536 ≡ uniformsOf g .k = omega (arith, hv) in
     let low : (uniformsOf g .k * 65536 + uniformsOf g .v) % 65536 ≡ uniformsOf g .v = omega (arith, hv) in
-    let accepted : pairsNumber g 1 ≡ 0 = pairs-accepted g 1 .1 (sound-accepted g h, omega arith, none) in
+    let accepted : pairsCode g 1 ≡ 0 = pairs-accepted g 1 .1 (sound-accepted g h, omega arith, none) in
     let next-is : uniformsOf g .next ≡ moved 1 g = ap (λ (u : Uniforms). u .next) (uniforms-accepted g accepted) in
     rw (pair-is f g h accepted, high, low)
     (ap (λ (l : List ℤ). firstOf f (uniformsOf g .k) (uniformsOf g .v) ∷ secondOf f (uniformsOf g .k) (uniformsOf g .v) ∷ l)

@@ -9,13 +9,13 @@ use lib.Dec.{eqb}
 use lib.IntN.{ℤ}
 use lib.ListN.{length}
 use Rattle.streams.specs.declared.Generator.{Generator}
-use Rattle.streams.specs.Streams.{noted, cleared, recordNumber, openNumber, noneOpenNumber, askedNumber, takenNumber, lengthNumber, countNumber, firstCause}
-use Rattle.streams.specs.Streams.{Call, noteNumber, ownNumber, roomNumber, numberOf}
+use Rattle.streams.specs.Streams.{noted, cleared, recordCode, openCode, noneOpenCode, askedCode, takenCode, lengthCode, countCode, firstCause}
+use Rattle.streams.specs.Streams.{Call, noteCode, ownCode, roomCode, codeOf}
 use Rattle.streams.specs.Streams.Call.{numbers, a-pair, a-skip, a-block, a-look, an-ask, a-take, give-up}
 use Rattle.streams.specs.Recurrence.{Sound}
 use Rattle.streams.proofs.Causes.{accepted-causes, just-taken}
 use Rattle.streams.proofs.Theorems.{sound-cleared, pairs-accepted}
-use Rattle.noise.specs.Noise.{pairOf, samples, blockNumber, blockHolds, lookHolds, takeHolds}
+use Rattle.noise.specs.Noise.{pairOf, samples, blockCode, blockHolds, lookHolds, takeHolds}
 use Rattle.noise.specs.Runs.{returned, pairsOut, handed}
 use Rattle.noise.proofs.Laws.{block-accepted, samples-noted}
 use Rattle.noise.proofs.Runs.{call-moves}
@@ -24,7 +24,7 @@ use Rattle.noise.proofs.Theorems.{block-holds}
 -- ---- Numbers
 
 abbrev pub ByNote : ℕ → Type 0
-ByNote number = (number ≡ 14) ⊎ ((number ≡ 15) ⊎ (number ≡ 16))
+ByNote code = (code ≡ 14) ⊎ ((code ≡ 15) ⊎ (code ≡ 16))
 
 -- Two numbers differ for the note alone.
 abbrev pub Alike : ℕ → ℕ → Type 0
@@ -39,8 +39,8 @@ alike-behind r m n h = by-test (eqb r 0)
     by-test false = inr (inr refl)
 
 -- 14 or not, and then the same causes
-open-alike : (g h : Generator) (causes : List ℕ) → Alike (firstCause (openNumber g ∷ causes)) (firstCause (openNumber h ∷ causes))
-unfolding openNumber
+open-alike : (g h : Generator) (causes : List ℕ) → Alike (firstCause (openCode g ∷ causes)) (firstCause (openCode h ∷ causes))
+unfolding openCode
 open-alike g h causes = by-tests (eqb (g .waiting) 0) (eqb (h .waiting) 0)
   where
     by-tests : (t u : Bool) → Alike (firstCause (cond t 0 14 ∷ causes)) (firstCause (cond u 0 14 ∷ causes))
@@ -50,8 +50,8 @@ open-alike g h causes = by-tests (eqb (g .waiting) 0) (eqb (h .waiting) 0)
 
 -- 15 or not, and then causes that are alike
 none-alike : (g h : Generator) (l m : List ℕ) → Alike (firstCause l) (firstCause m)
-    → Alike (firstCause (noneOpenNumber g ∷ l)) (firstCause (noneOpenNumber h ∷ m))
-unfolding noneOpenNumber
+    → Alike (firstCause (noneOpenCode g ∷ l)) (firstCause (noneOpenCode h ∷ m))
+unfolding noneOpenCode
 none-alike g h l m rest = by-tests (eqb (g .waiting) 0) (eqb (h .waiting) 0)
   where
     by-tests : (t u : Bool) → Alike (firstCause (cond t 15 0 ∷ l)) (firstCause (cond u 15 0 ∷ m))
@@ -60,12 +60,12 @@ none-alike g h l m rest = by-tests (eqb (g .waiting) 0) (eqb (h .waiting) 0)
     by-tests false false = rest
 
 -- 16 or not
-taken-or-not : (g : Generator) (n : ℕ) → (takenNumber g n ≡ 0) ⊎ (takenNumber g n ≡ 16)
-unfolding takenNumber
-taken-or-not g n = by-tests (eqb (askedNumber (g .asked)) 0) (eqb n (2 * g .asked))
+taken-or-not : (g : Generator) (n : ℕ) → (takenCode g n ≡ 0) ⊎ (takenCode g n ≡ 16)
+unfolding takenCode
+taken-or-not g n = by-tests (eqb (askedCode (g .asked)) 0) (eqb n (2 * g .asked))
   where
     Either : ℕ → Type 0
-    Either number = (number ≡ 0) ⊎ (number ≡ 16)
+    Either code = (code ≡ 0) ⊎ (code ≡ 16)
 
     by-tests : (t u : Bool) → Either (cond t (cond u 0 16) 16)
     by-tests true true = inl refl
@@ -73,60 +73,60 @@ taken-or-not g n = by-tests (eqb (askedNumber (g .asked)) 0) (eqb n (2 * g .aske
     by-tests false u = inr refl
 
 -- two that are taken into one block noted as many
-as-many : (g : Generator) (waiting asked n : ℕ) → takenNumber g n ≡ 0 → takenNumber (noted g waiting asked) n ≡ 0 → g .asked ≡ asked
+as-many : (g : Generator) (waiting asked n : ℕ) → takenCode g n ≡ 0 → takenCode (noted g waiting asked) n ≡ 0 → g .asked ≡ asked
 as-many g waiting asked n e f =
     let (_, first) = just-taken g n .0 e in
     let (_, second) = just-taken (noted g waiting asked) n .0 f in
     omega (arith, first, second)
 
 take-alike : (g : Generator) (waiting asked n : ℕ)
-    → Alike (firstCause (takenNumber g n ∷ countNumber g (g .asked) ∷ []))
-    (firstCause (takenNumber (noted g waiting asked) n ∷ countNumber (noted g waiting asked) asked ∷ []))
-unfolding countNumber
+    → Alike (firstCause (takenCode g n ∷ countCode g (g .asked) ∷ []))
+    (firstCause (takenCode (noted g waiting asked) n ∷ countCode (noted g waiting asked) asked ∷ []))
+unfolding countCode
 take-alike g waiting asked n = by-cases (taken-or-not g n) (taken-or-not (noted g waiting asked) n)
   where
-    by-cases : (takenNumber g n ≡ 0) ⊎ (takenNumber g n ≡ 16)
-        → (takenNumber (noted g waiting asked) n ≡ 0) ⊎ (takenNumber (noted g waiting asked) n ≡ 16)
-        → Alike (firstCause (takenNumber g n ∷ countNumber g (g .asked) ∷ []))
-        (firstCause (takenNumber (noted g waiting asked) n ∷ countNumber (noted g waiting asked) asked ∷ []))
+    by-cases : (takenCode g n ≡ 0) ⊎ (takenCode g n ≡ 16)
+        → (takenCode (noted g waiting asked) n ≡ 0) ⊎ (takenCode (noted g waiting asked) n ≡ 16)
+        → Alike (firstCause (takenCode g n ∷ countCode g (g .asked) ∷ []))
+        (firstCause (takenCode (noted g waiting asked) n ∷ countCode (noted g waiting asked) asked ∷ []))
     by-cases (inr e) f = rw e (inl (inr (inr refl)))
     by-cases (inl e) (inr f) = rw f (inr (inl (inr (inr refl))))
     by-cases (inl e) (inl f) = rw (e, f, as-many g waiting asked n e f) (inr (inr refl))
 
 -- The number of a call on two records that differ in their notes is the same, or is 14, 15 or 16 for one of them.
-pub note-numbers : (c : Call) (g : Generator) (waiting asked : ℕ) → Alike (numberOf c g) (numberOf c (noted g waiting asked))
-unfolding numberOf noteNumber ownNumber roomNumber recordNumber countNumber
+pub note-numbers : (c : Call) (g : Generator) (waiting asked : ℕ) → Alike (codeOf c g) (codeOf c (noted g waiting asked))
+unfolding codeOf noteCode ownCode roomCode recordCode countCode
 note-numbers c g waiting asked = by-call c
   where
     other : Generator
     other = noted g waiting asked
 
     opened : (causes : List ℕ)
-        → Alike (firstCause (recordNumber g ∷ openNumber g ∷ causes)) (firstCause (recordNumber g ∷ openNumber other ∷ causes))
-    opened causes = alike-behind (recordNumber g) _ _ (open-alike g other causes)
+        → Alike (firstCause (recordCode g ∷ openCode g ∷ causes)) (firstCause (recordCode g ∷ openCode other ∷ causes))
+    opened causes = alike-behind (recordCode g) _ _ (open-alike g other causes)
 
     closed : (l m : List ℕ) → Alike (firstCause l) (firstCause m)
-        → Alike (firstCause (recordNumber g ∷ noneOpenNumber g ∷ l)) (firstCause (recordNumber g ∷ noneOpenNumber other ∷ m))
-    closed l m rest = alike-behind (recordNumber g) _ _ (none-alike g other l m rest)
+        → Alike (firstCause (recordCode g ∷ noneOpenCode g ∷ l)) (firstCause (recordCode g ∷ noneOpenCode other ∷ m))
+    closed l m rest = alike-behind (recordCode g) _ _ (none-alike g other l m rest)
 
-    by-call : (c : Call) → Alike (numberOf c g) (numberOf c other)
-    by-call numbers = opened (0 ∷ countNumber g 1 ∷ [])
-    by-call a-pair = opened (0 ∷ countNumber g 1 ∷ [])
-    by-call (a-skip n) = opened (0 ∷ countNumber g n ∷ [])
-    by-call (a-block n) = opened (lengthNumber n ∷ countNumber g (n / 2) ∷ [])
+    by-call : (c : Call) → Alike (codeOf c g) (codeOf c other)
+    by-call numbers = opened (0 ∷ countCode g 1 ∷ [])
+    by-call a-pair = opened (0 ∷ countCode g 1 ∷ [])
+    by-call (a-skip n) = opened (0 ∷ countCode g n ∷ [])
+    by-call (a-block n) = opened (lengthCode n ∷ countCode g (n / 2) ∷ [])
     by-call (a-look n) = inr (inr refl)
-    by-call (an-ask n) = opened (askedNumber n ∷ countNumber g n ∷ [])
+    by-call (an-ask n) = opened (askedCode n ∷ countCode g n ∷ [])
     by-call (a-take n) =
         closed
-        (takenNumber g n ∷ countNumber g (g .asked) ∷ [])
-        (takenNumber other n ∷ countNumber other asked ∷ [])
+        (takenCode g n ∷ countCode g (g .asked) ∷ [])
+        (takenCode other n ∷ countCode other asked ∷ [])
         (take-alike g waiting asked n)
     by-call give-up = closed (0 ∷ 0 ∷ []) (0 ∷ 0 ∷ []) (inr (inr refl))
 
 -- ---- Registers and count
 
 -- Both accepted, it leaves the same registers and count.
-pub note-records : (c : Call) (g : Generator) (waiting asked : ℕ) → Sound g → numberOf c g ≡ 0 → numberOf c (noted g waiting asked) ≡ 0
+pub note-records : (c : Call) (g : Generator) (waiting asked : ℕ) → Sound g → codeOf c g ≡ 0 → codeOf c (noted g waiting asked) ≡ 0
     → cleared (returned c g .next) ≡ cleared (returned c (noted g waiting asked) .next)
 unfolding handed
 note-records c g waiting asked h e f =
@@ -136,7 +136,7 @@ note-records c g waiting asked h e f =
     ∙ rw (e, f, same) refl
     ∙ sym (call-moves c other (sound-cleared other .1 (sound-cleared g .0 h)))
   where
-    same-pairs : (c : Call) → ownNumber c g ≡ 0 → ownNumber c (noted g waiting asked) ≡ 0
+    same-pairs : (c : Call) → ownCode c g ≡ 0 → ownCode c (noted g waiting asked) ≡ 0
         → pairsOut c g ≡ pairsOut c (noted g waiting asked)
     same-pairs numbers x y = unfold pairsOut in refl
     same-pairs a-pair x y = unfold pairsOut in refl
@@ -144,14 +144,14 @@ note-records c g waiting asked h e f =
     same-pairs (a-block n) x y = unfold pairsOut in refl
     same-pairs (a-look n) x y = unfold pairsOut in refl
     same-pairs (an-ask n) x y = unfold pairsOut in refl
-    same-pairs (a-take n) x y = unfold pairsOut ownNumber in as-many g waiting asked n x y
+    same-pairs (a-take n) x y = unfold pairsOut ownCode in as-many g waiting asked n x y
     same-pairs give-up x y = unfold pairsOut in refl
 
 -- ---- Samples
 
 -- Both accepted, it gives the same samples: a block, a take and a pair; a look always.
 pub note-blocks : (f : ℕ) (g : Generator) (waiting asked : ℕ) (old : List ℤ) → Sound g
-    → blockNumber g (length old) ≡ 0 → blockNumber (noted g waiting asked) (length old) ≡ 0
+    → blockCode g (length old) ≡ 0 → blockCode (noted g waiting asked) (length old) ≡ 0
     → blockHolds f g old ≡ blockHolds f (noted g waiting asked) old
 note-blocks f g waiting asked old h e there =
     let n = length old / 2 in
@@ -163,15 +163,15 @@ note-blocks f g waiting asked old h e there =
     ∙ samples-noted f n asked g h none room)
 
 pub note-takes : (f : ℕ) (g : Generator) (waiting asked : ℕ) (old : List ℤ)
-    → numberOf (a-take (length old)) g ≡ 0 → numberOf (a-take (length old)) (noted g waiting asked) ≡ 0
+    → codeOf (a-take (length old)) g ≡ 0 → codeOf (a-take (length old)) (noted g waiting asked) ≡ 0
     → takeHolds f g old ≡ takeHolds f (noted g waiting asked) old
-unfolding takeHolds ownNumber
+unfolding takeHolds ownCode
 note-takes f g waiting asked old e there =
     let own = accepted-causes (a-take (length old)) g .0 e .2 in
     let own-there = accepted-causes (a-take (length old)) (noted g waiting asked) .0 there .2 in
     rw (e, there) (ap (λ (n : ℕ). samples f n (cleared g)) (as-many g waiting asked (length old) own own-there))
 
-pub note-pairs : (f : ℕ) (g : Generator) (waiting asked : ℕ) → Sound g → numberOf (a-skip 1) g ≡ 0 → numberOf (a-skip 1) (noted g waiting asked) ≡ 0
+pub note-pairs : (f : ℕ) (g : Generator) (waiting asked : ℕ) → Sound g → codeOf (a-skip 1) g ≡ 0 → codeOf (a-skip 1) (noted g waiting asked) ≡ 0
     → pairOf f g .first ∷ pairOf f g .second ∷ [] ≡ pairOf f (noted g waiting asked) .first ∷ pairOf f (noted g waiting asked) .second ∷ []
 unfolding samples
 note-pairs f g waiting asked h e there =

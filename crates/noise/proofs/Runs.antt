@@ -9,11 +9,11 @@ use native.Mathlib.Nat.{add-zero, zero-add}
 use native.Mathlib.Omega.{arith}
 use lib.Dec.{eqb}
 use borrow.Author.Tests.{eqb-true, eqb-false, ne-eqb}
-use Rattle.squares.specs.Squares.{repeat}
+use Rattle.bit_matrix.specs.Squares.{repeat}
 use Rattle.streams.specs.declared.Stream.{Stream}
 use Rattle.streams.specs.declared.Generator.{Generator}
-use Rattle.streams.specs.Streams.{advance, fresh, noted, cleared, recordNumber, openNumber, mostCount, countNumber, firstCause, ifAccepted}
-use Rattle.streams.specs.Streams.{Call, noteNumber, ownNumber, roomNumber, numberOf, pairsNumber, uniformsOf, after, skipOf, askOf, giveUpOf}
+use Rattle.streams.specs.Streams.{advance, fresh, noted, cleared, recordCode, openCode, mostCount, countCode, firstCause, ifAccepted}
+use Rattle.streams.specs.Streams.{Call, noteCode, ownCode, roomCode, codeOf, pairsCode, uniformsOf, after, skipOf, askOf, giveUpOf}
 use Rattle.streams.specs.Streams.Call.{numbers, a-pair, a-skip, a-block, a-look, an-ask, a-take, give-up}
 use Rattle.streams.specs.Recurrence.{InRange, Sound, moved, drawAt, seedFrom}
 use Rattle.streams.proofs.Causes.{lone-cause, accepted-causes, none-open, count-room, count-full}
@@ -25,21 +25,21 @@ use Rattle.noise.specs.Runs.{returned, run, sumOver, pairsOut, handed}
 -- ---- One call
 
 -- Every call returns the number of the one chain of tests.
-pub returned-number : (c : Call) (g : Generator) → returned c g .number ≡ numberOf c g
-unfolding returned uniformsOf pairOf skipOf blockOf lookOf askOf takeOf giveUpOf numberOf noteNumber ownNumber roomNumber recordNumber openNumber countNumber
-returned-number numbers g = refl
-returned-number a-pair g = refl
-returned-number (a-skip n) g = refl
-returned-number (a-block n) g = refl
-returned-number (a-look n) g = refl
-returned-number (an-ask n) g = refl
-returned-number (a-take n) g = refl
-returned-number give-up g = refl
+pub returned-code : (c : Call) (g : Generator) → returned c g .code ≡ codeOf c g
+unfolding returned uniformsOf pairOf skipOf blockOf lookOf askOf takeOf giveUpOf codeOf noteCode ownCode roomCode recordCode openCode countCode
+returned-code numbers g = refl
+returned-code a-pair g = refl
+returned-code (a-skip n) g = refl
+returned-code (a-block n) g = refl
+returned-code (a-look n) g = refl
+returned-code (an-ask n) g = refl
+returned-code (a-take n) g = refl
+returned-code give-up g = refl
 
 -- What a pair, a block, a look and a take return at any number of fraction bits is what the call returns: a run of calls of 16 and of 18 bits, mixed, is a
 -- run of calls, and whatever is proved of runs is proved of it.
 pub either-width : (f n : ℕ) (g : Generator)
-    → (returned a-pair g ≡ record { number = pairOf f g .number; next = pairOf f g .next })
+    → (returned a-pair g ≡ record { code = pairOf f g .code; next = pairOf f g .next })
     × (returned (a-block n) g ≡ blockOf g n)
     × (returned (a-look n) g ≡ lookOf g n)
     × (returned (a-take n) g ≡ takeOf g n)
@@ -66,29 +66,29 @@ same-or-same true x = refl
 same-or-same false x = refl
 
 -- Refused, it returns the record passed in.
-pub next-is : (c : Call) (g : Generator) → returned c g .next ≡ ifAccepted (numberOf c g) (leftBy c g) g
-unfolding returned leftBy numberOf noteNumber ownNumber roomNumber uniformsOf pairOf skipOf blockOf lookOf askOf takeOf giveUpOf after
-next-is numbers g = once-or-not (eqb (pairsNumber g 1) 0) _ _
-next-is a-pair g = once-or-not (eqb (pairsNumber g 1) 0) _ _
+pub next-is : (c : Call) (g : Generator) → returned c g .next ≡ ifAccepted (codeOf c g) (leftBy c g) g
+unfolding returned leftBy codeOf noteCode ownCode roomCode uniformsOf pairOf skipOf blockOf lookOf askOf takeOf giveUpOf after
+next-is numbers g = once-or-not (eqb (pairsCode g 1) 0) _ _
+next-is a-pair g = once-or-not (eqb (pairsCode g 1) 0) _ _
 next-is (a-skip n) g = refl
 next-is (a-block n) g = refl
-next-is (a-look n) g = same-or-same (eqb (numberOf (a-look n) g) 0) g
+next-is (a-look n) g = same-or-same (eqb (codeOf (a-look n) g) 0) g
 next-is (an-ask n) g = refl
 next-is (a-take n) g = refl
 next-is give-up g = refl
 
 -- Accepted, it leaves both streams and the count moved by the pairs that it hands out or skips.
-left-moved : (c : Call) (g : Generator) → Sound g → numberOf c g ≡ 0 → cleared (leftBy c g) ≡ moved (pairsOut c g) (cleared g)
-unfolding leftBy pairsOut noteNumber roomNumber repeat
+left-moved : (c : Call) (g : Generator) → Sound g → codeOf c g ≡ 0 → cleared (leftBy c g) ≡ moved (pairsOut c g) (cleared g)
+unfolding leftBy pairsOut noteCode roomCode repeat
 left-moved c g h e = by-call c (accepted-causes c g .0 e)
   where
-    drawn : (n : ℕ) → openNumber g ≡ 0 → countNumber g n ≡ 0 → cleared (after n g) ≡ moved n (cleared g)
+    drawn : (n : ℕ) → openCode g ≡ 0 → countCode g n ≡ 0 → cleared (after n g) ≡ moved n (cleared g)
     drawn n note room = ap cleared (after-moved n g h (none-open g .0 note) (count-room g n .0 room))
 
     still : cleared g ≡ moved 0 (cleared g)
     still = rw (add-zero (g .count))
 
-    by-call : (c : Call) → (recordNumber g ≡ 0) × (noteNumber c g ≡ 0) × (ownNumber c g ≡ 0) × (roomNumber c g ≡ 0)
+    by-call : (c : Call) → (recordCode g ≡ 0) × (noteCode c g ≡ 0) × (ownCode c g ≡ 0) × (roomCode c g ≡ 0)
         → cleared (leftBy c g) ≡ moved (pairsOut c g) (cleared g)
     by-call numbers a = drawn 1 (a .1) (a .3)
     by-call a-pair a = drawn 1 (a .1) (a .3)
@@ -103,9 +103,9 @@ left-moved c g h e = by-call c (accepted-causes c g .0 e)
 -- So every call on fit streams does, refused ones by none.
 pub call-moves : (c : Call) (g : Generator) → Sound g → cleared (returned c g .next) ≡ moved (handed c g) (cleared g)
 unfolding handed repeat
-call-moves c g h = ap cleared (next-is c g) ∙ by-test (eqb (numberOf c g) 0) refl
+call-moves c g h = ap cleared (next-is c g) ∙ by-test (eqb (codeOf c g) 0) refl
   where
-    by-test : (t : Bool) → eqb (numberOf c g) 0 ≡ t
+    by-test : (t : Bool) → eqb (codeOf c g) 0 ≡ t
         → cleared (cond t (leftBy c g) g) ≡ moved (cond t (pairsOut c g) 0) (cleared g)
     by-test true e = left-moved c g h (eqb-true _ _ e)
     by-test false e = rw (add-zero (g .count))
@@ -115,12 +115,12 @@ call-sound c g h =
     sound-cleared _ .1 (rw (call-moves c g h) (moved-sound (handed c g) (cleared g) (sound-cleared g .0 h)))
 
 -- A call on unfit streams is refused with the record's number,
-pub unfit-call : (c : Call) (g : Generator) → (recordNumber g ≡ 0 → ⊥) → numberOf c g ≡ recordNumber g
-unfolding numberOf
-unfit-call c g h = rw (ne-eqb (recordNumber g) 0 h)
+pub unfit-call : (c : Call) (g : Generator) → (recordCode g ≡ 0 → ⊥) → codeOf c g ≡ recordCode g
+unfolding codeOf
+unfit-call c g h = rw (ne-eqb (recordCode g) 0 h)
 
 -- hands out nothing and leaves the record.
-unfit-stays : (c : Call) (g : Generator) → (recordNumber g ≡ 0 → ⊥) → (returned c g .next ≡ g) × (handed c g ≡ 0)
+unfit-stays : (c : Call) (g : Generator) → (recordCode g ≡ 0 → ⊥) → (returned c g .next ≡ g) × (handed c g ≡ 0)
 unfolding handed
 unfit-stays c g h = (next-is c g ∙ rw (unfit-call c g h, ne-eqb _ _ h), rw (unfit-call c g h, ne-eqb _ _ h))
 
@@ -141,7 +141,7 @@ run-sound l g h =
     sound-cleared _ .1 (rw (run-moved l g h) (moved-sound (sumOver handed l g) (cleared g) (sound-cleared g .0 h)))
 
 -- A run on unfit streams leaves the record, and hands out nothing.
-run-unfit : (l : List Call) (g : Generator) → (recordNumber g ≡ 0 → ⊥) → (run l g ≡ g) × (sumOver handed l g ≡ 0)
+run-unfit : (l : List Call) (g : Generator) → (recordCode g ≡ 0 → ⊥) → (run l g ≡ g) × (sumOver handed l g ≡ 0)
 unfolding run sumOver
 run-unfit [] g h = (refl, refl)
 run-unfit (c ∷ l) g h =
@@ -151,9 +151,9 @@ run-unfit (c ∷ l) g h =
 
 -- The count, after any run on any record: what it was, and the pairs handed out or skipped since.
 pub run-count : (l : List Call) (g : Generator) → InRange (g .a) → InRange (g .b) → run l g .count ≡ g .count + sumOver handed l g
-run-count l g ra rb = by-test (eqb (recordNumber g) 0) refl
+run-count l g ra rb = by-test (eqb (recordCode g) 0) refl
   where
-    by-test : (t : Bool) → eqb (recordNumber g) 0 ≡ t → run l g .count ≡ g .count + sumOver handed l g
+    by-test : (t : Bool) → eqb (recordCode g) 0 ≡ t → run l g .count ≡ g .count + sumOver handed l g
     by-test true e = ap (λ (r : Generator). r .count) (run-moved l g (sound g ra rb (eqb-true _ _ e)))
     by-test false e =
         let (same, none) = run-unfit l g (eqb-false _ _ e) in
@@ -168,26 +168,26 @@ count-from-seeding a b ra rb l =
 
 -- A generator once accepted is later refused only for its note, for the call's own arguments, or for its count,
 pub never-refused : (l : List Call) (c : Call) (g : Generator) → Sound g
-    → numberOf c (run l g) ≡ firstCause (noteNumber c (run l g) ∷ ownNumber c (run l g) ∷ roomNumber c (run l g) ∷ [])
+    → codeOf c (run l g) ≡ firstCause (noteCode c (run l g) ∷ ownCode c (run l g) ∷ roomCode c (run l g) ∷ [])
 never-refused l c g h = fit-call c (run l g) (run-sound l g h)
 
 -- for its count just where the sum would pass the most;
 pub full-just-where : (l : List Call) (c : Call) (g : Generator) (n : ℕ) → Sound g
-    → noteNumber c (run l g) ≡ 0 → ownNumber c (run l g) ≡ 0 → roomNumber c (run l g) ≡ countNumber (run l g) n
-    → (numberOf c (run l g) ≡ 13) ↔ (mostCount < g .count + sumOver handed l g + n)
+    → noteCode c (run l g) ≡ 0 → ownCode c (run l g) ≡ 0 → roomCode c (run l g) ≡ countCode (run l g) n
+    → (codeOf c (run l g) ≡ 13) ↔ (mostCount < g .count + sumOver handed l g + n)
 full-just-where l c g n h note own room =
-    let number-is : numberOf c (run l g) ≡ countNumber (run l g) n
+    let code-is : codeOf c (run l g) ≡ countCode (run l g) n
     = never-refused l c g h ∙ rw (note, own, room) (lone-cause _) in
-    rw (number-is, ← run-count l g (h .range-a) (h .range-b)) (count-full (run l g) n)
+    rw (code-is, ← run-count l g (h .range-a) (h .range-b)) (count-full (run l g) n)
 
 -- and so from seeding on: once six numbers are accepted, every call of every run.
-pub from-seeding : (a b : Stream) → InRange a → InRange b → seedFrom a b .number ≡ 0
+pub from-seeding : (a b : Stream) → InRange a → InRange b → seedFrom a b .code ≡ 0
     → (l : List Call) (c : Call)
-    → numberOf c (run l (seedFrom a b .next))
+    → codeOf c (run l (seedFrom a b .next))
     ≡ firstCause
-    (noteNumber c (run l (seedFrom a b .next))
-    ∷ ownNumber c (run l (seedFrom a b .next))
-    ∷ roomNumber c (run l (seedFrom a b .next))
+    (noteCode c (run l (seedFrom a b .next))
+    ∷ ownCode c (run l (seedFrom a b .next))
+    ∷ roomCode c (run l (seedFrom a b .next))
     ∷ [])
 from-seeding a b ra rb h l c =
     let (is-fresh, is-sound) = seeded a b ra rb h in
@@ -197,11 +197,11 @@ from-seeding a b ra rb h l c =
 
 -- The numbers of each accepted pair after any run are those of the next draw of both streams, whose bits are L'Ecuyer's by
 -- `stream-history`.
-pub pair-history : (l : List Call) (g : Generator) → Sound g → numberOf numbers (run l g) ≡ 0
+pub pair-history : (l : List Call) (g : Generator) → Sound g → codeOf numbers (run l g) ≡ 0
     → (uniformsOf (run l g) .k
     ≡ drawAt (g .a) (suc (sumOver handed l g)) * 65536 + drawAt (g .b) (suc (sumOver handed l g)) / 65536)
     × (uniformsOf (run l g) .v ≡ drawAt (g .b) (suc (sumOver handed l g)) % 65536)
-unfolding numberOf noteNumber ownNumber roomNumber
+unfolding codeOf noteCode ownCode roomCode
 pair-history l g h e =
     let n = sumOver handed l g in
     let a-is : run l g .a ≡ repeat advance n (g .a) = ap (λ (r : Generator). r .a) (run-moved l g h) in

@@ -8,7 +8,7 @@ use lib.ListN.{length, take, drop, length-take, length-drop}
 use lib.Seq.{take-append-add, take-at}
 use borrow.Rule.Slice.PartMut.{putMid, postOf, same-len-mid}
 use Rattle.streams.specs.declared.Generator.{Generator}
-use Rattle.streams.specs.Streams.{mostCount, pairsNumber, after}
+use Rattle.streams.specs.Streams.{mostCount, pairsCode, after}
 use Rattle.streams.specs.Recurrence.{Sound}
 use Rattle.streams.proofs.Theorems.{sound-accepted, pairs-accepted, moved-sound, after-add, after-moved}
 use Rattle.noise.specs.Noise.{samples}
@@ -19,8 +19,8 @@ use Rattle.noise.proofs.Laws.{samples-add, length-samples}
 pub lent-size : (n : ℕ) (z : List ℕ) → length z ≡ 32 → n ≤ 32 → length (take (n - 0) z) ≡ n
 lent-size n z e h = simp length-take (omega arith)
 
-pub asked : (g : Generator) (n : ℕ) (z : List ℕ) (out : List ℤ) → length z ≡ 32 → n ≤ 32 → pairsNumber g n ≡ 0 → length out ≡ 2 * n
-    → (pairsNumber g (length (take (n - 0) z)) ≡ 0) × (length out ≡ 2 * length (take (n - 0) z))
+pub asked : (g : Generator) (n : ℕ) (z : List ℕ) (out : List ℤ) → length z ≡ 32 → n ≤ 32 → pairsCode g n ≡ 0 → length out ≡ 2 * n
+    → (pairsCode g (length (take (n - 0) z)) ≡ 0) × (length out ≡ 2 * length (take (n - 0) z))
 asked g n z out e h p l = rw (lent-size n z e h) (p, l)
 
 -- the first `at` samples are written
@@ -32,7 +32,7 @@ pub record Reached (f : ℕ) (out₀ : List ℤ) (g : Generator) (out : List ℤ
   pub done : take place out ≡ samples f (place / 2) g
 
 -- the count has room for a part of the pairs
-pub pairs-of-part : (m n : ℕ) (g : Generator) → Sound g → g .waiting ≡ 0 → g .count + (m + n) ≤ mostCount → pairsNumber (after m g) n ≡ 0
+pub pairs-of-part : (m n : ℕ) (g : Generator) → Sound g → g .waiting ≡ 0 → g .count + (m + n) ≤ mostCount → pairsCode (after m g) n ≡ 0
 pairs-of-part m n g h none room =
     rw (after-moved m g h none (omega arith)) (pairs-accepted _ n .1 (sound-accepted _ (moved-sound m g h), omega arith, none))
 

@@ -25,31 +25,31 @@ use Rattle.sample.specs.Readings.{Reading, readings, readings-hold}
 use Rattle.sample.specs.declared.Samples.{Samples}
 use Rattle.sample.proofs.Closeness.{Room, samples-close}
 use Rattle.sample.proofs.Theorems.{theorems}
-use Rattle.noise.specs.Noise.{pairOf, samples, blockNumber, blockOf, blockHolds}
+use Rattle.noise.specs.Noise.{pairOf, samples, blockCode, blockOf, blockHolds}
 use Rattle.noise.specs.Readings.{Check, of-samples, of-draw, AllHold, twelve}
-use Rattle.noise.proofs.Laws.{block-accepted, pair-number, pair-is, samples-add, length-samples}
+use Rattle.noise.proofs.Laws.{block-accepted, pair-code, pair-is, samples-add, length-samples}
 
 -- ---- Blocks
 
 -- An accepted block holds the samples of half as many pairs, whatever it held before,
-pub block-holds : (f : ℕ) (g : Generator) (old : List ℤ) → blockNumber g (length old) ≡ 0 → blockHolds f g old ≡ samples f (length old / 2) g
+pub block-holds : (f : ℕ) (g : Generator) (old : List ℤ) → blockCode g (length old) ≡ 0 → blockHolds f g old ≡ samples f (length old / 2) g
 unfolding blockHolds
 block-holds f g old e = rw (blockHolds, e)
 
 -- and leaves the streams and the count as many pairs on.
-pub block-moves : (g : Generator) (n : ℕ) → Sound g → blockNumber g n ≡ 0 → blockOf g n ≡ record { number = 0; next = moved (n / 2) g }
+pub block-moves : (g : Generator) (n : ℕ) → Sound g → blockCode g n ≡ 0 → blockOf g n ≡ record { code = 0; next = moved (n / 2) g }
 unfolding blockOf
 block-moves g n h e =
     let (_, room, none) = pairs-accepted g (n / 2) .0 (block-accepted g n .0 e .0) in
     rw (blockOf, e, after-moved (n / 2) g h none room)
 
 -- Two blocks are accepted, one after the other, where each is even and one of their sum is accepted,
-pub blocks-accepted : (g : Generator) (n m : ℕ) → Sound g → n % 2 ≡ 0 → blockNumber g (n + m) ≡ 0
-    → (blockNumber g n ≡ 0) × (blockNumber (blockOf g n .next) m ≡ 0)
+pub blocks-accepted : (g : Generator) (n m : ℕ) → Sound g → n % 2 ≡ 0 → blockCode g (n + m) ≡ 0
+    → (blockCode g n ≡ 0) × (blockCode (blockOf g n .next) m ≡ 0)
 blocks-accepted g n m h en e =
     let (pairs, whole) = block-accepted g (n + m) .0 e in
     let (fits, room, none) = pairs-accepted g ((n + m) / 2) .0 pairs in
-    let first : blockNumber g n ≡ 0 = block-accepted g n .1 (pairs-accepted g (n / 2) .1 (fits, omega arith, none), en) in
+    let first : blockCode g n ≡ 0 = block-accepted g n .1 (pairs-accepted g (n / 2) .1 (fits, omega arith, none), en) in
     let fits-after = sound-accepted _ (moved-sound (n / 2) g h) in (
       first,
       rw (block-moves g n h first)
@@ -57,7 +57,7 @@ blocks-accepted g n m h en e =
     )
 
 -- and a block of n + m is then a block of n and one of m on the record returned: the samples,
-pub blocks-hold : (f : ℕ) (g : Generator) (x y : List ℤ) → Sound g → length x % 2 ≡ 0 → blockNumber g (length (x ++ y)) ≡ 0
+pub blocks-hold : (f : ℕ) (g : Generator) (x y : List ℤ) → Sound g → length x % 2 ≡ 0 → blockCode g (length (x ++ y)) ≡ 0
     → blockHolds f g (x ++ y) ≡ blockHolds f g x ++ blockHolds f (blockOf g (length x) .next) y
 blocks-hold f g x y h ex e =
     let n = length x / 2 in
@@ -70,24 +70,24 @@ blocks-hold f g x y h ex e =
     (after-moved n g h none room ∙ sym (ap (λ (r : RecordAnswer). r .next) (block-moves g (length x) h first))))
 
 -- and the record.
-pub blocks-next : (g : Generator) (n m : ℕ) → Sound g → n % 2 ≡ 0 → blockNumber g (n + m) ≡ 0
+pub blocks-next : (g : Generator) (n m : ℕ) → Sound g → n % 2 ≡ 0 → blockCode g (n + m) ≡ 0
     → blockOf g (n + m) ≡ blockOf (blockOf g n .next) m
 blocks-next g n m h en e =
     let (first, second) = blocks-accepted g n m h en e in
     let half : n / 2 + m / 2 ≡ (n + m) / 2 = omega arith in
     rw (block-moves g (n + m) h e, block-moves g n h first)
     (sym (block-moves (moved (n / 2) g) m (moved-sound (n / 2) g h) (rw (block-moves g n h first) at second)
-    ∙ rw (← half) (ap (λ (next : Generator). record { number = 0; next = next }) (moved-add (n / 2) (m / 2) g))))
+    ∙ rw (← half) (ap (λ (next : Generator). record { code = 0; next = next }) (moved-add (n / 2) (m / 2) g))))
 
 -- A block of 2 n samples after a skip of m pairs is the last 2 n of a block of 2 (m + n), where that is accepted.
 pub skip-block : (f m n : ℕ) (g : Generator) (long short : List ℤ) → Sound g → length long ≡ 2 * (m + n) → length short ≡ 2 * n
-    → blockNumber g (length long) ≡ 0 → blockHolds f (skipOf g m .next) short ≡ drop (2 * m) (blockHolds f g long)
+    → blockCode g (length long) ≡ 0 → blockHolds f (skipOf g m .next) short ≡ drop (2 * m) (blockHolds f g long)
 skip-block f m n g long short h el es e =
     let whole : length long / 2 ≡ m + n = omega arith in
     let part : length short / 2 ≡ n = omega arith in
     let (fits, room, none) = pairs-accepted g (length long / 2) .0 (block-accepted g (length long) .0 e .0) in
-    let first : skipOf g m .number ≡ 0 = skip-accepted m g .1 (fits, omega arith, none) in
-    let second : blockNumber (moved m g) (length short) ≡ 0
+    let first : skipOf g m .code ≡ 0 = skip-accepted m g .1 (fits, omega arith, none) in
+    let second : blockCode (moved m g) (length short) ≡ 0
     = block-accepted (moved m g) (length short) .1
     (pairs-accepted _ (length short / 2) .1 (sound-accepted _ (moved-sound m g h), omega arith, none), omega arith) in
     rw (
@@ -106,7 +106,7 @@ skip-block f m n g long short h el es e =
 -- No sample of a pair, refused or not, has a size above the largest: 16879 at 11 fraction bits, 67517 at 13.
 pub pair-sizes : (f : ℕ) (g : Generator) → (natAbs (pairOf f g .first) ≤ largest f) × (natAbs (pairOf f g .second) ≤ largest f)
 unfolding pairOf
-pair-sizes f g = by-test (eqb (uniformsOf g .number) 0)
+pair-sizes f g = by-test (eqb (uniformsOf g .code) 0)
   where
     small : ℤ → Type 0
     small z = natAbs z ≤ largest f
@@ -136,21 +136,21 @@ samples-second f (suc n) (suc i) g d h =
 
 -- Closeness, of an accepted pair at f fraction bits, for a limit that has room there (nine sixteenths at 11: demand 3; three quarters at 13): each
 -- sample is less than that from its member of the exact pair of its two numbers, (2k + 1) over 2^49 and v over 65536.
-pub pair-close : (limit : Fraction) (f : ℕ) (g : Generator) → Room limit f → Sound g → pairOf f g .number ≡ 0
+pub pair-close : (limit : Fraction) (f : ℕ) (g : Generator) → Room limit f → Sound g → pairOf f g .code ≡ 0
     → Close limit f (inverse (uniformsOf g .k)) (uniformsOf g .v) (pairOf f g .first) (pairOf f g .second)
 pair-close limit f g enough h e =
     let (hk, hv) = numbers-bounded g h in
-    rw (pair-is f g h (rw (pair-number f g) at e)) (samples-close limit f (uniformsOf g .k) (uniformsOf g .v) enough hk hv)
+    rw (pair-is f g h (rw (pair-code f g) at e)) (samples-close limit f (uniformsOf g .k) (uniformsOf g .v) enough hk hv)
 
 -- n pairs on, the next pair is accepted where no request is open and the count has room for it: so is each of the 500 pairs of a job, whose
 -- record is as seeding makes it.
-pub pair-accepted : (f n : ℕ) (g : Generator) → Sound g → g .waiting ≡ 0 → g .count + n < mostCount → pairOf f (after n g) .number ≡ 0
+pub pair-accepted : (f n : ℕ) (g : Generator) → Sound g → g .waiting ≡ 0 → g .count + n < mostCount → pairOf f (after n g) .code ≡ 0
 pair-accepted f n g h none room =
-    rw (pair-number f (after n g), after-moved n g h none (omega arith))
+    rw (pair-code f (after n g), after-moved n g h none (omega arith))
     (pairs-accepted (moved n g) 1 .1 (sound-accepted _ (moved-sound n g h), omega arith, none))
 
 -- The same of an accepted block: so is every sample of it from that of the pair in its place.
-pub block-close : (limit : Fraction) (f : ℕ) (g : Generator) (old : List ℤ) (i : ℕ) (d : ℤ) → Room limit f → Sound g → blockNumber g (length old) ≡ 0
+pub block-close : (limit : Fraction) (f : ℕ) (g : Generator) (old : List ℤ) (i : ℕ) (d : ℤ) → Room limit f → Sound g → blockCode g (length old) ≡ 0
     → i < length old / 2
     → Close limit f (inverse (uniformsOf (after i g) .k)) (uniformsOf (after i g) .v)
     (getD (blockHolds f g old) (2 * i) d) (getD (blockHolds f g old) (2 * i + 1) d)
@@ -165,7 +165,7 @@ pub blocks-alike : (g h : Generator) (x y : List ℤ) → g ≡ h → length x �
 blocks-alike g h x y same size = rw (same, size)
 
 pub pairs-alike : (g : Generator)
-    → (pairOf fractionBits18 g .number ≡ pairOf fractionBits g .number) × (pairOf fractionBits18 g .next ≡ pairOf fractionBits g .next)
+    → (pairOf fractionBits18 g .code ≡ pairOf fractionBits g .code) × (pairOf fractionBits18 g .next ≡ pairOf fractionBits g .next)
 unfolding pairOf
 pairs-alike g = (refl, refl)
 
@@ -173,7 +173,7 @@ pairs-alike g = (refl, refl)
 
 -- an equation of two lists holds at each place
 each-holds : (l : List Reading) → map (λ (r : Reading). samplesOf fractionBits (r .k) (r .v)) l
-    ≡ map (λ (r : Reading). record { number = 0; first = r .first; second = r .second }) l
+    ≡ map (λ (r : Reading). record { code = 0; first = r .first; second = r .second }) l
     → (rest : List Check) → AllHold rest → AllHold (map of-samples l ++ rest)
 unfolding map _++_
 each-holds [] e rest h = h

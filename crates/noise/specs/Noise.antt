@@ -7,7 +7,7 @@ use lib.ListN.{length}
 use Rattle.streams.specs.declared.Generator.{Generator}
 use Rattle.streams.specs.declared.Uniforms.{Uniforms}
 use Rattle.streams.specs.declared.RecordAnswer.{RecordAnswer}
-use Rattle.streams.specs.Streams.{cleared, numberOf, ifAccepted, uniformsOf, after}
+use Rattle.streams.specs.Streams.{cleared, codeOf, ifAccepted, uniformsOf, after}
 use Rattle.streams.specs.Streams.Call.{a-block, a-take}
 use Rattle.sample.specs.declared.Samples.{Samples}
 use Rattle.sample.specs.Sample.{samplesOf}
@@ -19,15 +19,15 @@ abbrev pub sampledOf : ℕ → Uniforms → PairAnswer
 sampledOf f drawn =
     let s : Samples = samplesOf f (drawn .k) (drawn .v) in
     record {
-      number = drawn .number;
-      first = ifAccepted (drawn .number) (s .first) (pos 0);
-      second = ifAccepted (drawn .number) (s .second) (pos 0);
+      code = drawn .code;
+      first = ifAccepted (drawn .code) (s .first) (pos 0);
+      second = ifAccepted (drawn .code) (s .second) (pos 0);
       next = drawn .next;
     }
 
 -- The same answer in the struct of the wide samples.
 abbrev pub widePair : PairAnswer → PairAnswer18
-widePair p = record { number = p .number; first = p .first; second = p .second; next = p .next }
+widePair p = record { code = p .code; first = p .first; second = p .second; next = p .next }
 
 -- A pair: two numbers drawn, and their samples.
 unfoldable pub pairOf : ℕ → Generator → PairAnswer
@@ -39,20 +39,20 @@ samples f zero g = []
 samples f (suc n) g = pairOf f g .first ∷ pairOf f g .second ∷ samples f n (pairOf f g .next)
 
 -- The number of a block of n elements.
-abbrev pub blockNumber : Generator → ℕ → ℕ
-blockNumber g n = numberOf (a-block n) g
+abbrev pub blockCode : Generator → ℕ → ℕ
+blockCode g n = codeOf (a-block n) g
 
 -- A block of n elements: the record n / 2 pairs on; refused, the record passed in.
 unfoldable pub blockOf : Generator → ℕ → RecordAnswer
-blockOf g n = record { number = blockNumber g n; next = ifAccepted (blockNumber g n) (after (n / 2) g) g }
+blockOf g n = record { code = blockCode g n; next = ifAccepted (blockCode g n) (after (n / 2) g) g }
 
 -- What the lent block then holds: the samples of those pairs; refused, what it held.
 unfoldable pub blockHolds : ℕ → Generator → List ℤ → List ℤ
-blockHolds f g old = ifAccepted (blockNumber g (length old)) (samples f (length old / 2) g) old
+blockHolds f g old = ifAccepted (blockCode g (length old)) (samples f (length old / 2) g) old
 
 -- A look at a block of n elements (document 02, Jobs 6 and 7): "it shows and refuses as if none were open, and returns the note too".
 unfoldable pub lookOf : Generator → ℕ → RecordAnswer
-lookOf g n = record { number = blockOf (cleared g) n .number; next = g }
+lookOf g n = record { code = blockOf (cleared g) n .code; next = g }
 
 -- What the lent block then holds: what "a real block call on a copy of the record would give", with no request open.
 unfoldable pub lookHolds : ℕ → Generator → List ℤ → List ℤ
@@ -61,8 +61,8 @@ lookHolds f g old = blockHolds f (cleared g) old
 -- Taking into a block of n elements (document 02, Job 7): the record as many pairs on as it noted, its note cleared; refused, the record passed in.
 unfoldable pub takeOf : Generator → ℕ → RecordAnswer
 takeOf g n =
-    record { number = numberOf (a-take n) g; next = ifAccepted (numberOf (a-take n) g) (after (g .asked) (cleared g)) g }
+    record { code = codeOf (a-take n) g; next = ifAccepted (codeOf (a-take n) g) (after (g .asked) (cleared g)) g }
 
 -- What the lent block then holds: the samples of those pairs; refused, what it held.
 unfoldable pub takeHolds : ℕ → Generator → List ℤ → List ℤ
-takeHolds f g old = ifAccepted (numberOf (a-take (length old)) g) (samples f (g .asked) (cleared g)) old
+takeHolds f g old = ifAccepted (codeOf (a-take (length old)) g) (samples f (g .asked) (cleared g)) old

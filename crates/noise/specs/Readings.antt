@@ -13,7 +13,7 @@ pub data Check : Type 0 where
 
 -- the pair's answer, or the draw of that number
 abbrev pub Holds : Check → Type 0
-Holds (of-samples r) = samplesOf fractionBits (r .k) (r .v) ≡ record { number = 0; first = r .first; second = r .second }
+Holds (of-samples r) = samplesOf fractionBits (r .k) (r .v) ≡ record { code = 0; first = r .first; second = r .second }
 Holds (of-draw t word) = drawAt (record { s0 = 2; s1 = 8; s2 = 16 }) t ≡ word
 
 abbrev pub AllHold : List Check → Type 0

@@ -3,7 +3,7 @@ use mathlib.Core.List.{List, [], _∷_}
 use Prim.Native.Nat.{ℕ, _+_, _/_}
 use Rattle.streams.specs.declared.Generator.{Generator}
 use Rattle.streams.specs.declared.RecordAnswer.{RecordAnswer}
-use Rattle.streams.specs.Streams.{Call, numberOf, ifAccepted, uniformsOf, skipOf, askOf, giveUpOf}
+use Rattle.streams.specs.Streams.{Call, codeOf, ifAccepted, uniformsOf, skipOf, askOf, giveUpOf}
 use Rattle.streams.specs.Streams.Call.{numbers, a-pair, a-skip, a-block, a-look, an-ask, a-take, give-up}
 use Rattle.sample.specs.Steps.{fractionBits}
 use Rattle.noise.specs.Noise.{pairOf, blockOf, lookOf, takeOf}
@@ -11,8 +11,8 @@ use Rattle.noise.specs.Noise.{pairOf, blockOf, lookOf, takeOf}
 -- The number and the record that a call returns. Neither depends on the width of the samples: block and block18 are both `a-block`, and so for pairs,
 -- looks and takes (`either-width`).
 unfoldable pub returned : Call → Generator → RecordAnswer
-returned numbers g = record { number = uniformsOf g .number; next = uniformsOf g .next }
-returned a-pair g = record { number = pairOf fractionBits g .number; next = pairOf fractionBits g .next }
+returned numbers g = record { code = uniformsOf g .code; next = uniformsOf g .next }
+returned a-pair g = record { code = pairOf fractionBits g .code; next = pairOf fractionBits g .next }
 returned (a-skip n) g = skipOf g n
 returned (a-block n) g = blockOf g n
 returned (a-look n) g = lookOf g n
@@ -43,4 +43,4 @@ pairsOut give-up g = 0
 
 -- The pairs that it hands out or skips: refused, none.
 unfoldable pub handed : Call → Generator → ℕ
-handed c g = ifAccepted (numberOf c g) (pairsOut c g) 0
+handed c g = ifAccepted (codeOf c g) (pairsOut c g) 0

@@ -3,28 +3,28 @@
 ghost use mathlib.Core.Path.{_≡_};
 ghost use Prim.Native.Nat.{_+_, _*_, _/_, _%_, _≤_, min};
 ghost use lib.ListN.{length};
-ghost use Rattle.streams.specs.Streams.{lengthNumber, takenNumber, numberOf, pairsNumber, after};
+ghost use Rattle.streams.specs.Streams.{lengthCode, takenCode, codeOf, pairsCode, after};
 ghost use Rattle.streams.specs.Streams.Call.{a-take};
 ghost use Rattle.sample.specs.Steps.{fractionBits, fractionBits18};
-ghost use Rattle.noise.specs.Noise.{sampledOf, widePair, pairOf, blockNumber, blockOf, blockHolds, lookOf, lookHolds, takeOf, takeHolds};
+ghost use Rattle.noise.specs.Noise.{sampledOf, widePair, pairOf, blockCode, blockOf, blockHolds, lookOf, lookHolds, takeOf, takeHolds};
 ghost use Rattle.noise.specs.Private.{stretchLength, numbers, PairsDrawn};
 use lanes::Both;
 use lanes::draw_pairs;
 use streams::Generator;
 use streams::RecordAnswer;
 use streams::Uniforms;
-use streams::asked_number;
+use streams::asked_code;
 use streams::first_cause;
 
 pub struct PairAnswer {
-    pub number: u32,
+    pub code: u32,
     pub first: i16,
     pub second: i16,
     pub next: Generator,
 }
 
 pub struct PairAnswer18 {
-    pub number: u32,
+    pub code: u32,
     pub first: i32,
     pub second: i32,
     pub next: Generator,
@@ -35,9 +35,9 @@ pub fn sampled(drawn: Uniforms) -> PairAnswer
     ensures { λ r. ⌜ r ≡ sampledOf fractionBits drawn ⌝ }
 {
     let next = drawn.next;
-    if drawn.number != 0 {
+    if drawn.code != 0 {
         return PairAnswer {
-            number: drawn.number,
+            code: drawn.code,
             first: 0,
             second: 0,
             next,
@@ -45,7 +45,7 @@ pub fn sampled(drawn: Uniforms) -> PairAnswer
     }
     let s = sample::sample(drawn.k, drawn.v);
     PairAnswer {
-        number: 0,
+        code: 0,
         first: s.first,
         second: s.second,
         next,
@@ -57,9 +57,9 @@ pub fn sampled18(drawn: Uniforms) -> PairAnswer18
     ensures { λ r. ⌜ r ≡ widePair (sampledOf fractionBits18 drawn) ⌝ }
 {
     let next = drawn.next;
-    if drawn.number != 0 {
+    if drawn.code != 0 {
         return PairAnswer18 {
-            number: drawn.number,
+            code: drawn.code,
             first: 0,
             second: 0,
             next,
@@ -67,7 +67,7 @@ pub fn sampled18(drawn: Uniforms) -> PairAnswer18
     }
     let wide = sample::sample18(drawn.k, drawn.v);
     PairAnswer18 {
-        number: 0,
+        code: 0,
         first: wide.first,
         second: wide.second,
         next,
@@ -92,7 +92,7 @@ pub fn pair18(g: Generator) -> PairAnswer18
 
 // The numbers 65536 k + v of as many pairs as z has elements, and the record after them: both streams are drawn side by side.
 fn draw_numbers(g: Generator, z: &mut [u64]) -> Generator
-    requires { ⌜ pairsNumber g (length (now z)) ≡ 0 ⌝ }
+    requires { ⌜ pairsCode g (length (now z)) ≡ 0 ⌝ }
     ensures { λ r. ⌜ (r ≡ after (length (now (z .entry))) g) × (now (z .exit) ≡ numbers (length (now (z .entry))) g) ⌝ }
 {
     let a = g.a;
@@ -106,7 +106,7 @@ fn draw_numbers(g: Generator, z: &mut [u64]) -> Generator
 
 // The samples of as many pairs as z has elements, by way of their numbers in z.
 fn draw_samples(g: Generator, z: &mut [u64], out: &mut [i16]) -> Generator
-    requires { ⌜ (pairsNumber g (length (now z)) ≡ 0) × (length (now out) ≡ 2 * length (now z)) ⌝ }
+    requires { ⌜ (pairsCode g (length (now z)) ≡ 0) × (length (now out) ≡ 2 * length (now z)) ⌝ }
     ensures { λ r. ⌜ PairsDrawn fractionBits (length (now (z .entry))) g r (now (out .exit)) ⌝ }
 {
     let next = draw_numbers(g, z);
@@ -116,7 +116,7 @@ fn draw_samples(g: Generator, z: &mut [u64], out: &mut [i16]) -> Generator
 
 // The same in 18 bits.
 fn draw_samples18(g: Generator, z: &mut [u64], out: &mut [i32]) -> Generator
-    requires { ⌜ (pairsNumber g (length (now z)) ≡ 0) × (length (now out) ≡ 2 * length (now z)) ⌝ }
+    requires { ⌜ (pairsCode g (length (now z)) ≡ 0) × (length (now out) ≡ 2 * length (now z)) ⌝ }
     ensures { λ r. ⌜ PairsDrawn fractionBits18 (length (now (z .entry))) g r (now (out .exit)) ⌝ }
 {
     let next = draw_numbers(g, z);
@@ -129,7 +129,7 @@ const STRETCH: usize = 64;
 
 // A stretch: its numbers stand in a local array, which is no longer than that, since it is zeroed at each call.
 fn stretch(g: Generator, out: &mut [i16]) -> Generator
-    requires { ⌜ (pairsNumber g (length (now out) / 2) ≡ 0) × (length (now out) % 2 ≡ 0) × (length (now out) ≤ stretchLength) ⌝ }
+    requires { ⌜ (pairsCode g (length (now out) / 2) ≡ 0) × (length (now out) % 2 ≡ 0) × (length (now out) ≤ stretchLength) ⌝ }
     ensures { λ r. ⌜ PairsDrawn fractionBits (length (now (out .entry)) / 2) g r (now (out .exit)) ⌝ }
 {
     let mut z = [0u64; STRETCH / 2];
@@ -139,7 +139,7 @@ fn stretch(g: Generator, out: &mut [i16]) -> Generator
 
 // The same in 18 bits.
 fn stretch18(g: Generator, out: &mut [i32]) -> Generator
-    requires { ⌜ (pairsNumber g (length (now out) / 2) ≡ 0) × (length (now out) % 2 ≡ 0) × (length (now out) ≤ stretchLength) ⌝ }
+    requires { ⌜ (pairsCode g (length (now out) / 2) ≡ 0) × (length (now out) % 2 ≡ 0) × (length (now out) ≤ stretchLength) ⌝ }
     ensures { λ r. ⌜ PairsDrawn fractionBits18 (length (now (out .entry)) / 2) g r (now (out .exit)) ⌝ }
 {
     let mut z = [0u64; STRETCH / 2];
@@ -157,7 +157,7 @@ fn stretch_end(at: usize, n: usize) -> usize
 
 // A block of even length on an accepted record, stretch by stretch.
 fn stretches(g: Generator, out: &mut [i16]) -> Generator
-    requires { ⌜ (pairsNumber g (length (now out) / 2) ≡ 0) × (length (now out) % 2 ≡ 0) ⌝ }
+    requires { ⌜ (pairsCode g (length (now out) / 2) ≡ 0) × (length (now out) % 2 ≡ 0) ⌝ }
     ensures { λ r. ⌜ PairsDrawn fractionBits (length (now (out .entry)) / 2) g r (now (out .exit)) ⌝ }
 {
     let mut state = g;
@@ -173,7 +173,7 @@ fn stretches(g: Generator, out: &mut [i16]) -> Generator
 
 // The same in 18 bits.
 fn stretches18(g: Generator, out: &mut [i32]) -> Generator
-    requires { ⌜ (pairsNumber g (length (now out) / 2) ≡ 0) × (length (now out) % 2 ≡ 0) ⌝ }
+    requires { ⌜ (pairsCode g (length (now out) / 2) ≡ 0) × (length (now out) % 2 ≡ 0) ⌝ }
     ensures { λ r. ⌜ PairsDrawn fractionBits18 (length (now (out .entry)) / 2) g r (now (out .exit)) ⌝ }
 {
     let mut state = g;
@@ -188,8 +188,8 @@ fn stretches18(g: Generator, out: &mut [i32]) -> Generator
 }
 
 // 4 for an odd length.
-fn length_number(n: usize) -> u32
-    ensures { λ r. ⌜ r ≡ lengthNumber n ⌝ }
+fn length_code(n: usize) -> u32
+    ensures { λ r. ⌜ r ≡ lengthCode n ⌝ }
 {
     if n % 2 != 0 {
         return 4;
@@ -198,13 +198,13 @@ fn length_number(n: usize) -> u32
 }
 
 // The number of a block of n elements.
-fn block_number(g: Generator, n: usize) -> u32
-    ensures { λ r. ⌜ r ≡ blockNumber g n ⌝ }
+fn block_code(g: Generator, n: usize) -> u32
+    ensures { λ r. ⌜ r ≡ blockCode g n ⌝ }
 {
-    let unfit = g.record_number();
-    let open = g.open_number();
-    let odd = length_number(n);
-    let full = g.count_number((n / 2) as u64);
+    let unfit = g.record_code();
+    let open = g.open_code();
+    let odd = length_code(n);
+    let full = g.count_code((n / 2) as u64);
     let causes = [unfit, open, odd, full];
     first_cause(&causes)
 }
@@ -214,12 +214,12 @@ pub fn block(g: Generator, out: &mut [i16]) -> RecordAnswer
     ensures { λ r. ⌜ r ≡ blockOf g (length (now (out .entry))) ⌝ }
     ensures { λ r. ⌜ now (out .exit) ≡ blockHolds fractionBits g (now (out .entry)) ⌝ }
 {
-    let number = block_number(g, out.len());
-    if number != 0 {
-        return RecordAnswer { number, next: g };
+    let code = block_code(g, out.len());
+    if code != 0 {
+        return RecordAnswer { code, next: g };
     }
     let next = stretches(g, out);
-    RecordAnswer { number, next }
+    RecordAnswer { code, next }
 }
 
 // A block of samples of 18 bits.
@@ -227,15 +227,12 @@ pub fn block18(g: Generator, out: &mut [i32]) -> RecordAnswer
     ensures { λ r. ⌜ r ≡ blockOf g (length (now (out .entry))) ⌝ }
     ensures { λ r. ⌜ now (out .exit) ≡ blockHolds fractionBits18 g (now (out .entry)) ⌝ }
 {
-    let number = block_number(g, out.len());
-    if number != 0 {
-        return RecordAnswer { number, next: g };
+    let code = block_code(g, out.len());
+    if code != 0 {
+        return RecordAnswer { code, next: g };
     }
     let moved = stretches18(g, out);
-    RecordAnswer {
-        number,
-        next: moved,
-    }
+    RecordAnswer { code, next: moved }
 }
 
 // A look at the block that would come next, as if no request were open: its samples, and the record as it is.
@@ -246,7 +243,7 @@ pub fn look(g: Generator, out: &mut [i16]) -> RecordAnswer
     let free = g.without_note();
     let shown = block(free, out);
     RecordAnswer {
-        number: shown.number,
+        code: shown.code,
         next: g,
     }
 }
@@ -259,16 +256,16 @@ pub fn look18(g: Generator, out: &mut [i32]) -> RecordAnswer
     let free = g.without_note();
     let shown = block18(free, out);
     RecordAnswer {
-        number: shown.number,
+        code: shown.code,
         next: g,
     }
 }
 
 // 16 where more pairs are noted than a request may ask for, or n is not two for each of them.
-fn taken_number(g: Generator, n: usize) -> u32
-    ensures { λ r. ⌜ r ≡ takenNumber g n ⌝ }
+fn taken_code(g: Generator, n: usize) -> u32
+    ensures { λ r. ⌜ r ≡ takenCode g n ⌝ }
 {
-    let many = asked_number(g.asked);
+    let many = asked_code(g.asked);
     if many != 0 {
         return 16;
     }
@@ -279,13 +276,13 @@ fn taken_number(g: Generator, n: usize) -> u32
 }
 
 // The number of taking into a block of n elements.
-fn take_number(g: Generator, n: usize) -> u32
-    ensures { λ r. ⌜ r ≡ numberOf (a-take n) g ⌝ }
+fn take_code(g: Generator, n: usize) -> u32
+    ensures { λ r. ⌜ r ≡ codeOf (a-take n) g ⌝ }
 {
-    let unfit = g.record_number();
-    let none = g.none_open_number();
-    let other = taken_number(g, n);
-    let full = g.count_number(g.asked as u64);
+    let unfit = g.record_code();
+    let none = g.none_open_code();
+    let other = taken_code(g, n);
+    let full = g.count_code(g.asked as u64);
     let causes = [unfit, none, other, full];
     first_cause(&causes)
 }
@@ -295,16 +292,13 @@ pub fn take(g: Generator, out: &mut [i16]) -> RecordAnswer
     ensures { λ r. ⌜ r ≡ takeOf g (length (now (out .entry))) ⌝ }
     ensures { λ r. ⌜ now (out .exit) ≡ takeHolds fractionBits g (now (out .entry)) ⌝ }
 {
-    let number = take_number(g, out.len());
-    if number != 0 {
-        return RecordAnswer { number, next: g };
+    let code = take_code(g, out.len());
+    if code != 0 {
+        return RecordAnswer { code, next: g };
     }
     let free = g.without_note();
     let taken = stretches(free, out);
-    RecordAnswer {
-        number,
-        next: taken,
-    }
+    RecordAnswer { code, next: taken }
 }
 
 // The samples that were asked for, in 18 bits.
@@ -312,17 +306,17 @@ pub fn take18(g: Generator, out: &mut [i32]) -> RecordAnswer
     ensures { λ r. ⌜ r ≡ takeOf g (length (now (out .entry))) ⌝ }
     ensures { λ r. ⌜ now (out .exit) ≡ takeHolds fractionBits18 g (now (out .entry)) ⌝ }
 {
-    let refusal = take_number(g, out.len());
+    let refusal = take_code(g, out.len());
     if refusal != 0 {
         return RecordAnswer {
-            number: refusal,
+            code: refusal,
             next: g,
         };
     }
     let free = g.without_note();
     let next = stretches18(free, out);
     RecordAnswer {
-        number: refusal,
+        code: refusal,
         next,
     }
 }

@@ -10,8 +10,8 @@ use native.Mathlib.Numerals.{add-one}
 use native.Mathlib.Omega.{arith}
 use lib.Dec.{T}
 use lib.Pow.{pow-pos}
-use Rattle.squares.specs.Squares.{repeat}
-use Rattle.squares.proofs.Theorems.{repeat-add}
+use Rattle.bit_matrix.specs.Squares.{repeat}
+use Rattle.bit_matrix.proofs.Theorems.{repeat-add}
 use Rattle.streams.specs.Streams.{step}
 use Rattle.streams.specs.Recurrence.{top, sequence, Params}
 use Rattle.streams.proofs.Register.{step-lt, history, minimum-kept, one-to-one, reads-top, sequence-starts, sequence-follows, sequence-unique}

@@ -7,10 +7,10 @@ use Prim.Native.Nat.{ℕ, _+_, _/_, _≤_, _<_}
 use native.Mathlib.Omega.{arith}
 use lib.Dec.{eqb}
 use borrow.Author.Tests.{eqb-true}
-use Rattle.squares.specs.Squares.{repeat}
+use Rattle.bit_matrix.specs.Squares.{repeat}
 use Rattle.streams.specs.declared.Generator.{Generator}
 use Rattle.streams.specs.declared.Stream.{Stream}
-use Rattle.streams.specs.Streams.{advance, mostCount, Call, roomNumber, numberOf, after, skipOf}
+use Rattle.streams.specs.Streams.{advance, mostCount, Call, roomCode, codeOf, after, skipOf}
 use Rattle.streams.specs.Streams.Call.{numbers, a-pair, a-skip, a-block, a-look, an-ask, a-take, give-up}
 use Rattle.streams.specs.Recurrence.{moved, seedFrom, InRange, Sound}
 use Rattle.streams.proofs.Causes.{accepted-causes, count-room}
@@ -36,7 +36,7 @@ moved-apart g h m n hm hn differ =
     let (by-a, by-b) = moved-place g h m n hm hn in
     (λ e. differ (by-a e), λ e. differ (by-b e))
 
-pub skips-apart : (g : Generator) → InRange (g .a) → InRange (g .b) → (m n : ℕ) → skipOf g m .number ≡ 0 → skipOf g n .number ≡ 0
+pub skips-apart : (g : Generator) → InRange (g .a) → InRange (g .b) → (m n : ℕ) → skipOf g m .code ≡ 0 → skipOf g n .code ≡ 0
     → (m ≡ n → ⊥) → Apart (skipOf g m .next) (skipOf g n .next)
 skips-apart g ra rb m n hm hn differ =
     let (fits, room, _) = skip-accepted m g .0 hm in
@@ -44,7 +44,7 @@ skips-apart g ra rb m n hm hn differ =
     rw (skip-moves m g ra rb hm, skip-moves n g ra rb hn)
     (moved-apart g (sound g ra rb fits) m n (omega arith) (omega arith) differ)
 
-pub stretches-apart : (g : Generator) → InRange (g .a) → InRange (g .b) → (m j n k : ℕ) → m + j ≤ n → skipOf g (n + k) .number ≡ 0
+pub stretches-apart : (g : Generator) → InRange (g .a) → InRange (g .b) → (m j n k : ℕ) → m + j ≤ n → skipOf g (n + k) .code ≡ 0
     → (i h : ℕ) → i < j → h < k → Apart (after (m + i) g) (after (n + h) g)
 stretches-apart g ra rb m j n k behind accepted i h hi hh =
     let (fits, room, none) = skip-accepted (n + k) g .0 accepted in
@@ -56,10 +56,10 @@ stretches-apart g ra rb m j n k behind accepted i h hi hh =
 
 -- A call that hands out or skips pairs leaves a count of 64 bits.
 handed-room : (c : Call) (g : Generator) → (handed c g ≡ 0) ⊎ (g .count + handed c g ≤ mostCount)
-unfolding handed pairsOut roomNumber
-handed-room c g = by-test (eqb (numberOf c g) 0) refl
+unfolding handed pairsOut roomCode
+handed-room c g = by-test (eqb (codeOf c g) 0) refl
   where
-    by-call : (c : Call) → roomNumber c g ≡ 0 → (pairsOut c g ≡ 0) ⊎ (g .count + pairsOut c g ≤ mostCount)
+    by-call : (c : Call) → roomCode c g ≡ 0 → (pairsOut c g ≡ 0) ⊎ (g .count + pairsOut c g ≤ mostCount)
     by-call numbers room = inr (count-room g 1 .0 room)
     by-call a-pair room = inr (count-room g 1 .0 room)
     by-call (a-skip n) room = inr (count-room g n .0 room)
@@ -69,7 +69,7 @@ handed-room c g = by-test (eqb (numberOf c g) 0) refl
     by-call (a-take n) room = inr (count-room g (g .asked) .0 room)
     by-call give-up room = inl refl
 
-    by-test : (t : Bool) → eqb (numberOf c g) 0 ≡ t → (cond t (pairsOut c g) 0 ≡ 0) ⊎ (g .count + cond t (pairsOut c g) 0 ≤ mostCount)
+    by-test : (t : Bool) → eqb (codeOf c g) 0 ≡ t → (cond t (pairsOut c g) 0 ≡ 0) ⊎ (g .count + cond t (pairsOut c g) 0 ≤ mostCount)
     by-test true e = by-call c (accepted-causes c g .0 (eqb-true _ _ e) .3)
     by-test false e = inl refl
 
@@ -110,23 +110,23 @@ runs-same g h l m =
     }
 
 -- What accepted seeds make is sound.
-seeded-sound : (a b : Stream) → InRange a → InRange b → seedFrom a b .number ≡ 0 → Sound (seedFrom a b .next)
+seeded-sound : (a b : Stream) → InRange a → InRange b → seedFrom a b .code ≡ 0 → Sound (seedFrom a b .next)
 seeded-sound a b ra rb accepted =
     let (is-fresh, is-sound) = seeded a b ra rb accepted in
     rw is-fresh is-sound
 
-pub seeded-same : (a b : Stream) → InRange a → InRange b → seedFrom a b .number ≡ 0
+pub seeded-same : (a b : Stream) → InRange a → InRange b → seedFrom a b .code ≡ 0
     → (before l m : List Call) → OnePlace (run before (seedFrom a b .next)) l m
 seeded-same a b ra rb accepted before l m =
     runs-same (run before (seedFrom a b .next)) (run-sound before (seedFrom a b .next) (seeded-sound a b ra rb accepted)) l m
 
 -- A run that begins with an accepted skip of m has skipped these.
-skipped-first : (g : Generator) (m : ℕ) (l : List Call) → skipOf g m .number ≡ 0
+skipped-first : (g : Generator) (m : ℕ) (l : List Call) → skipOf g m .code ≡ 0
     → sumOver handed (a-skip m ∷ l) g ≡ m + sumOver handed l (skipOf g m .next)
 unfolding sumOver handed pairsOut returned skipOf
 skipped-first g m l accepted = rw accepted
 
-pub rigs-apart : (g : Generator) → InRange (g .a) → InRange (g .b) → (m n : ℕ) → skipOf g m .number ≡ 0 → skipOf g n .number ≡ 0
+pub rigs-apart : (g : Generator) → InRange (g .a) → InRange (g .b) → (m n : ℕ) → skipOf g m .code ≡ 0 → skipOf g n .code ≡ 0
     → (l l′ : List Call) → m + sumOver handed l (skipOf g m .next) < n → Apart (run l (skipOf g m .next)) (run l′ (skipOf g n .next))
 unfolding run returned
 rigs-apart g ra rb m n hm hn l l′ behind =
@@ -136,7 +136,7 @@ rigs-apart g ra rb m n hm hn l l′ behind =
     = λ e. omega (arith, skipped-first g m l hm, skipped-first g n l′ hn) in
     (λ same. differ (place .only-a same), λ same. differ (place .only-b same))
 
-pub equal-streams : (a : Stream) → InRange a → seedFrom a a .number ≡ 0
+pub equal-streams : (a : Stream) → InRange a → seedFrom a a .code ≡ 0
     → (l : List Call) → run l (seedFrom a a .next) .a ≡ run l (seedFrom a a .next) .b
 equal-streams a ra accepted l =
     let g : Generator = seedFrom a a .next in

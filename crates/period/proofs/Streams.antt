@@ -2,8 +2,8 @@
 use mathlib.Core.Path.{_≡_, refl, sym, ap, _∙_}
 use Prim.Native.Nat.{ℕ, suc, _+_, _-_, _*_, _%_, _^_}
 use native.Mathlib.Omega.{arith}
-use Rattle.squares.specs.Squares.{repeat}
-use Rattle.squares.proofs.Theorems.{repeat-add}
+use Rattle.bit_matrix.specs.Squares.{repeat}
+use Rattle.bit_matrix.proofs.Theorems.{repeat-add}
 use Rattle.streams.specs.declared.Stream.{Stream}
 use Rattle.streams.specs.Streams.{step, advance, fresh}
 use Rattle.streams.specs.Recurrence.{moved, InRange, Minima, Sound}

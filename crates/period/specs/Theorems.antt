@@ -3,7 +3,7 @@ use mathlib.Core.Path.{_≡_}
 use mathlib.Core.List.{List}
 use mathlib.Core.Logic.{_↔_}
 use Prim.Native.Nat.{ℕ, suc, _+_, _-_, _%_, _^_, _≤_, _<_}
-use Rattle.squares.specs.Squares.{repeat}
+use Rattle.bit_matrix.specs.Squares.{repeat}
 use Rattle.streams.specs.declared.Stream.{Stream}
 use Rattle.streams.specs.declared.Generator.{Generator}
 use Rattle.streams.specs.Streams.{Call, advance, after, skipOf}
@@ -26,11 +26,11 @@ pub record OfStreams : Type 0 where
   pub places : (u : Stream) → InRange u → Minima u → (m n : ℕ) → m < n → n < m + cycle
       → SameDraws (repeat advance m u) (repeat advance n u) → ⊥
   -- two different skips of one record, both accepted and so below 2^64, leave different streams
-  pub skips : (g : Generator) → InRange (g .a) → InRange (g .b) → (m n : ℕ) → skipOf g m .number ≡ 0 → skipOf g n .number ≡ 0
+  pub skips : (g : Generator) → InRange (g .a) → InRange (g .b) → (m n : ℕ) → skipOf g m .code ≡ 0 → skipOf g n .code ≡ 0
       → (m ≡ n → ⊥) → Apart (skipOf g m .next) (skipOf g n .next)
   -- two stretches of one record, j pairs from place m on and k from n on, that do not overlap have no stream in common: pair i + 1 of
   -- a stretch is drawn from the streams i pairs after its beginning
-  pub stretches : (g : Generator) → InRange (g .a) → InRange (g .b) → (m j n k : ℕ) → m + j ≤ n → skipOf g (n + k) .number ≡ 0
+  pub stretches : (g : Generator) → InRange (g .a) → InRange (g .b) → (m j n k : ℕ) → m + j ≤ n → skipOf g (n + k) .code ≡ 0
       → (i h : ℕ) → i < j → h < k → Apart (after (m + i) g) (after (n + h) g)
   -- but all fit streams lie on one cycle: two of them, differently seeded or a and b of a record, are two places on it. The first comes to
   -- the second's next draw after a number of draws below `cycle`, and by `places` after one such number only
@@ -42,11 +42,11 @@ pub record OfRuns : Type 0 where
   -- two runs on a record come to the same stream only after equally many pairs
   pub runs : (g : Generator) → Sound g → (l m : List Call) → OnePlace g l m
   -- so from seeding on, whatever calls came before
-  pub from-seeding : (a b : Stream) → InRange a → InRange b → seedFrom a b .number ≡ 0
+  pub from-seeding : (a b : Stream) → InRange a → InRange b → seedFrom a b .code ≡ 0
       → (before l m : List Call) → OnePlace (run before (seedFrom a b .next)) l m
   -- of two rigs, one sent m pairs ahead and one n, whatever both are then asked: until the first has come to n, they have no stream in common
-  pub rigs : (g : Generator) → InRange (g .a) → InRange (g .b) → (m n : ℕ) → skipOf g m .number ≡ 0 → skipOf g n .number ≡ 0
+  pub rigs : (g : Generator) → InRange (g .a) → InRange (g .b) → (m n : ℕ) → skipOf g m .code ≡ 0 → skipOf g n .code ≡ 0
       → (l l′ : List Call) → m + sumOver handed l (skipOf g m .next) < n → Apart (run l (skipOf g m .next)) (run l′ (skipOf g n .next))
   -- seeds that are the same for a and b make the two streams equal, for good
-  pub equal-seeds : (a : Stream) → InRange a → seedFrom a a .number ≡ 0
+  pub equal-seeds : (a : Stream) → InRange a → seedFrom a a .code ≡ 0
       → (l : List Call) → run l (seedFrom a a .next) .a ≡ run l (seedFrom a a .next) .b

@@ -5,8 +5,8 @@ use Prim.Native.Nat.{ℕ, _+_, _-_, _*_, _/_, _%_, _^_, _≤_, _<_}
 use native.Mathlib.Nat.{div-div-eq-div-mul, mul-comm, mul-le-mul, div-add-mod', div-le-self, div-mul-le-self}
 use native.Mathlib.Omega.{arith}
 use Rattle.tables.specs.Tables.{entryOf}
-use Rattle.log_coarse.specs.Reciprocals.{reciprocals}
-use Rattle.log_coarse.proofs.Quotients.{reciprocal-is, quotient-is}
+use Rattle.log_coarse_lookup.specs.Reciprocals.{reciprocals}
+use Rattle.log_coarse_lookup.proofs.Quotients.{reciprocal-is, quotient-is}
 
 -- ---- The quotient of a number of 16 bits by h
 module _ (x h R : ℕ) (is : R ≡ entryOf reciprocals 256 h) (few : x < 65536) (least : 256 ≤ h) (most : h < 512) where

@@ -67,7 +67,7 @@ fn cell_of(k: u64) -> Cell
     let rest = scaled % COARSE;
     let high = rest / FINE;
     let low = rest % FINE;
-    let fine = high * log_coarse::reciprocal(coarse) / RECIPROCAL;
+    let fine = high * log_coarse_lookup::reciprocal(coarse) / RECIPROCAL;
     let left = high - fine * coarse;
     let correction = (left * FINE + low) * FRACTION / (coarse * 65536 + (high - left));
     Cell {
@@ -94,7 +94,7 @@ fn logarithm(k: u64) -> u64
     let cell = cell_of(k);
     difference_or_zero(
         doublings * ln2,
-        log_coarse::entry(cell.coarse) + log_fine::entry(cell.fine) + cell.correction,
+        log_coarse_lookup::entry(cell.coarse) + log_fine_lookup::entry(cell.fine) + cell.correction,
     )
 }
 

@@ -52,7 +52,7 @@ samples-close limit f k v (few, enough) hk hv =
 
 -- what the call accepts are the two samples of the steps
 pub accepts : (f k v : ℕ) → k < 2 ^ numberBits → v < 65536
-    → samplesOf f k v ≡ record { number = 0; first = firstOf f k v; second = secondOf f k v }
+    → samplesOf f k v ≡ record { code = 0; first = firstOf f k v; second = secondOf f k v }
 unfolding samplesOf
 accepts f k v hk hv = rw (samplesOf, lt-leb (2 ^ numberBits) k hk, le-ltb 65535 v (le-of-suc-le-suc hv))
 

@@ -22,7 +22,7 @@ radius-is : radiusOf farK ≡ 15158 * 512 + 256
 unfolding topBit mantissa coarseIndex rest fineIndex remainder correction logarithm wholeRoot underRoot radiusOf entryOf leadingZeros rootDigits lnTwoValue
 radius-is = rw (logCoarse-is, logFine-is, lnTwo-is) refl
 
-returned : samplesOf fractionBits farK farV ≡ record { number = 0; first = pos 0; second = pos 15159 }
+returned : samplesOf fractionBits farK farV ≡ record { code = 0; first = pos 0; second = pos 15159 }
 unfolding size cosine sine cosineAt sineAt signedOf firstOf secondOf samplesOf entryOf
 returned = rw (radius-is, cosCoarse-is, sinCoarse-is, cosFine-is, sinFine-is) refl
 

@@ -90,7 +90,7 @@ module _ (f F : ℕ) (few : f ≤ 49) where
       → CloseTo limit f (rounded f F G) (times g e)
   unfolding CloseTo Within
   member-close g limit G e hF low high m room x from to =
-      let n = m .number in
+      let n = m .size in
       let r = size-rounded n hF (m .most) in
       let low' = *ᶠ-mono (dyadic 20 (F - 7)) (g .low) (dyadic 30 (n - 3)) (e .low) low (m .low) in
       let high' = *ᶠ-mono (g .high) (dyadic 20 (F + 7)) (e .high) (dyadic 30 (n + 3)) high (m .high) in

@@ -39,11 +39,11 @@ quarter-turn f k v few h =
     let there : ltb 65535 (quarterOn v) ≡ false = le-ltb 65535 (quarterOn v) (omega arith) in
     rw (here, there) (go (leb (2 ^ numberBits) k))
   where
-    go : (t : Bool) → cond t (refused 2) (record { number = 0; first = firstOf f k (quarterOn v); second = secondOf f k (quarterOn v) })
-        ≡ turnedOn (cond t (refused 2) (record { number = 0; first = firstOf f k v; second = secondOf f k v }))
+    go : (t : Bool) → cond t (refused 2) (record { code = 0; first = firstOf f k (quarterOn v); second = secondOf f k (quarterOn v) })
+        ≡ turnedOn (cond t (refused 2) (record { code = 0; first = firstOf f k v; second = secondOf f k v }))
     go true = refl
     go false =
-        ap₂ (λ (x y : ℤ). record { number = 0; first = x; second = y }) (pair-quarter f k v few h .0) (pair-quarter f k v few h .1)
+        ap₂ (λ (x y : ℤ). record { code = 0; first = x; second = y }) (pair-quarter f k v few h .0) (pair-quarter f k v few h .1)
 
 -- half a turn is a quarter turn, twice
 half-turn : (f k v : ℕ) → f ≤ 49 → v < 65536 → samplesOf f k (opposite v) ≡ negated (samplesOf f k v)
@@ -59,7 +59,7 @@ unfolding samplesOf
 sizes f k v = go (leb (2 ^ numberBits) k) (ltb 65535 v)
   where
     answer : Bool → Bool → Samples
-    answer t u = cond t (refused 2) (cond u (refused 3) (record { number = 0; first = firstOf f k v; second = secondOf f k v }))
+    answer t u = cond t (refused 2) (cond u (refused 3) (record { code = 0; first = firstOf f k v; second = secondOf f k v }))
 
     go : (t u : Bool) → (natAbs (answer t u .first) ≤ largest f) × (natAbs (answer t u .second) ≤ largest f)
     go true u = (zero-le, zero-le)
@@ -67,8 +67,8 @@ sizes f k v = go (leb (2 ^ numberBits) k) (ltb 65535 v)
     go false false = (first-small f k v, second-small f k v)
 
 -- the farthest samples in every direction, at f fraction bits: those of (0, 0), and by quarter turns of it
-module _ (f n : ℕ) (few : f ≤ 49) (farthest : samplesOf f 0 0 ≡ record { number = 0; first = pos 0; second = pos n }) where
-  farthest-quarter : samplesOf f 0 16384 ≡ record { number = 0; first = pos n; second = negℤ (pos 0) }
+module _ (f n : ℕ) (few : f ≤ 49) (farthest : samplesOf f 0 0 ≡ record { code = 0; first = pos 0; second = pos n }) where
+  farthest-quarter : samplesOf f 0 16384 ≡ record { code = 0; first = pos n; second = negℤ (pos 0) }
   farthest-quarter = quarter-turn f 0 0 few (omega arith) ∙ ap turnedOn farthest
 
   highest-at : (samplesOf f 0 16384 .first ≡ pos n) × (samplesOf f 0 0 .second ≡ pos n)
@@ -81,7 +81,7 @@ module _ (f n : ℕ) (few : f ≤ 49) (farthest : samplesOf f 0 0 ≡ record { n
   )
 
 -- reading 5, (0, 0) to 0, 16879
-farthest : samplesOf fractionBits 0 0 ≡ record { number = 0; first = pos 0; second = pos 16879 }
+farthest : samplesOf fractionBits 0 0 ≡ record { code = 0; first = pos 0; second = pos 16879 }
 farthest = ap (λ (l : List Samples). getD l 4 (refused 0)) readings-hold
 
 pub theorems : Theorems

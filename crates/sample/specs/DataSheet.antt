@@ -31,7 +31,7 @@ Far radius bits = FarFrom thirtyOneSixtyFourths fractionBits (samplesOf fraction
 
 pub record DataSheet : Type 0 where
   -- what the call returns for that k and v
-  pub returned : samplesOf fractionBits farK farV ≡ record { number = 0; first = pos 0; second = pos 15159 }
+  pub returned : samplesOf fractionBits farK farV ≡ record { code = 0; first = pos 0; second = pos 15159 }
   -- "a sample is proved more than 31/64 away"
   pub radius : RadiusEnclosure (inverse farK)
   pub bits : ℕ

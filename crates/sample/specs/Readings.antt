@@ -40,13 +40,13 @@ readings =
 
 -- each is accepted and gives its two samples
 pub readings-hold : map (λ (r : Reading). samplesOf fractionBits (r .k) (r .v)) readings
-    ≡ map (λ (r : Reading). record { number = 0; first = r .first; second = r .second }) readings
+    ≡ map (λ (r : Reading). record { code = 0; first = r .first; second = r .second }) readings
 unfolding topBit mantissa coarseIndex rest fineIndex remainder correction logarithm wholeRoot underRoot cosine sine cosineAt sineAt size
     radiusOf signedOf firstOf secondOf samplesOf entryOf leadingZeros rootDigits lnTwoValue
 readings-hold = rw (logCoarse-is, logFine-is, cosCoarse-is, sinCoarse-is, cosFine-is, sinFine-is, lnTwo-is) refl
 
 -- reading 5 in 18 bits: the largest size (document 02, Job 8)
-pub farthest18 : samplesOf fractionBits18 0 0 ≡ record { number = 0; first = pos 0; second = pos 67517 }
+pub farthest18 : samplesOf fractionBits18 0 0 ≡ record { code = 0; first = pos 0; second = pos 67517 }
 unfolding topBit mantissa coarseIndex rest fineIndex remainder correction logarithm wholeRoot underRoot cosine sine cosineAt sineAt size
     radiusOf signedOf firstOf secondOf samplesOf entryOf leadingZeros rootDigits lnTwoValue
 farthest18 = rw (logCoarse-is, logFine-is, cosCoarse-is, sinCoarse-is, cosFine-is, sinFine-is, lnTwo-is) refl

@@ -22,17 +22,17 @@ secondOf f k v = rounded f (radiusOf k) (signedOf v .1)
 
 -- refusals 2 and 3: samples 0 0
 abbrev pub refused : ℕ → Samples
-refused n = record { number = n; first = pos 0; second = pos 0 }
+refused n = record { code = n; first = pos 0; second = pos 0 }
 
 -- The answer for k and v: refused 2 for k of 2^48 or more, else 3 for v above 65535, else 0 and the two samples.
 unfoldable pub samplesOf : (f k v : ℕ) → Samples
 samplesOf f k v =
     cond (leb (2 ^ numberBits) k) (refused 2)
-    (cond (ltb 65535 v) (refused 3) (record { number = 0; first = firstOf f k v; second = secondOf f k v }))
+    (cond (ltb 65535 v) (refused 3) (record { code = 0; first = firstOf f k v; second = secondOf f k v }))
 
 -- The same answer in the struct of the wide samples.
 abbrev pub wide : Samples → Samples18
-wide s = record { number = s .number; first = s .first; second = s .second }
+wide s = record { code = s .code; first = s .first; second = s .second }
 
 -- Demand 3: "I hold you to the nine sixteenths", of the exact pair of (2k + 1) over 2^49, k from 0, and v over 65536
 abbrev pub nineSixteenths : Fraction

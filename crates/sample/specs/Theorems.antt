@@ -14,11 +14,11 @@ opposite v = (v + 32768) % 65536
 
 -- an answer with the second sample first, and then the first negated
 abbrev pub turnedOn : Samples → Samples
-turnedOn r = record { number = r .number; first = r .second; second = negℤ (r .first) }
+turnedOn r = record { code = r .code; first = r .second; second = negℤ (r .first) }
 
 -- an answer with both samples negated
 abbrev pub negated : Samples → Samples
-negated r = record { number = r .number; first = negℤ (r .first); second = negℤ (r .second) }
+negated r = record { code = r .code; first = negℤ (r .first); second = negℤ (r .second) }
 
 -- the largest size at f fraction bits, of the largest F and the sine or cosine 1
 abbrev pub largest : ℕ → ℕ

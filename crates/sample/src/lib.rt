@@ -29,13 +29,13 @@ const SCALE: u64 = 1;
 const SCALE_18: u64 = 1 << (FRACTION_BITS_18 - FRACTION_BITS);
 
 pub struct Samples {
-    pub number: u32,
+    pub code: u32,
     pub first: i16,
     pub second: i16,
 }
 
 pub struct Samples18 {
-    pub number: u32,
+    pub code: u32,
     pub first: i32,
     pub second: i32,
 }
@@ -181,14 +181,14 @@ pub fn sample(k: u64, v: u32) -> Samples
 {
     if radius::LIMIT <= k {
         return Samples {
-            number: 2,
+            code: 2,
             first: 0,
             second: 0,
         };
     }
     if 65535 < v {
         return Samples {
-            number: 3,
+            code: 3,
             first: 0,
             second: 0,
         };
@@ -197,7 +197,7 @@ pub fn sample(k: u64, v: u32) -> Samples
     let mut pair = [0i16; 2];
     part(&z, &mut pair);
     Samples {
-        number: 0,
+        code: 0,
         first: pair[0],
         second: pair[1],
     }
@@ -215,14 +215,14 @@ pub fn sample18(k: u64, v: u32) -> Samples18
 {
     if k >= radius::LIMIT {
         return Samples18 {
-            number: K_TOO_LARGE,
+            code: K_TOO_LARGE,
             first: 0,
             second: 0,
         };
     }
     if v > 65535 {
         return Samples18 {
-            number: V_TOO_LARGE,
+            code: V_TOO_LARGE,
             first: 0,
             second: 0,
         };
@@ -231,7 +231,7 @@ pub fn sample18(k: u64, v: u32) -> Samples18
     let mut pair = [0i32; 2];
     part18(&z, &mut pair);
     Samples18 {
-        number: 0,
+        code: 0,
         first: pair[0],
         second: pair[1],
     }

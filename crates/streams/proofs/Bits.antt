@@ -5,7 +5,7 @@ use native.Mathlib.Nat.{le-dest, mul-mod-left, div-eq-of-lt, pow-suc, lt-of-lt-o
 use native.Mathlib.Omega.{arith}
 use lib.Pow.{pow-mono, pow-add, field, mod-mod-pow, shr-shr, shl-shr}
 use lib.Bits.{bitAnd, bitXor, xor-shr, and-high}
-use Rattle.squares.proofs.Additive.{xor-low}
+use Rattle.bit_matrix.proofs.Additive.{xor-low}
 
 unfoldable pub bit : ℕ → ℕ → ℕ
 bit x j = x / 2 ^ j % 2

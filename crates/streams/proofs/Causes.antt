@@ -8,15 +8,15 @@ use native.Mathlib.Omega.{arith}
 use lib.Dec.{leb, eqb}
 use borrow.Author.Tests.{leb-true, leb-false, eqb-true, eqb-false}
 use Rattle.streams.specs.declared.Generator.{Generator}
-use Rattle.streams.specs.Streams.{recordNumber, openNumber, noneOpenNumber, askedNumber, takenNumber, lengthNumber, countNumber, firstCause}
-use Rattle.streams.specs.Streams.{mostAsked, mostCount, Call, noteNumber, ownNumber, roomNumber, numberOf}
+use Rattle.streams.specs.Streams.{recordCode, openCode, noneOpenCode, askedCode, takenCode, lengthCode, countCode, firstCause}
+use Rattle.streams.specs.Streams.{mostAsked, mostCount, Call, noteCode, ownCode, roomCode, codeOf}
 
 -- One cause alone.
-pub lone-cause : (number : ℕ) → firstCause (number ∷ []) ≡ number
-lone-cause number = by-test (eqb number 0) refl
+pub lone-cause : (code : ℕ) → firstCause (code ∷ []) ≡ code
+lone-cause code = by-test (eqb code 0) refl
   where
-    by-test : (t : Bool) → eqb number 0 ≡ t → firstCause (number ∷ []) ≡ number
-    by-test true e = rw e (sym (eqb-true number 0 e))
+    by-test : (t : Bool) → eqb code 0 ≡ t → firstCause (code ∷ []) ≡ code
+    by-test true e = rw e (sym (eqb-true code 0 e))
     by-test false e = rw e
 
 -- A call is accepted where none of its causes applies.
@@ -29,79 +29,79 @@ none-applies cause causes h = by-test (eqb cause 0) refl
 
 -- It is, just where the record's, the note's, its own and the count's do not apply.
 pub accepted-causes : (c : Call) (g : Generator)
-    → (numberOf c g ≡ 0) ↔ ((recordNumber g ≡ 0) × (noteNumber c g ≡ 0) × (ownNumber c g ≡ 0) × (roomNumber c g ≡ 0))
-unfolding numberOf
+    → (codeOf c g ≡ 0) ↔ ((recordCode g ≡ 0) × (noteCode c g ≡ 0) × (ownCode c g ≡ 0) × (roomCode c g ≡ 0))
+unfolding codeOf
 accepted-causes c g = (
   λ h.
-      let (fits, rest) = none-applies (recordNumber g) (noteNumber c g ∷ ownNumber c g ∷ roomNumber c g ∷ []) h in
-      let (note, rest-2) = none-applies (noteNumber c g) (ownNumber c g ∷ roomNumber c g ∷ []) rest in
-      let (own, last) = none-applies (ownNumber c g) (roomNumber c g ∷ []) rest-2 in
-      (fits, note, own, sym (lone-cause (roomNumber c g)) ∙ last),
+      let (fits, rest) = none-applies (recordCode g) (noteCode c g ∷ ownCode c g ∷ roomCode c g ∷ []) h in
+      let (note, rest-2) = none-applies (noteCode c g) (ownCode c g ∷ roomCode c g ∷ []) rest in
+      let (own, last) = none-applies (ownCode c g) (roomCode c g ∷ []) rest-2 in
+      (fits, note, own, sym (lone-cause (roomCode c g)) ∙ last),
   λ h. rw (h .0, h .1, h .2, h .3),
 )
 
 -- 14 does not apply where no request is open, nor 15 where one is;
-pub none-open : (g : Generator) → (openNumber g ≡ 0) ↔ (g .waiting ≡ 0)
-unfolding openNumber
+pub none-open : (g : Generator) → (openCode g ≡ 0) ↔ (g .waiting ≡ 0)
+unfolding openCode
 none-open g = by-test (eqb (g .waiting) 0) refl
   where
-    by-test : (t : Bool) → eqb (g .waiting) 0 ≡ t → (openNumber g ≡ 0) ↔ (g .waiting ≡ 0)
-    by-test true e = (λ h. eqb-true _ _ e, λ h. rw (openNumber, e))
-    by-test false e = (λ h. absurd (omega (arith, rw (openNumber, e) at h)), λ h. absurd (eqb-false _ _ e h))
+    by-test : (t : Bool) → eqb (g .waiting) 0 ≡ t → (openCode g ≡ 0) ↔ (g .waiting ≡ 0)
+    by-test true e = (λ h. eqb-true _ _ e, λ h. rw (openCode, e))
+    by-test false e = (λ h. absurd (omega (arith, rw (openCode, e) at h)), λ h. absurd (eqb-false _ _ e h))
 
-pub one-open : (g : Generator) → (noneOpenNumber g ≡ 0) ↔ (g .waiting ≡ 0 → ⊥)
-unfolding noneOpenNumber
+pub one-open : (g : Generator) → (noneOpenCode g ≡ 0) ↔ (g .waiting ≡ 0 → ⊥)
+unfolding noneOpenCode
 one-open g = by-test (eqb (g .waiting) 0) refl
   where
-    by-test : (t : Bool) → eqb (g .waiting) 0 ≡ t → (noneOpenNumber g ≡ 0) ↔ (g .waiting ≡ 0 → ⊥)
-    by-test true e = (λ h. absurd (omega (arith, rw (noneOpenNumber, e) at h)), λ h. absurd (h (eqb-true _ _ e)))
-    by-test false e = (λ h. eqb-false _ _ e, λ h. rw (noneOpenNumber, e))
+    by-test : (t : Bool) → eqb (g .waiting) 0 ≡ t → (noneOpenCode g ≡ 0) ↔ (g .waiting ≡ 0 → ⊥)
+    by-test true e = (λ h. absurd (omega (arith, rw (noneOpenCode, e) at h)), λ h. absurd (h (eqb-true _ _ e)))
+    by-test false e = (λ h. eqb-false _ _ e, λ h. rw (noneOpenCode, e))
 
 -- 16 not on asking for n pairs up to the most,
-pub few-asked : (n : ℕ) → (askedNumber n ≡ 0) ↔ (n ≤ mostAsked)
-unfolding askedNumber
+pub few-asked : (n : ℕ) → (askedCode n ≡ 0) ↔ (n ≤ mostAsked)
+unfolding askedCode
 few-asked n = by-test (leb n mostAsked) refl
   where
-    by-test : (t : Bool) → leb n mostAsked ≡ t → (askedNumber n ≡ 0) ↔ (n ≤ mostAsked)
-    by-test true e = (λ h. leb-true _ _ e, λ h. rw (askedNumber, e))
-    by-test false e = (λ h. absurd (omega (arith, rw (askedNumber, e) at h)), λ h. absurd (omega (arith, leb-false n mostAsked e)))
+    by-test : (t : Bool) → leb n mostAsked ≡ t → (askedCode n ≡ 0) ↔ (n ≤ mostAsked)
+    by-test true e = (λ h. leb-true _ _ e, λ h. rw (askedCode, e))
+    by-test false e = (λ h. absurd (omega (arith, rw (askedCode, e) at h)), λ h. absurd (omega (arith, leb-false n mostAsked e)))
 
 -- nor on taking as many as that into a block of just so many samples;
-pub just-taken : (g : Generator) (n : ℕ) → (takenNumber g n ≡ 0) ↔ ((g .asked ≤ mostAsked) × (n ≡ 2 * g .asked))
-unfolding takenNumber
-just-taken g n = by-tests (eqb (askedNumber (g .asked)) 0) refl (eqb n (2 * g .asked)) refl
+pub just-taken : (g : Generator) (n : ℕ) → (takenCode g n ≡ 0) ↔ ((g .asked ≤ mostAsked) × (n ≡ 2 * g .asked))
+unfolding takenCode
+just-taken g n = by-tests (eqb (askedCode (g .asked)) 0) refl (eqb n (2 * g .asked)) refl
   where
-    by-tests : (t : Bool) → eqb (askedNumber (g .asked)) 0 ≡ t → (u : Bool) → eqb n (2 * g .asked) ≡ u
-        → (takenNumber g n ≡ 0) ↔ ((g .asked ≤ mostAsked) × (n ≡ 2 * g .asked))
-    by-tests true e true f = (λ h. (few-asked (g .asked) .0 (eqb-true _ _ e), eqb-true _ _ f), λ h. rw (takenNumber, e, f))
-    by-tests true e false f = (λ h. absurd (omega (arith, rw (takenNumber, e, f) at h)), λ h. absurd (eqb-false _ _ f (h .1)))
+    by-tests : (t : Bool) → eqb (askedCode (g .asked)) 0 ≡ t → (u : Bool) → eqb n (2 * g .asked) ≡ u
+        → (takenCode g n ≡ 0) ↔ ((g .asked ≤ mostAsked) × (n ≡ 2 * g .asked))
+    by-tests true e true f = (λ h. (few-asked (g .asked) .0 (eqb-true _ _ e), eqb-true _ _ f), λ h. rw (takenCode, e, f))
+    by-tests true e false f = (λ h. absurd (omega (arith, rw (takenCode, e, f) at h)), λ h. absurd (eqb-false _ _ f (h .1)))
     by-tests false e u f = (
-      λ h. absurd (omega (arith, rw (takenNumber, e) at h)),
+      λ h. absurd (omega (arith, rw (takenCode, e) at h)),
       λ h. absurd (eqb-false _ _ e (few-asked (g .asked) .1 (h .0))),
     )
 
 -- 4 not for an even length.
-pub even-length : (n : ℕ) → (lengthNumber n ≡ 0) ↔ (n % 2 ≡ 0)
-unfolding lengthNumber
+pub even-length : (n : ℕ) → (lengthCode n ≡ 0) ↔ (n % 2 ≡ 0)
+unfolding lengthCode
 even-length n = by-test (eqb (n % 2) 0) refl
   where
-    by-test : (t : Bool) → eqb (n % 2) 0 ≡ t → (lengthNumber n ≡ 0) ↔ (n % 2 ≡ 0)
-    by-test true e = (λ h. eqb-true (n % 2) 0 e, λ h. rw (lengthNumber, e))
-    by-test false e = (λ h. absurd (omega (arith, rw (lengthNumber, e) at h)), λ h. absurd (eqb-false (n % 2) 0 e h))
+    by-test : (t : Bool) → eqb (n % 2) 0 ≡ t → (lengthCode n ≡ 0) ↔ (n % 2 ≡ 0)
+    by-test true e = (λ h. eqb-true (n % 2) 0 e, λ h. rw (lengthCode, e))
+    by-test false e = (λ h. absurd (omega (arith, rw (lengthCode, e) at h)), λ h. absurd (eqb-false (n % 2) 0 e h))
 
 -- The count has room for n pairs more, or would pass its most.
-pub count-room : (g : Generator) (n : ℕ) → (countNumber g n ≡ 0) ↔ (g .count + n ≤ mostCount)
-unfolding countNumber
+pub count-room : (g : Generator) (n : ℕ) → (countCode g n ≡ 0) ↔ (g .count + n ≤ mostCount)
+unfolding countCode
 count-room g n = by-test (leb (g .count + n) mostCount) refl
   where
-    by-test : (t : Bool) → leb (g .count + n) mostCount ≡ t → (countNumber g n ≡ 0) ↔ (g .count + n ≤ mostCount)
-    by-test true e = (λ h. leb-true _ _ e, λ h. rw (countNumber, e))
-    by-test false e = (λ h. absurd (omega (arith, rw (countNumber, e) at h)), λ h. absurd (omega (arith, leb-false (g .count + n) mostCount e)))
+    by-test : (t : Bool) → leb (g .count + n) mostCount ≡ t → (countCode g n ≡ 0) ↔ (g .count + n ≤ mostCount)
+    by-test true e = (λ h. leb-true _ _ e, λ h. rw (countCode, e))
+    by-test false e = (λ h. absurd (omega (arith, rw (countCode, e) at h)), λ h. absurd (omega (arith, leb-false (g .count + n) mostCount e)))
 
-pub count-full : (g : Generator) (n : ℕ) → (countNumber g n ≡ 13) ↔ (mostCount < g .count + n)
-unfolding countNumber
+pub count-full : (g : Generator) (n : ℕ) → (countCode g n ≡ 13) ↔ (mostCount < g .count + n)
+unfolding countCode
 count-full g n = by-test (leb (g .count + n) mostCount) refl
   where
-    by-test : (t : Bool) → leb (g .count + n) mostCount ≡ t → (countNumber g n ≡ 13) ↔ (mostCount < g .count + n)
-    by-test true e = (λ h. absurd (omega (arith, rw (countNumber, e) at h)), λ h. absurd (omega (arith, leb-true (g .count + n) mostCount e)))
-    by-test false e = (λ h. leb-false _ _ e, λ h. rw (countNumber, e))
+    by-test : (t : Bool) → leb (g .count + n) mostCount ≡ t → (countCode g n ≡ 13) ↔ (mostCount < g .count + n)
+    by-test true e = (λ h. absurd (omega (arith, rw (countCode, e) at h)), λ h. absurd (omega (arith, leb-true (g .count + n) mostCount e)))
+    by-test false e = (λ h. leb-false _ _ e, λ h. rw (countCode, e))

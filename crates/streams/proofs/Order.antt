@@ -4,8 +4,8 @@ use mathlib.Core.Path.{_≡_, refl}
 use mathlib.Core.List.{List, [], _∷_, map}
 use Prim.Native.Nat.{ℕ}
 use Rattle.streams.specs.declared.Generator.{Generator}
-use Rattle.streams.specs.Streams.{fit, recordNumber, openNumber, noneOpenNumber, askedNumber, takenNumber, lengthNumber, countNumber}
-use Rattle.streams.specs.Streams.{mostCount, Call, noteNumber, ownNumber, roomNumber, causesOf}
+use Rattle.streams.specs.Streams.{fit, recordCode, openCode, noneOpenCode, askedCode, takenCode, lengthCode, countCode}
+use Rattle.streams.specs.Streams.{mostCount, Call, noteCode, ownCode, roomCode, causesOf}
 use Rattle.streams.specs.Streams.Call.{numbers, a-pair, a-skip, a-block, a-look, an-ask, a-take, give-up}
 
 -- A record with this register in stream b (2 is fit, 1 is not), this count and this note.
@@ -48,14 +48,14 @@ neighbours =
     ∷ []
 
 pub met : map (λ (m : Met). causesOf (m .call) (m .given)) neighbours ≡ map (λ (m : Met). m .causes) neighbours
-unfolding fit recordNumber openNumber noneOpenNumber askedNumber takenNumber lengthNumber countNumber noteNumber ownNumber roomNumber neighbours
+unfolding fit recordCode openCode noneOpenCode askedCode takenCode lengthCode countCode noteCode ownCode roomCode neighbours
 met = refl
 
 -- 16 on taking: a request for more than 1,000,000 that no call of ours made, a block of other length, odd or even; and one that is taken.
-pub taken-cases : map (λ (n : ℕ). takenNumber (with-b 2 0 1 n) 4000000) (2000000 ∷ 1000000 ∷ []) ≡ 16 ∷ 16 ∷ []
-unfolding askedNumber takenNumber
+pub taken-cases : map (λ (n : ℕ). takenCode (with-b 2 0 1 n) 4000000) (2000000 ∷ 1000000 ∷ []) ≡ 16 ∷ 16 ∷ []
+unfolding askedCode takenCode
 taken-cases = refl
 
-pub taken-lengths : map (takenNumber (with-b 2 0 1 2)) (2 ∷ 3 ∷ 4 ∷ 5 ∷ 6 ∷ []) ≡ 16 ∷ 16 ∷ 0 ∷ 16 ∷ 16 ∷ []
-unfolding askedNumber takenNumber
+pub taken-lengths : map (takenCode (with-b 2 0 1 2)) (2 ∷ 3 ∷ 4 ∷ 5 ∷ 6 ∷ []) ≡ 16 ∷ 16 ∷ 0 ∷ 16 ∷ 16 ∷ []
+unfolding askedCode takenCode
 taken-lengths = refl

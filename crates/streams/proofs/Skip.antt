@@ -5,12 +5,12 @@ use Prim.Native.Nat.{ℕ, _+_, _-_, _*_, _/_, _%_, _^_, _≤_, _<_}
 use native.Mathlib.Nat.{add-comm}
 use native.Mathlib.Omega.{arith}
 use lib.Bits.{bitAnd, bitXor}
-use Rattle.squares.specs.Squares.{repeat, Additive, applied, squareOf}
-use Rattle.squares.proofs.Additive.{same-additive, word-shl-additive, shr-additive, and-additive, then-additive, xor-additive}
-use Rattle.squares.proofs.Theorems.{square-repeat}
+use Rattle.bit_matrix.specs.Squares.{repeat, Additive, applied, squareOf}
+use Rattle.bit_matrix.proofs.Additive.{same-additive, word-shl-additive, shr-additive, and-additive, then-additive, xor-additive}
+use Rattle.bit_matrix.proofs.Theorems.{square-repeat}
 use Rattle.streams.specs.declared.Stream.{Stream}
 use Rattle.streams.specs.declared.Generator.{Generator}
-use Rattle.streams.specs.Streams.{step, advance, recordNumber, mostCount, skipOf}
+use Rattle.streams.specs.Streams.{step, advance, recordCode, mostCount, skipOf}
 use Rattle.streams.specs.Recurrence.{moved, InRange}
 use Rattle.streams.proofs.Register.{step-lt}
 use Rattle.streams.proofs.Theorems.{alone, sound, sound-accepted, pairs-accepted, moved-sound, moved-range, moved-add, after-moved}
@@ -58,13 +58,13 @@ stream-ahead n u h =
 
 -- A skip is accepted just where the streams are fit, the count has room and no request is open.
 pub skip-accepted : (n : ℕ) (g : Generator)
-    → (skipOf g n .number ≡ 0) ↔ ((recordNumber g ≡ 0) × (g .count + n ≤ mostCount) × (g .waiting ≡ 0))
+    → (skipOf g n .code ≡ 0) ↔ ((recordCode g ≡ 0) × (g .count + n ≤ mostCount) × (g .waiting ≡ 0))
 unfolding skipOf
 skip-accepted n g = pairs-accepted g n
 
 -- It then leaves both streams and the count n pairs on.
-pub skip-moves : (n : ℕ) (g : Generator) → InRange (g .a) → InRange (g .b) → skipOf g n .number ≡ 0
-    → skipOf g n ≡ record { number = 0; next = moved n g }
+pub skip-moves : (n : ℕ) (g : Generator) → InRange (g .a) → InRange (g .b) → skipOf g n .code ≡ 0
+    → skipOf g n ≡ record { code = 0; next = moved n g }
 unfolding skipOf
 skip-moves n g ra rb e =
     let (fits, room, none) = pairs-accepted g n .0 e in
@@ -72,7 +72,7 @@ skip-moves n g ra rb e =
 
 -- Two skips are accepted, one after the other, just where one of their sum is.
 pub skips-accepted : (m n : ℕ) (g : Generator) → InRange (g .a) → InRange (g .b)
-    → ((skipOf g m .number ≡ 0) × (skipOf (skipOf g m .next) n .number ≡ 0)) ↔ (skipOf g (m + n) .number ≡ 0)
+    → ((skipOf g m .code ≡ 0) × (skipOf (skipOf g m .next) n .code ≡ 0)) ↔ (skipOf g (m + n) .code ≡ 0)
 skips-accepted m n g ra rb = (
   λ h.
       let (fits, room, none) = skip-accepted m g .0 (h .0) in
@@ -80,23 +80,23 @@ skips-accepted m n g ra rb = (
       skip-accepted (m + n) g .1 (fits, omega arith, none),
   λ h.
       let (fits, room, none) = skip-accepted (m + n) g .0 h in
-      let first : skipOf g m .number ≡ 0 = skip-accepted m g .1 (fits, omega arith, none) in
+      let first : skipOf g m .code ≡ 0 = skip-accepted m g .1 (fits, omega arith, none) in
       let fits-after = sound-accepted _ (moved-sound m g (sound g ra rb fits)) in
       (first, rw (skip-moves m g ra rb first) (skip-accepted n (moved m g) .1 (fits-after, omega arith, none))),
 )
 
 -- Skipping m and then n is then skipping m + n,
-pub skips-add : (m n : ℕ) (g : Generator) → InRange (g .a) → InRange (g .b) → skipOf g (m + n) .number ≡ 0
+pub skips-add : (m n : ℕ) (g : Generator) → InRange (g .a) → InRange (g .b) → skipOf g (m + n) .code ≡ 0
     → skipOf (skipOf g m .next) n ≡ skipOf g (m + n)
 skips-add m n g ra rb h =
     let (first, second) = skips-accepted m n g ra rb .1 h in
     let (ma, mb) = moved-range m g ra rb in
     rw (skip-moves (m + n) g ra rb h, skip-moves m g ra rb first)
     (skip-moves n (moved m g) ma mb (rw (skip-moves m g ra rb first) at second)
-    ∙ ap (λ (next : Generator). record { number = 0; next = next }) (moved-add m n g))
+    ∙ ap (λ (next : Generator). record { code = 0; next = next }) (moved-add m n g))
 
 -- so it is skipping n and then m.
-pub skips-swap : (m n : ℕ) (g : Generator) → InRange (g .a) → InRange (g .b) → skipOf g (m + n) .number ≡ 0
+pub skips-swap : (m n : ℕ) (g : Generator) → InRange (g .a) → InRange (g .b) → skipOf g (m + n) .code ≡ 0
     → skipOf (skipOf g m .next) n ≡ skipOf (skipOf g n .next) m
 skips-swap m n g ra rb h =
     skips-add m n g ra rb h ∙ rw (add-comm m n) (sym (skips-add n m g ra rb (rw (add-comm n m) h)))

@@ -11,13 +11,13 @@ use native.Mathlib.Omega.{arith}
 use lib.Bits.{bitXor, xor-lt}
 use lib.Dec.{leb, eqb}
 use borrow.Author.Tests.{leb-true, le-leb, eqb-true}
-use Rattle.squares.specs.Squares.{repeat}
-use Rattle.squares.proofs.Theorems.{repeat-add}
+use Rattle.bit_matrix.specs.Squares.{repeat}
+use Rattle.bit_matrix.proofs.Theorems.{repeat-add}
 use Rattle.streams.specs.declared.Stream.{Stream}
 use Rattle.streams.specs.declared.Generator.{Generator}
 use Rattle.streams.specs.declared.Uniforms.{Uniforms}
-use Rattle.streams.specs.Streams.{step, advance, output, fit, fresh, cleared, recordNumber, openNumber, mostCount, countNumber, firstCause}
-use Rattle.streams.specs.Streams.{Call, noteNumber, ownNumber, roomNumber, numberOf, seedOf, pairsNumber, uniformsOf, after}
+use Rattle.streams.specs.Streams.{step, advance, output, fit, fresh, cleared, recordCode, openCode, mostCount, countCode, firstCause}
+use Rattle.streams.specs.Streams.{Call, noteCode, ownCode, roomCode, codeOf, seedOf, pairsCode, uniformsOf, after}
 use Rattle.streams.specs.Streams.Call.{a-skip}
 use Rattle.streams.specs.Recurrence.{top, sequence, combined, Params, drawAt, moved, seedFrom, InRange, Minima, Sound}
 use Rattle.streams.proofs.Causes.{lone-cause, accepted-causes, none-open, count-room, count-full}
@@ -85,17 +85,17 @@ fit-minima u = (
 )
 
 -- The number of any record is one of these, by which of its streams are fit.
-abbrev numberBy : Bool → Bool → ℕ
-numberBy a b = cond a (cond b 0 12) 11
+abbrev codeBy : Bool → Bool → ℕ
+codeBy a b = cond a (cond b 0 12) 11
 
-both-fit : (a b : Bool) → numberBy a b ≡ 0 → (a ≡ true) × (b ≡ true)
+both-fit : (a b : Bool) → codeBy a b ≡ 0 → (a ≡ true) × (b ≡ true)
 both-fit true true e = (refl, refl)
 both-fit true false e = absurd (omega (arith, e))
 both-fit false b e = absurd (omega (arith, e))
 
 -- A record is accepted where both of its streams are fit.
-pub accepted-minima : (g : Generator) → (recordNumber g ≡ 0) ↔ (Minima (g .a) × Minima (g .b))
-unfolding recordNumber
+pub accepted-minima : (g : Generator) → (recordCode g ≡ 0) ↔ (Minima (g .a) × Minima (g .b))
+unfolding recordCode
 accepted-minima g = (
   λ h.
       let (p, q) = both-fit (fit (g .a)) (fit (g .b)) h in
@@ -103,11 +103,11 @@ accepted-minima g = (
   λ m. rw (fit-minima (g .a) .1 (m .0), fit-minima (g .b) .1 (m .1)),
 )
 
-pub record-cases : (P : ℕ → Type 0) (g : Generator) → P 0 → P 11 → P 12 → P (recordNumber g)
-unfolding recordNumber
+pub record-cases : (P : ℕ → Type 0) (g : Generator) → P 0 → P 11 → P 12 → P (recordCode g)
+unfolding recordCode
 record-cases P g accepted unfit-a unfit-b = by-tests (fit (g .a)) (fit (g .b))
   where
-    by-tests : (a b : Bool) → P (numberBy a b)
+    by-tests : (a b : Bool) → P (codeBy a b)
     by-tests true true = accepted
     by-tests true false = unfit-b
     by-tests false b = unfit-a
@@ -120,40 +120,40 @@ fit-or-not u = by-test (fit u) refl
     by-test false e = inr (e, λ m. true≢false (sym (fit-minima u .1 m) ∙ e))
 
 -- 11 just where a register of a is below its minimum; 12 just where a is fit and a register of b is below.
-pub number-a : (g : Generator) → (recordNumber g ≡ 11) ↔ (Minima (g .a) → ⊥)
-unfolding recordNumber
-number-a g = by-fit (fit-or-not (g .a)) (fit (g .b)) refl
+pub code-a : (g : Generator) → (recordCode g ≡ 11) ↔ (Minima (g .a) → ⊥)
+unfolding recordCode
+code-a g = by-fit (fit-or-not (g .a)) (fit (g .b)) refl
   where
     by-fit : ((fit (g .a) ≡ true) × Minima (g .a)) ⊎ ((fit (g .a) ≡ false) × (Minima (g .a) → ⊥)) → (b : Bool) → fit (g .b) ≡ b
-        → (recordNumber g ≡ 11) ↔ (Minima (g .a) → ⊥)
-    by-fit (inl (e, m)) true f = (λ h. absurd (omega (arith, rw (recordNumber, e, f) at h)), λ n. absurd (n m))
-    by-fit (inl (e, m)) false f = (λ h. absurd (omega (arith, rw (recordNumber, e, f) at h)), λ n. absurd (n m))
-    by-fit (inr (e, n)) b f = (λ h. n, λ h. rw (recordNumber, e))
+        → (recordCode g ≡ 11) ↔ (Minima (g .a) → ⊥)
+    by-fit (inl (e, m)) true f = (λ h. absurd (omega (arith, rw (recordCode, e, f) at h)), λ n. absurd (n m))
+    by-fit (inl (e, m)) false f = (λ h. absurd (omega (arith, rw (recordCode, e, f) at h)), λ n. absurd (n m))
+    by-fit (inr (e, n)) b f = (λ h. n, λ h. rw (recordCode, e))
 
-pub number-b : (g : Generator) → (recordNumber g ≡ 12) ↔ (Minima (g .a) × (Minima (g .b) → ⊥))
-unfolding recordNumber
-number-b g = by-fit (fit-or-not (g .a)) (fit-or-not (g .b))
+pub code-b : (g : Generator) → (recordCode g ≡ 12) ↔ (Minima (g .a) × (Minima (g .b) → ⊥))
+unfolding recordCode
+code-b g = by-fit (fit-or-not (g .a)) (fit-or-not (g .b))
   where
     by-fit : ((fit (g .a) ≡ true) × Minima (g .a)) ⊎ ((fit (g .a) ≡ false) × (Minima (g .a) → ⊥))
         → ((fit (g .b) ≡ true) × Minima (g .b)) ⊎ ((fit (g .b) ≡ false) × (Minima (g .b) → ⊥))
-        → (recordNumber g ≡ 12) ↔ (Minima (g .a) × (Minima (g .b) → ⊥))
-    by-fit (inl (e, m)) (inl (f, p)) = (λ h. absurd (omega (arith, rw (recordNumber, e, f) at h)), λ n. absurd (n .1 p))
-    by-fit (inl (e, m)) (inr (f, p)) = (λ h. (m, p), λ h. rw (recordNumber, e, f))
-    by-fit (inr (e, n)) y = (λ h. absurd (omega (arith, rw (recordNumber, e) at h)), λ h. absurd (n (h .0)))
+        → (recordCode g ≡ 12) ↔ (Minima (g .a) × (Minima (g .b) → ⊥))
+    by-fit (inl (e, m)) (inl (f, p)) = (λ h. absurd (omega (arith, rw (recordCode, e, f) at h)), λ n. absurd (n .1 p))
+    by-fit (inl (e, m)) (inr (f, p)) = (λ h. (m, p), λ h. rw (recordCode, e, f))
+    by-fit (inr (e, n)) y = (λ h. absurd (omega (arith, rw (recordCode, e) at h)), λ h. absurd (n (h .0)))
 
 -- 2, 8 and 16 are accepted, and one below in any of the six registers is not; where both streams are unfit, a is named.
 abbrev registers : ℕ → ℕ → ℕ → ℕ → ℕ → ℕ → Generator
 registers a0 a1 a2 b0 b1 b2 = fresh (record { s0 = a0; s1 = a1; s2 = a2 }) (record { s0 = b0; s1 = b1; s2 = b2 })
 
-pub edges : (recordNumber (registers 2 8 16 2 8 16) ≡ 0)
-    × (recordNumber (registers 1 8 16 2 8 16) ≡ 11)
-    × (recordNumber (registers 2 7 16 2 8 16) ≡ 11)
-    × (recordNumber (registers 2 8 15 2 8 16) ≡ 11)
-    × (recordNumber (registers 2 8 16 1 8 16) ≡ 12)
-    × (recordNumber (registers 2 8 16 2 7 16) ≡ 12)
-    × (recordNumber (registers 2 8 16 2 8 15) ≡ 12)
-    × (recordNumber (registers 1 8 16 1 8 16) ≡ 11)
-unfolding recordNumber fit
+pub edges : (recordCode (registers 2 8 16 2 8 16) ≡ 0)
+    × (recordCode (registers 1 8 16 2 8 16) ≡ 11)
+    × (recordCode (registers 2 7 16 2 8 16) ≡ 11)
+    × (recordCode (registers 2 8 15 2 8 16) ≡ 11)
+    × (recordCode (registers 2 8 16 1 8 16) ≡ 12)
+    × (recordCode (registers 2 8 16 2 7 16) ≡ 12)
+    × (recordCode (registers 2 8 16 2 8 15) ≡ 12)
+    × (recordCode (registers 1 8 16 1 8 16) ≡ 11)
+unfolding recordCode fit
 edges = (refl, refl, refl, refl, refl, refl, refl, refl)
 
 -- ---- Accepted stays accepted
@@ -176,12 +176,12 @@ advance-minima u h m =
       s2-least = minimum-kept params2 (u .s2) (h .s2-range) (m .s2-least);
     }
 
-pub sound : (g : Generator) → InRange (g .a) → InRange (g .b) → recordNumber g ≡ 0 → Sound g
+pub sound : (g : Generator) → InRange (g .a) → InRange (g .b) → recordCode g ≡ 0 → Sound g
 sound g ra rb h =
     let (ma, mb) = accepted-minima g .0 h in
     record { range-a = ra; range-b = rb; minima-a = ma; minima-b = mb }
 
-pub sound-accepted : (g : Generator) → Sound g → recordNumber g ≡ 0
+pub sound-accepted : (g : Generator) → Sound g → recordCode g ≡ 0
 sound-accepted g h = accepted-minima g .1 (h .minima-a, h .minima-b)
 
 -- The note says nothing of the streams.
@@ -192,7 +192,7 @@ sound-cleared g = (
 )
 
 -- A record that seeding accepts is the one of its six numbers, and its streams are fit.
-pub seeded : (a b : Stream) → InRange a → InRange b → seedFrom a b .number ≡ 0
+pub seeded : (a b : Stream) → InRange a → InRange b → seedFrom a b .code ≡ 0
     → (seedFrom a b .next ≡ fresh a b) × Sound (fresh a b)
 unfolding seedOf
 seeded a b ra rb h = (rw h, sound (fresh a b) ra rb h)
@@ -205,7 +205,7 @@ pub seeded-range : (a b : Stream) → InRange a → InRange b
     × (seedFrom a b .next .waiting ≡ 0)
     × (seedFrom a b .next .asked ≡ 0)
 unfolding seedOf
-seeded-range a b ra rb = by-test (eqb (recordNumber (fresh a b)) 0)
+seeded-range a b ra rb = by-test (eqb (recordCode (fresh a b)) 0)
   where
     none : Stream
     none = record { s0 = 0; s1 = 0; s2 = 0 }
@@ -254,14 +254,14 @@ moved-add m n g =
 
 -- A call on fit streams is refused for its note, its own arguments or the count, and for nothing else.
 pub fit-call : (c : Call) (g : Generator) → Sound g
-    → numberOf c g ≡ firstCause (noteNumber c g ∷ ownNumber c g ∷ roomNumber c g ∷ [])
-unfolding numberOf
+    → codeOf c g ≡ firstCause (noteCode c g ∷ ownCode c g ∷ roomCode c g ∷ [])
+unfolding codeOf
 fit-call c g h = rw (sound-accepted g h)
 
 -- A call for n pairs is accepted just where the streams are fit, the count has room for n and no request is open.
 pub pairs-accepted : (g : Generator) (n : ℕ)
-    → (pairsNumber g n ≡ 0) ↔ ((recordNumber g ≡ 0) × (g .count + n ≤ mostCount) × (g .waiting ≡ 0))
-unfolding noteNumber ownNumber roomNumber
+    → (pairsCode g n ≡ 0) ↔ ((recordCode g ≡ 0) × (g .count + n ≤ mostCount) × (g .waiting ≡ 0))
+unfolding noteCode ownCode roomCode
 pairs-accepted g n = (
   λ h.
       let (fits, note, own, room) = accepted-causes (a-skip n) g .0 h in
@@ -270,12 +270,12 @@ pairs-accepted g n = (
 )
 
 -- 13 just where they are fit, no request is open and the count would pass the most.
-pub number-count : (g : Generator) (n : ℕ)
-    → (pairsNumber g n ≡ 13) ↔ ((recordNumber g ≡ 0) × (g .waiting ≡ 0) × (mostCount < g .count + n))
-unfolding numberOf noteNumber ownNumber roomNumber openNumber
-number-count g n = (
-  λ h. record-cases (λ number. firstCause (number ∷ openNumber g ∷ 0 ∷ countNumber g n ∷ []) ≡ 13
-      → (number ≡ 0) × (g .waiting ≡ 0) × (mostCount < g .count + n)) g
+pub code-count : (g : Generator) (n : ℕ)
+    → (pairsCode g n ≡ 13) ↔ ((recordCode g ≡ 0) × (g .waiting ≡ 0) × (mostCount < g .count + n))
+unfolding codeOf noteCode ownCode roomCode openCode
+code-count g n = (
+  λ h. record-cases (λ code. firstCause (code ∷ openCode g ∷ 0 ∷ countCode g n ∷ []) ≡ 13
+      → (code ≡ 0) × (g .waiting ≡ 0) × (mostCount < g .count + n)) g
       (λ e. let (none, full) = by-note (eqb (g .waiting) 0) refl e in (refl, none, full))
       (λ e. absurd (omega (arith, e)))
       (λ e. absurd (omega (arith, e)))
@@ -283,17 +283,17 @@ number-count g n = (
   λ h. rw (h .0, none-open g .1 (h .1), count-full g n .1 (h .2)),
 )
   where
-    by-note : (t : Bool) → eqb (g .waiting) 0 ≡ t → firstCause (openNumber g ∷ 0 ∷ countNumber g n ∷ []) ≡ 13
+    by-note : (t : Bool) → eqb (g .waiting) 0 ≡ t → firstCause (openCode g ∷ 0 ∷ countCode g n ∷ []) ≡ 13
         → (g .waiting ≡ 0) × (mostCount < g .count + n)
-    by-note true e h = (eqb-true _ _ e, count-full g n .0 (sym (lone-cause (countNumber g n)) ∙ rw (openNumber, e) at h))
-    by-note false e h = absurd (omega (arith, rw (openNumber, e) at h))
+    by-note true e h = (eqb-true _ _ e, count-full g n .0 (sym (lone-cause (countCode g n)) ∙ rw (openCode, e) at h))
+    by-note false e h = absurd (omega (arith, rw (openCode, e) at h))
 
 -- ---- The numbers of a pair, accepted
 
-pub uniforms-accepted : (g : Generator) → pairsNumber g 1 ≡ 0
+pub uniforms-accepted : (g : Generator) → pairsCode g 1 ≡ 0
     → uniformsOf g
     ≡ record {
-      number = 0;
+      code = 0;
       k = output (advance (g .a)) * 65536 + output (advance (g .b)) / 65536;
       v = output (advance (g .b)) % 65536;
       next = moved 1 g;
@@ -308,7 +308,7 @@ output-lt u h = xor-lt 32 (bitXor (u .s0) (u .s1)) (u .s2) (xor-lt 32 (u .s0) (u
 
 pub numbers-bounded : (g : Generator) → Sound g → (uniformsOf g .k < 2 ^ 48) × (uniformsOf g .v < 65536)
 unfolding uniformsOf
-numbers-bounded g h = by-test (eqb (pairsNumber g 1) 0)
+numbers-bounded g h = by-test (eqb (pairsCode g 1) 0)
   where
     a : output (advance (g .a)) < 2 ^ 32
     a = output-lt (advance (g .a)) (advance-range (g .a) (h .range-a))
@@ -326,7 +326,7 @@ numbers-bounded g h = by-test (eqb (pairsNumber g 1) 0)
 
 pub next-sound : (g : Generator) → Sound g → Sound (uniformsOf g .next)
 unfolding uniformsOf repeat
-next-sound g h = by-test (eqb (pairsNumber g 1) 0)
+next-sound g h = by-test (eqb (pairsCode g 1) 0)
   where
     by-test : (t : Bool) → Sound (cond t (moved 1 g) g)
     by-test true = moved-sound 1 g h

@@ -48,38 +48,38 @@ cleared g = noted g 0 0
 unfoldable pub fit : Stream → Bool
 fit u = leb 2 (u .s0) && (leb 8 (u .s1) && leb 16 (u .s2))
 
--- A record's number: 0, or why every call on it is refused: "Number 11 for stream a and 12 for stream b", "11 first" (document 02,
+-- A record's number: 0, or why every call on it is refused: "Code 11 for stream a and 12 for stream b", "11 first" (document 02,
 -- Job 1).
-unfoldable pub recordNumber : Generator → ℕ
-recordNumber g = cond (fit (g .a)) (cond (fit (g .b)) 0 12) 11
+unfoldable pub recordCode : Generator → ℕ
+recordCode g = cond (fit (g .a)) (cond (fit (g .b)) 0 12) 11
 
 -- "14: a request is open; 15: none is open" (document 02, Job 7).
-unfoldable pub openNumber : Generator → ℕ
-openNumber g = cond (eqb (g .waiting) 0) 0 14
+unfoldable pub openCode : Generator → ℕ
+openCode g = cond (eqb (g .waiting) 0) 0 14
 
-unfoldable pub noneOpenNumber : Generator → ℕ
-noneOpenNumber g = cond (eqb (g .waiting) 0) 15 0
+unfoldable pub noneOpenCode : Generator → ℕ
+noneOpenCode g = cond (eqb (g .waiting) 0) 15 0
 
 -- "16: n above 1,000,000, asked or found noted on taking, or a block not of 2n samples".
 abbrev pub mostAsked : ℕ
 mostAsked = 1000000
 
-unfoldable pub askedNumber : ℕ → ℕ
-askedNumber n = cond (leb n mostAsked) 0 16
+unfoldable pub askedCode : ℕ → ℕ
+askedCode n = cond (leb n mostAsked) 0 16
 
-unfoldable pub takenNumber : Generator → ℕ → ℕ
-takenNumber g n = cond (eqb (askedNumber (g .asked)) 0) (cond (eqb n (2 * g .asked)) 0 16) 16
+unfoldable pub takenCode : Generator → ℕ → ℕ
+takenCode g n = cond (eqb (askedCode (g .asked)) 0) (cond (eqb n (2 * g .asked)) 0 16) 16
 
 -- "block of odd length"
-unfoldable pub lengthNumber : ℕ → ℕ
-lengthNumber n = cond (eqb (n % 2) 0) 0 4
+unfoldable pub lengthCode : ℕ → ℕ
+lengthCode n = cond (eqb (n % 2) 0) 0 4
 
 -- 13 for n pairs more: "the count would pass 2^64 - 1" (document 02, Job 4).
 abbrev pub mostCount : ℕ
 mostCount = 2 ^ 64 - 1
 
-unfoldable pub countNumber : Generator → ℕ → ℕ
-countNumber g n = cond (leb (g .count + n) mostCount) 0 13
+unfoldable pub countCode : Generator → ℕ → ℕ
+countCode g n = cond (leb (g .count + n) mostCount) 0 13
 
 -- The calls on a record: the numbers of a pair, a pair; a skip of n pairs; a block of n elements, or a look at one; asking for n pairs, taking them
 -- into a block of n elements, giving up.
@@ -88,37 +88,37 @@ pub data Call : Type 0 where
   a-skip a-block a-look an-ask a-take : ℕ → Call
 
 -- For its note: "14 .. a pair, block, skip or second ask", "a look never"; "15 .. when taking or giving up".
-unfoldable pub noteNumber : Call → Generator → ℕ
-noteNumber numbers g = openNumber g
-noteNumber a-pair g = openNumber g
-noteNumber (a-skip n) g = openNumber g
-noteNumber (a-block n) g = openNumber g
-noteNumber (a-look n) g = 0
-noteNumber (an-ask n) g = openNumber g
-noteNumber (a-take n) g = noneOpenNumber g
-noteNumber give-up g = noneOpenNumber g
+unfoldable pub noteCode : Call → Generator → ℕ
+noteCode numbers g = openCode g
+noteCode a-pair g = openCode g
+noteCode (a-skip n) g = openCode g
+noteCode (a-block n) g = openCode g
+noteCode (a-look n) g = 0
+noteCode (an-ask n) g = openCode g
+noteCode (a-take n) g = noneOpenCode g
+noteCode give-up g = noneOpenCode g
 
 -- For the call's own arguments: 16 where a request is asked for or taken, 4 for a block or a look.
-unfoldable pub ownNumber : Call → Generator → ℕ
-ownNumber numbers g = 0
-ownNumber a-pair g = 0
-ownNumber (a-skip n) g = 0
-ownNumber (a-block n) g = lengthNumber n
-ownNumber (a-look n) g = lengthNumber n
-ownNumber (an-ask n) g = askedNumber n
-ownNumber (a-take n) g = takenNumber g n
-ownNumber give-up g = 0
+unfoldable pub ownCode : Call → Generator → ℕ
+ownCode numbers g = 0
+ownCode a-pair g = 0
+ownCode (a-skip n) g = 0
+ownCode (a-block n) g = lengthCode n
+ownCode (a-look n) g = lengthCode n
+ownCode (an-ask n) g = askedCode n
+ownCode (a-take n) g = takenCode g n
+ownCode give-up g = 0
 
 -- For the count: the room for all pairs that the call asks for. Giving up asks for none.
-unfoldable pub roomNumber : Call → Generator → ℕ
-roomNumber numbers g = countNumber g 1
-roomNumber a-pair g = countNumber g 1
-roomNumber (a-skip n) g = countNumber g n
-roomNumber (a-block n) g = countNumber g (n / 2)
-roomNumber (a-look n) g = countNumber g (n / 2)
-roomNumber (an-ask n) g = countNumber g n
-roomNumber (a-take n) g = countNumber g (g .asked)
-roomNumber give-up g = 0
+unfoldable pub roomCode : Call → Generator → ℕ
+roomCode numbers g = countCode g 1
+roomCode a-pair g = countCode g 1
+roomCode (a-skip n) g = countCode g n
+roomCode (a-block n) g = countCode g (n / 2)
+roomCode (a-look n) g = countCode g (n / 2)
+roomCode (an-ask n) g = countCode g n
+roomCode (a-take n) g = countCode g (g .asked)
+roomCode give-up g = 0
 
 -- The number of a call: the first of its causes, each 0 where it does not apply, in the order that they are tested: "after 11 and 12, in the
 -- order 15, 14, 16, 4, then 13".
@@ -127,27 +127,27 @@ firstCause [] = 0
 firstCause (cause ∷ causes) = cond (eqb cause 0) (firstCause causes) cause
 
 abbrev pub causesOf : Call → Generator → List ℕ
-causesOf c g = recordNumber g ∷ noteNumber c g ∷ ownNumber c g ∷ roomNumber c g ∷ []
+causesOf c g = recordCode g ∷ noteCode c g ∷ ownCode c g ∷ roomCode c g ∷ []
 
-unfoldable pub numberOf : Call → Generator → ℕ
-numberOf c g = firstCause (causesOf c g)
+unfoldable pub codeOf : Call → Generator → ℕ
+codeOf c g = firstCause (causesOf c g)
 
 -- ---- The calls
 
 -- What a call with that number returns: the first where it is accepted (0), else the second.
 abbrev pub ifAccepted : {A : Type 0} → ℕ → A → A → A
-ifAccepted number yes-value no-value = cond (eqb number 0) yes-value no-value
+ifAccepted code yes-value no-value = cond (eqb code 0) yes-value no-value
 
 -- Seeding from six numbers: the record, or six zeros.
 unfoldable pub seedOf : ℕ → ℕ → ℕ → ℕ → ℕ → ℕ → RecordAnswer
 seedOf a0 a1 a2 b0 b1 b2 =
     let g : Generator = fresh (record { s0 = a0; s1 = a1; s2 = a2 }) (record { s0 = b0; s1 = b1; s2 = b2 }) in
     let none : Stream = record { s0 = 0; s1 = 0; s2 = 0 } in
-    record { number = recordNumber g; next = ifAccepted (recordNumber g) g (fresh none none) }
+    record { code = recordCode g; next = ifAccepted (recordCode g) g (fresh none none) }
 
 -- The number of a call for n pairs: of a skip, and, n being 1, of a pair and of its numbers.
-abbrev pub pairsNumber : Generator → ℕ → ℕ
-pairsNumber g n = numberOf (a-skip n) g
+abbrev pub pairsCode : Generator → ℕ → ℕ
+pairsCode g n = codeOf (a-skip n) g
 
 -- The two numbers of a pair, one draw from a and then one from b: k is a × 65536 + floor(b / 65536), v is b mod 65536. Refused,
 -- 0 0 and the record passed in.
@@ -156,10 +156,10 @@ uniformsOf g =
     let a′ : Stream = advance (g .a) in
     let b′ : Stream = advance (g .b) in
     record {
-      number = pairsNumber g 1;
-      k = ifAccepted (pairsNumber g 1) (output a′ * 65536 + output b′ / 65536) 0;
-      v = ifAccepted (pairsNumber g 1) (output b′ % 65536) 0;
-      next = ifAccepted (pairsNumber g 1) (onward g a′ b′ 1) g;
+      code = pairsCode g 1;
+      k = ifAccepted (pairsCode g 1) (output a′ * 65536 + output b′ / 65536) 0;
+      v = ifAccepted (pairsCode g 1) (output b′ % 65536) 0;
+      next = ifAccepted (pairsCode g 1) (onward g a′ b′ 1) g;
     }
 
 -- The record n pairs on.
@@ -169,12 +169,12 @@ after (suc n) g = after n (uniformsOf g .next)
 
 -- "The record that n pair draws would leave"; refused, the record passed in.
 unfoldable pub skipOf : Generator → ℕ → RecordAnswer
-skipOf g n = record { number = pairsNumber g n; next = ifAccepted (pairsNumber g n) (after n g) g }
+skipOf g n = record { code = pairsCode g n; next = ifAccepted (pairsCode g n) (after n g) g }
 
 -- "Asking for n pairs .. notes them in the record and moves nothing"; refused, the record passed in.
 unfoldable pub askOf : Generator → ℕ → RecordAnswer
-askOf g n = record { number = numberOf (an-ask n) g; next = ifAccepted (numberOf (an-ask n) g) (noted g 1 n) g }
+askOf g n = record { code = codeOf (an-ask n) g; next = ifAccepted (codeOf (an-ask n) g) (noted g 1 n) g }
 
 -- "Giving up clears it and moves nothing"; refused, the record passed in.
 unfoldable pub giveUpOf : Generator → RecordAnswer
-giveUpOf g = record { number = numberOf give-up g; next = ifAccepted (numberOf give-up g) (cleared g) g }
+giveUpOf g = record { code = codeOf give-up g; next = ifAccepted (codeOf give-up g) (cleared g) g }

@@ -2,7 +2,7 @@
 // some that is noted and taken later or given up.
 // A generator record goes in by value and comes back as it then is, beside the call's number, 0 where it is accepted.
 ghost use mathlib.Core.Path.{_≡_};
-ghost use Rattle.squares.specs.Squares.{squareOf};
+ghost use Rattle.bit_matrix.specs.Squares.{squareOf};
 ghost use Rattle.streams.specs.Streams.{
   step,
   advance,
@@ -12,15 +12,15 @@ ghost use Rattle.streams.specs.Streams.{
   onward,
   noted,
   cleared,
-  recordNumber,
-  openNumber,
-  noneOpenNumber,
-  askedNumber,
-  countNumber,
+  recordCode,
+  openCode,
+  noneOpenCode,
+  askedCode,
+  countCode,
   firstCause,
-  numberOf,
+  codeOf,
   ifAccepted,
-  pairsNumber,
+  pairsCode,
   seedOf,
   uniformsOf,
   skipOf,
@@ -47,12 +47,12 @@ pub struct Generator {
 
 // A number and the record that a call leaves.
 pub struct RecordAnswer {
-    pub number: u32,
+    pub code: u32,
     pub next: Generator,
 }
 
 pub struct Uniforms {
-    pub number: u32,
+    pub code: u32,
     pub k: u64,
     pub v: u32,
     pub next: Generator,
@@ -108,7 +108,7 @@ impl Stream {
 fn step_squares() -> StepSquares
     ensures { λ r. ⌜ r ≡ record { s0 = squareOf (step 31 13 12); s1 = squareOf (step 29 2 4); s2 = squareOf (step 28 3 17) } ⌝ }
 {
-    let mut s0 = squares::unit_words();
+    let mut s0 = bit_matrix::unit_words();
     let mut s1 = s0;
     let mut s2 = s0;
     let mut j: usize = 0;
@@ -148,8 +148,8 @@ const MOST_COUNT: u64 = 0xffff_ffff_ffff_ffff;
 const MOST_ASKED: u32 = 1_000_000;
 
 // 16 for a request for more pairs than that.
-pub fn asked_number(n: u32) -> u32
-    ensures { λ r. ⌜ r ≡ askedNumber n ⌝ }
+pub fn asked_code(n: u32) -> u32
+    ensures { λ r. ⌜ r ≡ askedCode n ⌝ }
 {
     if MOST_ASKED < n {
         return 16;
@@ -173,9 +173,9 @@ impl Generator {
 
     // The same record n pairs on, its streams as they then are; the record itself where the count has no room for n.
     pub fn onward(self, a: Stream, b: Stream, n: u64) -> Generator
-        ensures { λ r. ⌜ r ≡ ifAccepted (countNumber self n) (onward self a b n) self ⌝ }
+        ensures { λ r. ⌜ r ≡ ifAccepted (countCode self n) (onward self a b n) self ⌝ }
     {
-        let full = self.count_number(n);
+        let full = self.count_code(n);
         if full != 0 {
             return self;
         }
@@ -187,8 +187,8 @@ impl Generator {
     }
 
     // The record's number: 0, or why a call on it is refused.
-    pub fn record_number(self) -> u32
-        ensures { λ r. ⌜ r ≡ recordNumber self ⌝ }
+    pub fn record_code(self) -> u32
+        ensures { λ r. ⌜ r ≡ recordCode self ⌝ }
     {
         let a = self.a;
         let b = self.b;
@@ -216,9 +216,9 @@ impl Generator {
             s2: b2,
         };
         let g = Generator::fresh_record(a, b);
-        let number = g.record_number();
-        if number == 0 {
-            return RecordAnswer { number, next: g };
+        let code = g.record_code();
+        if code == 0 {
+            return RecordAnswer { code, next: g };
         }
         let none = Stream {
             s0: 0,
@@ -226,15 +226,12 @@ impl Generator {
             s2: 0,
         };
         let zeros = Generator::fresh_record(none, none);
-        RecordAnswer {
-            number,
-            next: zeros,
-        }
+        RecordAnswer { code, next: zeros }
     }
 
     // The number of n pairs more: 13 where the count would pass its most.
-    pub fn count_number(self, n: u64) -> u32
-        ensures { λ r. ⌜ r ≡ countNumber self n ⌝ }
+    pub fn count_code(self, n: u64) -> u32
+        ensures { λ r. ⌜ r ≡ countCode self n ⌝ }
     {
         if MOST_COUNT - self.count < n {
             return 13;
@@ -243,8 +240,8 @@ impl Generator {
     }
 
     // 14 where a request is open.
-    pub fn open_number(self) -> u32
-        ensures { λ r. ⌜ r ≡ openNumber self ⌝ }
+    pub fn open_code(self) -> u32
+        ensures { λ r. ⌜ r ≡ openCode self ⌝ }
     {
         if self.waiting != 0 {
             return 14;
@@ -253,8 +250,8 @@ impl Generator {
     }
 
     // 15 where none is.
-    pub fn none_open_number(self) -> u32
-        ensures { λ r. ⌜ r ≡ noneOpenNumber self ⌝ }
+    pub fn none_open_code(self) -> u32
+        ensures { λ r. ⌜ r ≡ noneOpenCode self ⌝ }
     {
         if self.waiting != 0 {
             return 0;
@@ -263,28 +260,28 @@ impl Generator {
     }
 
     // The number of a call for n pairs.
-    pub fn pairs_number(self, n: u64) -> u32
-        ensures { λ r. ⌜ r ≡ pairsNumber self n ⌝ }
+    pub fn pairs_code(self, n: u64) -> u32
+        ensures { λ r. ⌜ r ≡ pairsCode self n ⌝ }
     {
-        let unfit = self.record_number();
+        let unfit = self.record_code();
         if unfit != 0 {
             return unfit;
         }
-        let open = self.open_number();
+        let open = self.open_code();
         if open != 0 {
             return open;
         }
-        self.count_number(n)
+        self.count_code(n)
     }
 
     // The two numbers of a pair: a draw from a, then one from b, as 48 and 16 bits.
     pub fn uniforms(self) -> Uniforms
         ensures { λ r. ⌜ r ≡ uniformsOf self ⌝ }
     {
-        let number = self.pairs_number(1);
-        if number != 0 {
+        let code = self.pairs_code(1);
+        if code != 0 {
             return Uniforms {
-                number,
+                code,
                 k: 0,
                 v: 0,
                 next: self,
@@ -296,7 +293,7 @@ impl Generator {
         let high = a.word() as u64;
         let low = b.word();
         Uniforms {
-            number,
+            code,
             k: high * 65536 + (low / 65536) as u64,
             v: low % 65536,
             next,
@@ -305,7 +302,7 @@ impl Generator {
 
     // Both streams n draws on: each square serves its register of a and of b.
     fn ahead(self, n: u64) -> Generator
-        ensures { λ r. ⌜ r ≡ ifAccepted (countNumber self n) (moved n self) self ⌝ }
+        ensures { λ r. ⌜ r ≡ ifAccepted (countCode self n) (moved n self) self ⌝ }
     {
         let square = step_squares();
         let a = self.a;
@@ -313,9 +310,9 @@ impl Generator {
         let square0 = square.s0;
         let square1 = square.s1;
         let square2 = square.s2;
-        let first = squares::powers(square0, n, a.s0, b.s0);
-        let second = squares::powers(square1, n, a.s1, b.s1);
-        let third = squares::powers(square2, n, a.s2, b.s2);
+        let first = bit_matrix::powers(square0, n, a.s0, b.s0);
+        let second = bit_matrix::powers(square1, n, a.s1, b.s1);
+        let third = bit_matrix::powers(square2, n, a.s2, b.s2);
         let moved_a = Stream {
             s0: first.x,
             s1: second.x,
@@ -333,12 +330,12 @@ impl Generator {
     pub fn skip(self, n: u64) -> RecordAnswer
         ensures { λ r. ⌜ r ≡ skipOf self n ⌝ }
     {
-        let number = self.pairs_number(n);
-        if number != 0 {
-            return RecordAnswer { number, next: self };
+        let code = self.pairs_code(n);
+        if code != 0 {
+            return RecordAnswer { code, next: self };
         }
         let next = self.ahead(n);
-        RecordAnswer { number, next }
+        RecordAnswer { code, next }
     }
 
     // The same record with another note.
@@ -359,13 +356,13 @@ impl Generator {
     }
 
     // The number of asking for n pairs.
-    fn ask_number(self, n: u32) -> u32
-        ensures { λ r. ⌜ r ≡ numberOf (an-ask n) self ⌝ }
+    fn ask_code(self, n: u32) -> u32
+        ensures { λ r. ⌜ r ≡ codeOf (an-ask n) self ⌝ }
     {
-        let unfit = self.record_number();
-        let open = self.open_number();
-        let many = asked_number(n);
-        let full = self.count_number(n as u64);
+        let unfit = self.record_code();
+        let open = self.open_code();
+        let many = asked_code(n);
+        let full = self.count_code(n as u64);
         let causes = [unfit, open, many, full];
         first_cause(&causes)
     }
@@ -374,20 +371,20 @@ impl Generator {
     pub fn ask(self, n: u32) -> RecordAnswer
         ensures { λ r. ⌜ r ≡ askOf self n ⌝ }
     {
-        let number = self.ask_number(n);
-        if number != 0 {
-            return RecordAnswer { number, next: self };
+        let code = self.ask_code(n);
+        if code != 0 {
+            return RecordAnswer { code, next: self };
         }
         let next = self.with_note(1, n);
-        RecordAnswer { number, next }
+        RecordAnswer { code, next }
     }
 
     // The number of giving up.
-    fn give_up_number(self) -> u32
-        ensures { λ r. ⌜ r ≡ numberOf give-up self ⌝ }
+    fn give_up_code(self) -> u32
+        ensures { λ r. ⌜ r ≡ codeOf give-up self ⌝ }
     {
-        let unfit = self.record_number();
-        let none = self.none_open_number();
+        let unfit = self.record_code();
+        let none = self.none_open_code();
         let causes = [unfit, none];
         first_cause(&causes)
     }
@@ -396,11 +393,11 @@ impl Generator {
     pub fn give_up(self) -> RecordAnswer
         ensures { λ r. ⌜ r ≡ giveUpOf self ⌝ }
     {
-        let number = self.give_up_number();
-        if number != 0 {
-            return RecordAnswer { number, next: self };
+        let code = self.give_up_code();
+        if code != 0 {
+            return RecordAnswer { code, next: self };
         }
         let next = self.without_note();
-        RecordAnswer { number, next }
+        RecordAnswer { code, next }
     }
 }

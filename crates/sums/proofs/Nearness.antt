@@ -31,14 +31,14 @@ from-low n k b t h l = omega (arith, l, mul-le-mul-right b h)
 -- a member's enclosure lies within 3 units of 2^-30 of G
 member-ends : (G : ℤ) (e : Enclosure) → Member G e → (lower G 3 ≤ᵖ lowest e) × (highest e ≤ᵖ upper G 3)
 member-ends G e m =
-    let low = from-low (m .number) (m .number - 3) (e .low .bottom) (e .low .top) (omega arith) (m .low) in
+    let low = from-low (m .size) (m .size - 3) (e .low .bottom) (e .low .top) (omega arith) (m .low) in
     go (e .negative) (m .value) low
   where
-    go : (s : Bool) → along s G ≡ pos (m .number) → m .number * e .low .bottom ≤ e .low .top * 2 ^ 30 + 3 * e .low .bottom →
+    go : (s : Bool) → along s G ≡ pos (m .size) → m .size * e .low .bottom ≤ e .low .top * 2 ^ 30 + 3 * e .low .bottom →
         (lower G 3 ≤ᵖ signed s (cond s (e .high) (e .low))) × (signed s (cond s (e .low) (e .high)) ≤ᵖ upper G 3)
     go true value low =
-        let same : G ≡ negℤ (pos (m .number)) = sym (negℤ-negℤ G) ∙ ap negℤ value in
-        let (a, b) = neg-parts (m .number) in
+        let same : G ≡ negℤ (pos (m .size)) = sym (negℤ-negℤ G) ∙ ap negℤ value in
+        let (a, b) = neg-parts (m .size) in
         rw (same, a, b) (omega (arith, m .high))
     go false value low = rw value (omega (arith, m .high))
 

@@ -10,7 +10,7 @@ use lib.ListN.{length}
 use borrow.Author.Tests.{le-leb, lt-leb}
 use Rattle.text.specs.Scan.{lines}
 use Rattle.text.proofs.Writing.{written-fits}
-use Rattle.forms.specs.Forms.{shot, printLine}
+use Rattle.job_lines.specs.Forms.{shot, printLine}
 use Rattle.job.specs.Job.{Outcome, refused, listed, answerOf, bufferAfter}
 use Rattle.job.proofs.Answered.{Told, onto-told, answer-within, printed-refused}
 use Rattle.survex_lines.specs.Lines.{leftOf, fed, remains}
@@ -57,25 +57,25 @@ unfolding survexOf
 survex-told text = from-told 1 (lines text)
 
 module _ (o : Outcome) (out : List ℕ) (r : LegsAnswer) (e : r ≡ legsAnswer o (length out)) where
-  abbrev number-is : r .number ≡ answerOf o (length out) .number
-  number-is = ap (λ (x : LegsAnswer). x .number) e
+  abbrev code-is : r .code ≡ answerOf o (length out) .code
+  code-is = ap (λ (x : LegsAnswer). x .code) e
 
   pub length-within : r .length ≤ length out
   length-within = omega (arith, ap (λ (x : LegsAnswer). x .length) e, answer-within o (length out) (answerOf o (length out)) refl)
 
-  pub buffer-kept : (r .number ≡ 0 → ⊥) → out ≡ bufferAfter o out
-  buffer-kept z = sym (printed-refused o out (λ t. z (number-is ∙ t)) .0)
+  pub buffer-kept : (r .code ≡ 0 → ⊥) → out ≡ bufferAfter o out
+  buffer-kept z = sym (printed-refused o out (λ t. z (code-is ∙ t)) .0)
 
 -- accepted, the buffer has the shot lines and then what it held
-pub buffer-is : (o : Outcome) (out out′ : List ℕ) (r : LegsAnswer) → Told o → Converts o (length out) r out out′ → r .number ≡ 0 → out′ ≡ bufferAfter o out
+pub buffer-is : (o : Outcome) (out out′ : List ℕ) (r : LegsAnswer) → Told o → Converts o (length out) r out out′ → r .code ≡ 0 → out′ ≡ bufferAfter o out
 unfolding bufferAfter answerOf
-buffer-is (refused n k) out out′ r told c z = absurd (omega (arith, told, ap (λ (x : LegsAnswer). x .number) (c .answer), z))
+buffer-is (refused n k) out out′ r told c z = absurd (omega (arith, told, ap (λ (x : LegsAnswer). x .code) (c .answer), z))
 buffer-is (listed bytes) out out′ r told c z = split (decLt (length out) (length bytes))
   where
     split : Dec (length out < length bytes) → out′ ≡ bufferAfter (listed bytes) out
     split (yes h) =
-        let q : r ≡ record { number = 10; line = 0; length = 0 } = c .answer ∙ rw (lt-leb (length bytes) (length out) h) in
-        absurd (omega (arith, z, ap (λ (x : LegsAnswer). x .number) q))
+        let q : r ≡ record { code = 10; line = 0; length = 0 } = c .answer ∙ rw (lt-leb (length bytes) (length out) h) in
+        absurd (omega (arith, z, ap (λ (x : LegsAnswer). x .code) q))
     split (no h) =
         let f : length bytes ≤ length out = omega (arith, h) in
         rw (le-leb (length bytes) (length out) f) (c .wrote bytes refl f ∙ written-fits out 0 bytes (omega (arith, f)) ∙ rw (zero-add (length bytes)))

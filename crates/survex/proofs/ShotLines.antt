@@ -10,8 +10,8 @@ use borrow.Author.Tests.{leb-true, ltb-true}
 use Rattle.text.specs.Limits.{nameLength}
 use Rattle.text.specs.Fields.{all, letterOrDigit, name, partOf}
 use Rattle.text.proofs.Decimal.{decimal-length}
-use Rattle.forms.specs.Forms.{shot, printLine}
-use Rattle.forms.specs.declared.Shot.{Shot as ShotFields}
+use Rattle.job_lines.specs.Forms.{shot, printLine}
+use Rattle.job_lines.specs.declared.Shot.{Shot as ShotFields}
 use Rattle.survex_leg.specs.Legs.{leg, readLeg}
 use Rattle.survex_leg.proofs.Facts.{LegFacts, leg-facts}
 use Rattle.survex_shot.specs.Shot.{Short}

@@ -13,10 +13,10 @@ use Rattle.text.specs.Fields.{decimal}
 use Rattle.text.specs.Forms.{mark, marks, printForm, readForm}
 use Rattle.text.proofs.Decimal.{decimal-length}
 use Rattle.text.proofs.Forms.{print-mark, print-byte, unmarked, printed-read as form-printed}
-use Rattle.forms.specs.Forms.{Form, seeds, sigma, shot, noForm, seedsForm, sigmaForm, readLine, printLine, Printable}
-use Rattle.forms.proofs.RoundTrip.{read-printed, printed-read}
+use Rattle.job_lines.specs.Forms.{Form, seeds, sigma, shot, noForm, seedsForm, sigmaForm, readLine, printLine, Printable}
+use Rattle.job_lines.proofs.RoundTrip.{read-printed, printed-read}
 use Rattle.job.specs.Limits.{mostBytes, mostShots, lastLine, mostDistance, mostBearing, listingRoom}
-use Rattle.job.specs.Refusals.{formless, misplaced, tooMany, beyond, seedNumber, refusal}
+use Rattle.job.specs.Refusals.{formless, misplaced, tooMany, beyond, seedCode, refusal}
 use Rattle.job.specs.Job.{refused, listed, jobOf, answerOf}
 use Rattle.job.specs.Theorems.{textOf, Accepts}
 use Rattle.job.proofs.Jobs.{line-printed, not-noForm, refused-not-listed, onto-listed, bytes-same}
@@ -143,7 +143,7 @@ fit-printable (shot f t d b) h = (h .0, h .1, omega (arith, h .2), omega (arith,
 fit-printable noForm h = absurd h
 
 fit-taken : (k : ℕ) (x : Form) → Fit x → 3 ≤ k → k ≤ lastLine → refusal k x ≡ 0
-unfolding Fit refusal formless misplaced tooMany beyond seedNumber
+unfolding Fit refusal formless misplaced tooMany beyond seedCode
 fit-taken k (seeds a0 a1 a2 b0 b1 b2) h p q = absurd h
 fit-taken k (sigma d b) h p q = absurd h
 fit-taken k (shot f t d b) h p q =
@@ -262,7 +262,7 @@ module _ (xs : List Form) (h : AllFit xs) (few : length xs ≤ mostShots) (one t
     few,
   ))
 
-  listed-whole : answerOf (jobOf (one ++ (two ++ textOf xs))) listingRoom .number ≡ 0
+  listed-whole : answerOf (jobOf (one ++ (two ++ textOf xs))) listingRoom .code ≡ 0
   unfolding answerOf
   listed-whole =
       let l = job-theorems.theorems .listed-job whole whole-accepts (omega arith) whole-short in

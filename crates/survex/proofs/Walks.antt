@@ -14,7 +14,7 @@ use Rattle.text.specs.Buffer.{written}
 use Rattle.text.specs.Forms.{marks, readForm, readFew, foundIn}
 use Rattle.text.specs.declared.form.Found.{Found}
 use Rattle.text.proofs.Writing.{written-on}
-use Rattle.forms.specs.Forms.{shot, printLine}
+use Rattle.job_lines.specs.Forms.{shot, printLine}
 use Rattle.job.specs.Job.{Outcome, refused, listed, onto, answerOf}
 use Rattle.job.proofs.Going.{onto-onto}
 use Rattle.survex_lines.specs.Lines.{leftOf, fed, remains, remainingFrom}
@@ -118,7 +118,7 @@ pub record Going (text : List ℕ) (o : Outcome) (room : ℕ) (out₀ out : List
   pub size : length out ≡ length out₀
 
 pub going-start : (text : List ℕ) (room : ℕ) (out : List ℕ) (at line : ℕ) → Starts text at line
-    → Going text (legsFrom line (lines (drop at text))) room out out at line (record { number = 0; used = 0 })
+    → Going text (legsFrom line (lines (drop at text))) room out out at line (record { code = 0; used = 0 })
 unfolding written
 going-start text room out at line s =
     record {
@@ -132,10 +132,10 @@ going-start text room out at line s =
     }
 
 -- a text that is refused writes nothing that counts
-pub refused-converts : (o : Outcome) (room number line : ℕ) (out out′ : List ℕ) → o ≡ refused number line
-    → Converts o room (record { number = number; line = line; length = 0 }) out out′
+pub refused-converts : (o : Outcome) (room code line : ℕ) (out out′ : List ℕ) → o ≡ refused code line
+    → Converts o room (record { code = code; line = line; length = 0 }) out out′
 unfolding answerOf
-refused-converts o room number line out out′ e =
+refused-converts o room code line out out′ e =
     record {
       answer = rw e;
       wrote = λ b f h. absurd (apart (sym e ∙ f));
@@ -145,23 +145,23 @@ refused-converts o room number line out out′ e =
     isListed (refused n k) = false
     isListed (listed b) = true
 
-    apart : {b : List ℕ} → refused number line ≡ listed b → ⊥
+    apart : {b : List ℕ} → refused code line ≡ listed b → ⊥
     apart f = false≢true (ap isListed f)
 
 listed-answer : (o : Outcome) (room : ℕ) (bytes : List ℕ) (m : Measured) → o ≡ listed bytes → m ≡ measuredOf room (length bytes)
-    → record { number = m .number; line = 0; length = m .used } ≡ legsAnswer o room
+    → record { code = m .code; line = 0; length = m .used } ≡ legsAnswer o room
 unfolding answerOf
 listed-answer o room bytes m e f = rw (e, f) (split (decLt room (length bytes)))
   where
     split : Dec (room < length bytes)
-        → record { number = measuredOf room (length bytes) .number; line = 0; length = measuredOf room (length bytes) .used } ≡ legsAnswer (listed bytes) room
+        → record { code = measuredOf room (length bytes) .code; line = 0; length = measuredOf room (length bytes) .used } ≡ legsAnswer (listed bytes) room
     split (yes h) = rw (measured-over room (length bytes) h, lt-leb (length bytes) room h)
     split (no h) = rw (measured-fits room (length bytes) (omega (arith, h)), le-leb (length bytes) room (omega (arith, h)))
 
 module _ (text : List ℕ) (o : Outcome) (room : ℕ) (out₀ out : List ℕ) (at line : ℕ) (m : Measured) (g : Going text o room out₀ out at line m)
     (r : Remaining) (e : r ≡ remainingFrom text at) where
   -- no line is left
-  pub going-end : r .found ≡ false → Converts o room (record { number = m .number; line = 0; length = m .used }) out₀ out
+  pub going-end : r .found ≡ false → Converts o room (record { code = m .code; line = 0; length = m .used }) out₀ out
   unfolding remainingFrom legsFrom
   going-end f =
       let n = none-found legsFrom legs-skip (lines (drop at text)) at 0 (sym (ap (λ (x : Remaining). x .found) e) ∙ f) line in
@@ -191,7 +191,7 @@ module _ (text : List ℕ) (o : Outcome) (room : ℕ) (out₀ out : List ℕ) (a
     leg-here = g .so-far ∙ ap (λ (i : ℕ). onto (g .bytes) (legsFrom i (lines (drop at text)))) (sym (add-zero line))
         ∙ ap (onto (g .bytes)) (leg-handed .onward line) ∙ rw (leg-handed .left, legsFrom)
 
-    pub leg-unfed : r .fed ≡ false → (out′ : List ℕ) → Converts o room (record { number = 21; line = line + r .passed; length = 0 }) out₀ out′
+    pub leg-unfed : r .fed ≡ false → (out′ : List ℕ) → Converts o room (record { code = 21; line = line + r .passed; length = 0 }) out₀ out′
     unfolding legLine
     leg-unfed t out′ =
         let q : fed (leg-handed .line) ≡ false = sym (leg-handed .is-fed) ∙ t in
@@ -206,15 +206,15 @@ module _ (text : List ℕ) (o : Outcome) (room : ℕ) (out₀ out : List ℕ) (a
           let p : leftOf (leg-handed .line) ≡ take (r .to - r .from) (drop (r .from) text) = sym (leg-handed .part) in
           rw (q, p)
 
-      pub leg-wrong : (s .number ≡ 0 → ⊥) → Converts o room (record { number = s .number; line = line + r .passed; length = 0 }) out₀ out′
-      leg-wrong z = refused-converts o room (s .number) (line + r .passed) out₀ out′ (leg-here ∙ rw said-is (go (readLeg (words (take (r .to - r .from) (drop (r .from) text)))) tk))
+      pub leg-wrong : (s .code ≡ 0 → ⊥) → Converts o room (record { code = s .code; line = line + r .passed; length = 0 }) out₀ out′
+      leg-wrong z = refused-converts o room (s .code) (line + r .passed) out₀ out′ (leg-here ∙ rw said-is (go (readLeg (words (take (r .to - r .from) (drop (r .from) text)))) tk))
         where
           go : (x : Said) → Takes x room m s out out′ → onto (g .bytes) (onLeg (line + r .passed) x (legsFrom (line + r .passed + 1) (lines (drop (r .next) text)))) ≡
-              refused (s .number) (line + r .passed)
+              refused (s .code) (line + r .passed)
           go (leg a b c d) k = absurd (z (k .0))
           go (wrong n) k = rw (← k .0)
 
-      pub leg-on : s .number ≡ 0 → length out′ ≡ length out → Going text o room out₀ out′ (r .next) (line + r .passed + 1) (s .next)
+      pub leg-on : s .code ≡ 0 → length out′ ≡ length out → Going text o room out₀ out′ (r .next) (line + r .passed + 1) (s .next)
       leg-on z l = go _ refl tk
         where
           go : (x : Said) → readLeg (words (take (r .to - r .from) (drop (r .from) text))) ≡ x → Takes x room m s out out′

@@ -7,7 +7,7 @@ use lib.Dec.{leb, eqb}
 use lib.ListN.{length, drop}
 use Rattle.text.specs.Scan.{lines}
 use Rattle.text.specs.Buffer.{written}
-use Rattle.forms.specs.Forms.{shot, printLine}
+use Rattle.job_lines.specs.Forms.{shot, printLine}
 use Rattle.job.specs.Job.{Outcome, refused, listed}
 use Rattle.survex_leg.specs.Legs.{Said, leg, wrong}
 use Rattle.survex.specs.Survex.{survexOf, legsFrom, legsAnswer}
@@ -20,18 +20,18 @@ use Rattle.survex.specs.declared.walk.DataLine.{DataLine}
 
 -- so many bytes in a room: number 0; or too many for it: number 10
 unfoldable pub measuredOf : ℕ → ℕ → Measured
-measuredOf room total = cond (leb total room) (record { number = 0; used = total }) (record { number = 10; used = 0 })
+measuredOf room total = cond (leb total room) (record { code = 0; used = total }) (record { code = 10; used = 0 })
 
 unfoldable pub grownOf : ℕ → Measured → ℕ → Measured
 grownOf room m n =
-    cond (eqb (m .number) 0 && leb (m .used + n) room) (record { number = 0; used = m .used + n }) (record { number = 10; used = 0 })
+    cond (eqb (m .code) 0 && leb (m .used + n) room) (record { code = 0; used = m .used + n }) (record { code = 10; used = 0 })
 
 -- what a leg leaves: its number; or what is measured after its line, and the buffer with it
 abbrev pub Takes : Said → ℕ → Measured → Taken → List ℕ → List ℕ → Type 0
 Takes (leg from to d b) room m r out out′ =
-    (r .number ≡ 0) × (r .next ≡ grownOf room m (length (printLine (shot from to d b)))) ×
+    (r .code ≡ 0) × (r .next ≡ grownOf room m (length (printLine (shot from to d b)))) ×
     (out′ ≡ written out (m .used) (printLine (shot from to d b)))
-Takes (wrong number) room m r out out′ = (r .number ≡ number) × (number ≡ 0 → ⊥)
+Takes (wrong code) room m r out out′ = (r .code ≡ code) × (code ≡ 0 → ⊥)
 
 -- ---- The whole text
 

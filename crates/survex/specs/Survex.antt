@@ -6,7 +6,7 @@ use mathlib.Core.Option.{Option, some, none}
 use Rattle.text.specs.Ascii.{ascii}
 use Rattle.text.specs.Scan.{lines}
 use Rattle.text.specs.Forms.{readForm}
-use Rattle.forms.specs.Forms.{shot, printLine}
+use Rattle.job_lines.specs.Forms.{shot, printLine}
 use Rattle.job.specs.Job.{Outcome, refused, listed, onto, answerOf}
 use Rattle.survex_lines.specs.Lines.{leftOf, fed, remains}
 use Rattle.survex_leg.specs.Legs.{Said, leg, wrong, words, readLeg}
@@ -30,7 +30,7 @@ legLine l = cond (fed l) (readLeg (words (leftOf l))) (wrong 21)
 -- "a job's shot lines, one a leg in order", before those of the lines to come; or the refusal of line k
 abbrev pub onLeg : ℕ → Said → Outcome → Outcome
 onLeg k (leg from to d b) rest = onto (printLine (shot from to d b)) rest
-onLeg k (wrong number) rest = refused number k
+onLeg k (wrong code) rest = refused code k
 
 -- The legs from line k on: lines that do not remain are passed over, and count
 unfoldable pub legsFrom : ℕ → List (List ℕ) → Outcome
@@ -49,4 +49,4 @@ survexOf text = survexFrom 1 (lines text)
 -- The call's answer with a buffer of a given length, "line and length told as in a job"; the buffer is then as a job's is
 -- (`bufferAfter`)
 abbrev pub legsAnswer : Outcome → ℕ → LegsAnswer
-legsAnswer o room = record { number = answerOf o room .number; line = answerOf o room .line; length = answerOf o room .length }
+legsAnswer o room = record { code = answerOf o room .code; line = answerOf o room .line; length = answerOf o room .length }

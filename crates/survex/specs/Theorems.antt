@@ -6,7 +6,7 @@ use mathlib.Core.List.{List, [], _∷_, _++_, map}
 use lib.ListN.{length, drop}
 use Rattle.text.specs.Fields.{name}
 use Rattle.text.specs.Scan.{lines}
-use Rattle.forms.specs.Forms.{Form, seeds, sigma, shot, noForm, readLine}
+use Rattle.job_lines.specs.Forms.{Form, seeds, sigma, shot, noForm, readLine}
 use Rattle.job.specs.Limits.{mostShots, mostDistance, mostBearing, listingRoom}
 use Rattle.job.specs.Refusals.{refusal}
 use Rattle.job.specs.Job.{listed, jobOf, answerOf}
@@ -23,7 +23,7 @@ remaining (l ∷ ls) = cond (remains l) (l ∷ remaining ls) (remaining ls)
 -- the shot that a leg says
 unfoldable pub shotOf : Said → Form
 shotOf (leg from to d b) = shot from to d b
-shotOf (wrong number) = noForm
+shotOf (wrong code) = noForm
 
 -- the shots of the legs, in order: all lines that remain but the first
 abbrev pub shotsIn : List ℕ → List Form
@@ -53,4 +53,4 @@ pub record Theorems : Type 0 where
   -- under any fit seeds line and sigma line, a converted survey of at most 500 legs is listed
   pub listed-job : (text bytes one two : List ℕ) → survexOf text ≡ listed bytes → length (shotsIn text) ≤ mostShots
       → refusal 1 (readLine one) ≡ 0 → refusal 2 (readLine two) ≡ 0
-      → answerOf (jobOf (one ++ (two ++ bytes))) listingRoom .number ≡ 0
+      → answerOf (jobOf (one ++ (two ++ bytes))) listingRoom .code ≡ 0

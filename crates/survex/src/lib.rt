@@ -2,7 +2,7 @@
 mod walk;
 
 use crate::walk::convert;
-use rows::put_refused;
+use listing_writer::put_refused;
 ghost use Prim.Native.Nat.{_≤_};
 ghost use mathlib.Core.Path.{_≡_};
 ghost use lib.ListN.{length};
@@ -12,7 +12,7 @@ ghost use Rattle.survex.specs.Survex.{survexOf, legsAnswer};
 
 // The number, 0 where the text is accepted; the line, 0 where no line is at fault; and the length of the shot lines.
 pub struct LegsAnswer {
-    pub number: u32,
+    pub code: u32,
     pub line: usize,
     pub length: usize,
 }
@@ -27,7 +27,7 @@ pub fn legs(text: &[u8], out: &mut [u8]) -> LegsAnswer
     let room = out.len();
     let mut spare = [0u8; 1];
     let measured = convert(text, room, &mut spare);
-    if measured.number != 0 {
+    if measured.code != 0 {
         return measured;
     }
     convert(text, room, out)
@@ -39,8 +39,8 @@ pub fn print_legs(text: &[u8], out: &mut [u8]) -> usize
     ensures { λ r. ⌜ r ≤ length (now (out .exit)) ⌝ }
 {
     let answer = legs(text, out);
-    if answer.number == 0 {
+    if answer.code == 0 {
         return answer.length;
     }
-    put_refused(out, answer.number, answer.line as u64)
+    put_refused(out, answer.code, answer.line as u64)
 }

@@ -16,13 +16,13 @@ ghost use Rattle.survex.specs.Private.{grownOf, Takes, DataFound, Starts
 
 // How many bytes the legs so far have, where they fit: number 0; else number 10, and no bytes.
 pub struct Measured {
-    pub number: u32,
+    pub code: u32,
     pub used: usize,
 }
 
 // The number of a leg, 0 where it is accepted, and what is measured after it.
 pub struct Taken {
-    pub number: u32,
+    pub code: u32,
     pub next: Measured,
 }
 
@@ -37,26 +37,17 @@ pub struct DataLine {
 fn grown(room: usize, m: Measured, n: usize) -> Measured
     ensures { λ r. ⌜ r ≡ grownOf room m n ⌝ }
 {
-    if m.number != 0 {
-        return Measured {
-            number: 10,
-            used: 0,
-        };
+    if m.code != 0 {
+        return Measured { code: 10, used: 0 };
     }
     if room < m.used {
-        return Measured {
-            number: 10,
-            used: 0,
-        };
+        return Measured { code: 10, used: 0 };
     }
     if room - m.used < n {
-        return Measured {
-            number: 10,
-            used: 0,
-        };
+        return Measured { code: 10, used: 0 };
     }
     Measured {
-        number: 0,
+        code: 0,
         used: m.used + n,
     }
 }
@@ -67,14 +58,14 @@ fn take_leg(line: &[u8], room: usize, m: Measured, out: &mut [u8]) -> Taken
 {
     let said = leg_of(line);
     match said {
-        LegLine::Wrong(number) => Taken { number, next: m },
+        LegLine::Wrong(code) => Taken { code, next: m },
         LegLine::Leg(s) => {
             let shot = shot_line(line, s);
             let n = shot.length;
             let bytes = shot.bytes;
             put(out, m.used, &bytes[0..n]);
             Taken {
-                number: 0,
+                code: 0,
                 next: grown(room, m, n),
             }
         }
@@ -119,19 +110,19 @@ fn data_line(text: &[u8]) -> DataLine
     }
 }
 
-// The legs from a place on, the line there being of that number.
-fn walk(text: &[u8], first: usize, number: usize, room: usize, out: &mut [u8]) -> LegsAnswer
-    requires { ⌜ Starts (now text) first number ⌝ }
-    ensures { λ r. ⌜ Converts (legsFrom number (lines (drop first (now (text .entry))))) room r (now (out .entry)) (now (out .exit)) ⌝ }
+// The legs from a place on, the first of them being that line.
+fn walk(text: &[u8], first: usize, start: usize, room: usize, out: &mut [u8]) -> LegsAnswer
+    requires { ⌜ Starts (now text) first start ⌝ }
+    ensures { λ r. ⌜ Converts (legsFrom start (lines (drop first (now (text .entry))))) room r (now (out .entry)) (now (out .exit)) ⌝ }
 {
     let mut at = first;
-    let mut line = number;
-    let mut m = Measured { number: 0, used: 0 };
+    let mut line = start;
+    let mut m = Measured { code: 0, used: 0 };
     loop {
         let l = line_from(text, at);
         if !l.found {
             return LegsAnswer {
-                number: m.number,
+                code: m.code,
                 line: 0,
                 length: m.used,
             };
@@ -139,7 +130,7 @@ fn walk(text: &[u8], first: usize, number: usize, room: usize, out: &mut [u8]) -
         line += l.passed;
         if !l.fed {
             return LegsAnswer {
-                number: 21,
+                code: 21,
                 line,
                 length: 0,
             };
@@ -147,10 +138,10 @@ fn walk(text: &[u8], first: usize, number: usize, room: usize, out: &mut [u8]) -
         let from = l.from;
         let to = l.to;
         let t = take_leg(&text[from..to], room, m, out);
-        let number = t.number;
-        if number != 0 {
+        let code = t.code;
+        if code != 0 {
             return LegsAnswer {
-                number,
+                code,
                 line,
                 length: 0,
             };
@@ -168,7 +159,7 @@ pub fn convert(text: &[u8], room: usize, out: &mut [u8]) -> LegsAnswer
     let data = data_line(text);
     if !data.ok {
         return LegsAnswer {
-            number: 21,
+            code: 21,
             line: data.line,
             length: 0,
         };

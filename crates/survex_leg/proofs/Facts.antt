@@ -8,8 +8,8 @@ use lib.Dec.{leb, eqb}
 use lib.ListN.{length}
 use borrow.Author.Tests.{leb-true}
 use Rattle.text.specs.Fields.{name}
-use Rattle.forms.specs.Forms.{fieldAt}
-use Rattle.rows.specs.Rounding.{turnSteps}
+use Rattle.job_lines.specs.Forms.{fieldAt}
+use Rattle.listing_writer.specs.Rounding.{turnSteps}
 use Rattle.survex_leg.specs.Limits.{tapeDecimals, compassDecimals, mostTape, compassTurn}
 use Rattle.survex_leg.specs.Legs.{Said, leg, wrong, number, tapeIn, compassIn, level, stepOf, legForm, legRange, readLeg}
 

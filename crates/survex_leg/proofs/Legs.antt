@@ -8,7 +8,7 @@ use lib.ListN.{length, getD}
 use borrow.Author.Tests.{leb-true, lt-leb, le-leb, eq-eqb, ne-eqb}
 use Rattle.text.specs.Fields.{name}
 use Rattle.text.specs.declared.field.Numeral.{Numeral}
-use Rattle.forms.specs.Forms.{fieldAt}
+use Rattle.job_lines.specs.Forms.{fieldAt}
 use Rattle.survex_leg.specs.Limits.{tapeDecimals, compassDecimals, mostTape, compassTurn}
 use Rattle.survex_leg.specs.Legs.{Reads, leg, wrong, number, tapeIn, compassIn, level, stepOf, legForm, legRange, readLeg}
 use Rattle.survex_leg.specs.Private.{NumbersOf}

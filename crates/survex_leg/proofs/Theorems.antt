@@ -11,7 +11,7 @@ use lib.ListN.{length, drop-of-length-le}
 use borrow.Author.Tests.{leb-true, ltb-false}
 use Rattle.text.specs.Fields.{all, digit, value}
 use Rattle.text.proofs.Decimal.{value-append}
-use Rattle.rows.specs.Rounding.{turnSteps}
+use Rattle.listing_writer.specs.Rounding.{turnSteps}
 use Rattle.survex_leg.specs.Limits.{wholeDigits, compassTurn}
 use Rattle.survex_leg.specs.Legs.{whole, pointed, decimals, digitsUpTo, number, scaled, stepOf}
 use Rattle.survex_leg.specs.Theorems.{Nearest, Theorems}

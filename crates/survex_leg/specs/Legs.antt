@@ -9,8 +9,8 @@ use Rattle.text.specs.Ascii.{ascii, byte}
 use Rattle.text.specs.Scan.{oneOf, upTo, before}
 use Rattle.text.specs.Fields.{all, within, digit, name, value, partOf}
 use Rattle.text.specs.declared.field.Numeral.{Numeral}
-use Rattle.forms.specs.Forms.{fieldAt}
-use Rattle.rows.specs.Rounding.{turnSteps}
+use Rattle.job_lines.specs.Forms.{fieldAt}
+use Rattle.listing_writer.specs.Rounding.{turnSteps}
 use Rattle.survex_lines.specs.Lines.{blank}
 use Rattle.survex_leg.specs.Limits.{wholeDigits, tapeDecimals, compassDecimals, mostTape, compassTurn}
 use Rattle.survex_leg.specs.declared.LegLine.{LegLine}

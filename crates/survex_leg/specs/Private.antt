@@ -10,7 +10,7 @@ use Rattle.text.specs.Limits.{numeralBound}
 use Rattle.text.specs.Fields.{name, value, partOf}
 use Rattle.text.specs.declared.field.Place.{Place}
 use Rattle.text.specs.declared.field.Numeral.{Numeral}
-use Rattle.forms.specs.Forms.{fieldAt}
+use Rattle.job_lines.specs.Forms.{fieldAt}
 use Rattle.survex_lines.specs.Lines.{blank, notBlank}
 use Rattle.survex_leg.specs.Limits.{tapeDecimals, compassDecimals}
 use Rattle.survex_leg.specs.Legs.{words, digitsUpTo, number, tapeIn, compassIn}

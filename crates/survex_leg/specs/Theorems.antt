@@ -5,7 +5,7 @@ use mathlib.Core.Bool.{true}
 use mathlib.Core.List.{List, _++_}
 use lib.ListN.{length}
 use Rattle.text.specs.Fields.{value}
-use Rattle.rows.specs.Rounding.{turnSteps}
+use Rattle.listing_writer.specs.Rounding.{turnSteps}
 use Rattle.survex_leg.specs.Limits.{compassTurn}
 use Rattle.survex_leg.specs.Legs.{whole, decimals, number, scaled, stepOf}
 

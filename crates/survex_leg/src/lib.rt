@@ -1,6 +1,6 @@
 // One leg of a Survex text: five fields, its numbers, and the shot that it gives (document 02, Job 12).
-use forms::Shot;
-use rows::TURN_STEPS;
+use job_lines::Shot;
+use listing_writer::TURN_STEPS;
 use survex_lines::skip_blanks;
 use text::field::Numeral;
 use text::field::Place;

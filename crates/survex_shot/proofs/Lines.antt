@@ -10,8 +10,8 @@ use Rattle.text.specs.Forms.{printForm}
 use Rattle.text.specs.Buffer.{written, placeAfter, Puts}
 use Rattle.text.proofs.Decimal.{decimal-length}
 use Rattle.text.proofs.Writing.{place-fits, written-take, written-length}
-use Rattle.forms.specs.Forms.{shot, shotForm, shotIn, printLine}
-use Rattle.forms.specs.declared.Shot.{Shot as ShotFields}
+use Rattle.job_lines.specs.Forms.{shot, shotForm, shotIn, printLine}
+use Rattle.job_lines.specs.declared.Shot.{Shot as ShotFields}
 use Rattle.survex_shot.specs.Shot.{shotRoom, Short, ShotBytes}
 use Rattle.survex_shot.specs.declared.ShotLine.{ShotLine}
 

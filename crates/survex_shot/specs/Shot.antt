@@ -5,7 +5,7 @@ use mathlib.Core.List.{List}
 use lib.ListN.{length, take}
 use Rattle.text.specs.Limits.{nameLength}
 use Rattle.text.specs.Fields.{partOf}
-use Rattle.forms.specs.declared.Shot.{Shot as ShotFields}
+use Rattle.job_lines.specs.declared.Shot.{Shot as ShotFields}
 use Rattle.survex_shot.specs.declared.ShotLine.{ShotLine}
 
 -- the bytes of the longest

@@ -1,5 +1,5 @@
 // The shot line that a leg gives, as a job has it (document 02, Job 12).
-use forms::Shot;
+use job_lines::Shot;
 use text::buffer::put;
 use text::buffer::put_field;
 use text::buffer::put_numeral;
@@ -10,7 +10,7 @@ ghost use mathlib.Core.List.{[], _∷_, _++_};
 ghost use Rattle.text.specs.Ascii.{ascii, byte};
 ghost use Rattle.text.specs.Buffer.{Puts};
 ghost use Rattle.text.specs.Fields.{decimal};
-ghost use Rattle.forms.specs.Forms.{shotIn, printLine};
+ghost use Rattle.job_lines.specs.Forms.{shotIn, printLine};
 ghost use Rattle.survex_shot.specs.Shot.{shotRoom};
 
 // The room of the longest shot line: two names of 12, a distance of 7 digits, a bearing of 5, and what stands between.

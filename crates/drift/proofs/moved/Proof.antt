@@ -45,7 +45,7 @@ at-once : (w : Window) (x : ℤ) {out : ℤ} {sums : Sums} {held place : ℕ}
     → sums ≡ sumsOf (w .sum) (w .squares) out x
     → held ≡ heldAfter (w .held) (w .size)
     → place ≡ placeAfter (w .place) (w .size)
-    → record { number = 0; size = w .size; held = held; place = place; sum = sums .sum; squares = sums .squares } ≡ numbersOf (accepted (movedOf w x))
+    → record { code = 0; size = w .size; held = held; place = place; sum = sums .sum; squares = sums .squares } ≡ numbersOf (accepted (movedOf w x))
 unfolding movedOf
 at-once w x o s h p = rw (p, h, s, o) refl
 

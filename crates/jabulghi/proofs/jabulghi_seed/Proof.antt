@@ -14,7 +14,7 @@ packed-requires c κs = search needs
 returns : tie.Need-returns
 returns c =
     let seeded = c .before .before .seed .ensures in
-    (ap (λ (s : RecordAnswer). s .number) seeded, rw seeded at (c .packed .ensures))
+    (ap (λ (s : RecordAnswer). s .code) seeded, rw seeded at (c .packed .ensures))
 
 pub jabulghi-seed-spec : {M : Type 1} → statement M
 jabulghi-seed-spec = tie.close (tie.spec seed-requires packed-requires returns)

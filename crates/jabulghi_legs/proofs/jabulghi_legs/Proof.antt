@@ -15,7 +15,7 @@ returns : tie.Need-returns
 returns c =
     let legs = c .before .before .legs in
     let e = legs .ensures .0 in (
-      ap (λ (x : LegsAnswer). x .number) e,
+      ap (λ (x : LegsAnswer). x .code) e,
       (ap (λ (x : LegsAnswer). x .line) e, (ap (λ (x : LegsAnswer). x .length) e, legs .ensures .1 .0)),
     )
 

@@ -28,7 +28,7 @@ returns c =
     let northing = c .before .struct-told4 .given in
     let northing-low : SFits w64 (r .northing .low) = record { sfits = northing .0 .1 } in
     let northing-high : SFits w64 (r .northing .high) = record { sfits = northing .1 .0 .1 } in (
-      ap (λ (m : IntervalSums). m .number) e,
+      ap (λ (m : IntervalSums). m .code) e,
       (
         stored east-low east-high (stored north-low north-high refl) ∙ ap (λ (m : IntervalSums). fourOf (m .east) (m .north)) e,
         (

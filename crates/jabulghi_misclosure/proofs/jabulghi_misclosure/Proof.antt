@@ -21,7 +21,7 @@ returns c =
     let easting : SFits w64 (miss .result .easting) = record { sfits = told .1 .1 .1 .1 .0 .1 } in
     let northing : SFits w64 (miss .result .northing) = record { sfits = told .1 .1 .1 .1 .1 .0 .1 } in
     let e = miss .ensures in (
-      ap (λ (m : Miss). m .number) e,
+      ap (λ (m : Miss). m .code) e,
       (
         stored east north refl ∙ ap (λ (m : Miss). m .east ∷ m .north ∷ []) e,
         (stored easting northing refl ∙ ap (λ (m : Miss). m .easting ∷ m .northing ∷ []) e, (ap (λ (m : Miss). m .line) e, λ l k. theorems .close _ l k .0)),

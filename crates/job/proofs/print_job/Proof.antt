@@ -22,7 +22,7 @@ returns c =
     let out = start .args .out .now in
     let o = jobOf (start .args .text .now) in
     let list = c .before .before .before .before .list in
-    let accepted = sym (ap (λ (r : JobAnswer). r .number) (list .ensures .0)) ∙ c .if1 .taken in
+    let accepted = sym (ap (λ (r : JobAnswer). r .code) (list .ensures .0)) ∙ c .if1 .taken in
     let puts = printed-listed o out (job-told (start .args .text .now)) accepted in
     rw (list .ensures .0, list .ensures .1 .0) (puts, puts-within out 0 (outputOf o (length out)) (omega arith) puts)
 
@@ -41,7 +41,7 @@ returns-2 c =
     let out = start .args .out .now in
     let o = jobOf (start .args .text .now) in
     let list = c .before .before .before .before .before .before .before .before .before .list in
-    let (same, row) = printed-refused o out (λ z. c .before .before .before .before .before .if1 .left (ap (λ (r : JobAnswer). r .number) (list .ensures .0) ∙ z)) in
+    let (same, row) = printed-refused o out (λ z. c .before .before .before .before .before .if1 .left (ap (λ (r : JobAnswer). r .code) (list .ensures .0) ∙ z)) in
     let puts = rw (list .ensures .1 .0 ∙ same, list .ensures .0, row) at (c .before .before .put-refused .ensures) in
     (puts, puts-within out 0 (outputOf o (length out)) (omega arith) puts)
 

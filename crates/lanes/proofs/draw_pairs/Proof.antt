@@ -7,8 +7,8 @@ use native.Mathlib.Omega.{arith}
 use lib.ListN.{length, take, set, length-set}
 use lib.Seq.{take-suc-set, take-all}
 use borrow.Author.Needs.{needs}
-use Rattle.squares.specs.Squares.{repeat}
-use Rattle.squares.proofs.Theorems.{repeat-add}
+use Rattle.bit_matrix.specs.Squares.{repeat}
+use Rattle.bit_matrix.proofs.Theorems.{repeat-add}
 use Rattle.streams.specs.declared.Stream.{Stream}
 use Rattle.streams.specs.Streams.{advance}
 use Rattle.streams.specs.Recurrence.{InRange}

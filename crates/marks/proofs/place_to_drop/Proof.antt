@@ -10,11 +10,11 @@ use Rattle.marks.proofs.place_to_drop.Tie as tie
 place-of-requires : tie.Need-place-of-requires
 place-of-requires c κs = search needs
 
-name-number-requires : tie.Need-name-number-requires
-name-number-requires c κs = search needs
+name-code-requires : tie.Need-name-code-requires
+name-code-requires c κs = search needs
 
-place-number-requires : tie.Need-place-number-requires
-place-number-requires c κs = search needs
+place-code-requires : tie.Need-place-code-requires
+place-code-requires c κs = search needs
 
 slice-aggregate-first-cause : tie.Need-slice-aggregate-first-cause
 slice-aggregate-first-cause c = search needs
@@ -28,17 +28,17 @@ returns c =
     both (drop-inside _ _)
     (rw (
       ← c .before .before .before .before .place-of .ensures,
-      ← c .before .before .before .name-number .ensures,
-      ← c .before .before .place-number .ensures,
-    ) (ap (λ (n : ℕ). record { number = n; place = c .before .before .before .before .place-of .result }) (c .first-cause .ensures)))
+      ← c .before .before .before .name-code .ensures,
+      ← c .before .before .place-code .ensures,
+    ) (ap (λ (n : ℕ). record { code = n; place = c .before .before .before .before .place-of .result }) (c .first-cause .ensures)))
 
 pub place-to-drop-spec : {M : Type 1} → statement M
 place-to-drop-spec =
     tie.close
     (tie.spec
     place-of-requires
-    name-number-requires
-    place-number-requires
+    name-code-requires
+    place-code-requires
     slice-aggregate-first-cause
     first-cause-requires
     returns)

@@ -33,7 +33,7 @@ returns-2 c =
     let size : length records ≡ 16 = rw length-map at (c .before .before .before .before .before .before .good .0 .1 .1 .1 .0 .1 .0 .1) in
     let at = c .before .before .before .place-to-return .ensures .1 (c .before .before .if1 .left) in
     rw (← (c .before .before .before .place-to-return .ensures .0), c .before .before .if1 .left, c .accepted .ensures)
-    (ap (λ (g : Generator). record { number = 0; next = g }) (same-inside records _ _ noRecord (omega (arith, size, at))))
+    (ap (λ (g : Generator). record { code = 0; next = g }) (same-inside records _ _ noRecord (omega (arith, size, at))))
 
 pub return-to-spec : {M : Type 1} → statement M
 return-to-spec =

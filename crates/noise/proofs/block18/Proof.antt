@@ -7,17 +7,17 @@ use Rattle.noise.proofs.Laws.{block-accepted}
 use Rattle.noise.proofs.block18.Statement.{statement}
 use Rattle.noise.proofs.block18.Tie as tie
 
-block-number-requires : tie.Need-block-number-requires
-block-number-requires c κs = search needs
+block-code-requires : tie.Need-block-code-requires
+block-code-requires c κs = search needs
 
 returns : tie.Need-returns
 unfolding blockOf blockHolds
 returns c =
-    let number-is = c .before .block-number .ensures in
-    (rw (← number-is, ne-eqb _ _ (c .if1 .taken)), rw (← number-is, ne-eqb _ _ (c .if1 .taken)))
+    let code-is = c .before .block-code .ensures in
+    (rw (← code-is, ne-eqb _ _ (c .if1 .taken)), rw (← code-is, ne-eqb _ _ (c .if1 .taken)))
 
 stretches18-requires : tie.Need-stretches18-requires
-stretches18-requires c κs = block-accepted _ _ .0 (sym (c .before .before .block-number .ensures) ∙ c .before .if1 .left)
+stretches18-requires c κs = block-accepted _ _ .0 (sym (c .before .before .block-code .ensures) ∙ c .before .if1 .left)
 
 same-length : tie.Need-same-length
 same-length c = search needs
@@ -25,10 +25,10 @@ same-length c = search needs
 returns-2 : tie.Need-returns-2
 unfolding blockOf blockHolds
 returns-2 c =
-    let number-is = c .before .before .before .before .block-number .ensures in
+    let code-is = c .before .before .before .before .block-code .ensures in
     let accepted = c .before .before .before .if1 .left in
-    (rw (c .before .stretches18 .ensures .0, ← number-is, accepted), rw (← number-is, accepted) (c .before .stretches18 .ensures .1))
+    (rw (c .before .stretches18 .ensures .0, ← code-is, accepted), rw (← code-is, accepted) (c .before .stretches18 .ensures .1))
 
 pub block18-spec : {M : Type 1} → statement M
 block18-spec =
-    tie.close (tie.spec block-number-requires returns stretches18-requires same-length returns-2)
+    tie.close (tie.spec block-code-requires returns stretches18-requires same-length returns-2)

@@ -74,7 +74,7 @@ returns-3 c =
     let z = k * 65536 + v in
     closely
     (rw (c .before .before .before .part .ensures, lt-leb (2 ^ numberBits) k (tested .before .if1 .left), le-ltb 65535 v (tested .if2 .left))
-    (ap₂ (λ (x y : ℤ). record { number = 0; first = x; second = y })
+    (ap₂ (λ (x y : ℤ). record { code = 0; first = x; second = y })
     (toZ-ofZ {w = w16} (size-fits w16 _ (omega (arith, first-small fractionBits (z / 65536) (z % 65536)))) ∙ ap₂ (firstOf fractionBits) (a .0) (a .1))
     (toZ-ofZ {w = w16} (size-fits w16 _ (omega (arith, second-small fractionBits (z / 65536) (z % 65536)))) ∙ ap₂ (secondOf fractionBits) (a .0) (a .1))))
 

@@ -68,7 +68,7 @@ returns-3 c =
     let z = k * 65536 + v in
     closely
     (rw (c .before .before .before .part18 .ensures, lt-leb (2 ^ numberBits) k (tested .before .if1 .left), le-ltb 65535 v (tested .if2 .left))
-    (ap₂ (λ (x y : ℤ). record { number = 0; first = x; second = y })
+    (ap₂ (λ (x y : ℤ). record { code = 0; first = x; second = y })
     (toZ-ofZ {w = w32} (size-fits w32 _ (omega (arith, first-small fractionBits18 (z / 65536) (z % 65536)))) ∙ ap₂ (firstOf fractionBits18) (a .0) (a .1))
     (toZ-ofZ {w = w32} (size-fits w32 _ (omega (arith, second-small fractionBits18 (z / 65536) (z % 65536)))) ∙ ap₂ (secondOf fractionBits18) (a .0) (a .1))))
 

@@ -5,8 +5,8 @@ use Prim.Native.Nat.{ℕ, _+_, _-_, _≤_, _<_}
 use native.Mathlib.Omega.{arith}
 use borrow.Author.Needs.{needs}
 use lib.ListN.{length, take, drop, getD, set, length-set}
-use Rattle.squares.specs.Squares.{units, squareOf}
-use Rattle.squares.proofs.Loops.{map-turn, map-end}
+use Rattle.bit_matrix.specs.Squares.{units, squareOf}
+use Rattle.bit_matrix.proofs.Loops.{map-turn, map-end}
 use Rattle.streams.specs.declared.Stream.{Stream}
 use Rattle.streams.specs.Streams.{step, advance}
 use Rattle.streams.proofs.step_squares.Statement.{statement}

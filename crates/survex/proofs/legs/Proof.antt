@@ -29,7 +29,7 @@ returns-2 c =
     let out = c .before .before .before .before .before .before .before .before .before .before .before .args .out .now in
     let o = survexOf (c .before .before .before .before .before .before .before .before .before .before .before .args .text .now) in
     let k = c .before .before .convert2 .ensures in
-    let z = ap (λ (x : LegsAnswer). x .number) (k .answer ∙ sym (c .before .before .before .before .before .before .before .convert .ensures .answer)) ∙ c .before .before .before .before .if1 .left in
+    let z = ap (λ (x : LegsAnswer). x .code) (k .answer ∙ sym (c .before .before .before .before .before .before .before .convert .ensures .answer)) ∙ c .before .before .before .before .if1 .left in
     (k .answer, (buffer-is o out _ _ (survex-told _) k z, length-within o out _ (k .answer)))
 
 pub legs-spec : {M : Type 1} → statement M

@@ -24,7 +24,7 @@ returns c =
     let out = start .out .now in
     let o = survexOf (start .text .now) in
     let legs = c .before .before .before .before .legs in
-    let accepted = sym (ap (λ (r : LegsAnswer). r .number) (legs .ensures .0)) ∙ c .if1 .taken in
+    let accepted = sym (ap (λ (r : LegsAnswer). r .code) (legs .ensures .0)) ∙ c .if1 .taken in
     let puts = printed-listed o out (survex-told (start .text .now)) accepted in
     rw (legs .ensures .0, legs .ensures .1 .0) (puts, puts-within out 0 (outputOf o (length out)) (omega arith) puts)
 
@@ -40,7 +40,7 @@ returns-2 c =
     let out = start .out .now in
     let o = survexOf (start .text .now) in
     let legs = c .before .before .before .before .before .before .before .before .legs in
-    let (same, row) = printed-refused o out (λ z. c .before .before .before .before .if1 .left (ap (λ (r : LegsAnswer). r .number) (legs .ensures .0) ∙ z)) in
+    let (same, row) = printed-refused o out (λ z. c .before .before .before .before .if1 .left (ap (λ (r : LegsAnswer). r .code) (legs .ensures .0) ∙ z)) in
     let puts = rw (legs .ensures .1 .0 ∙ same, legs .ensures .0, row) at (c .before .before .put-refused .ensures) in
     (puts, puts-within out 0 (outputOf o (length out)) (omega arith) puts)
 

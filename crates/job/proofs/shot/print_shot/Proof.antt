@@ -5,8 +5,8 @@ use lib.IntN.{ℤ}
 use mir.Syntax.{w16}
 use mir.Val.{SFits}
 use mir.Facts.{toZ-ofZ}
-use Rattle.rows.specs.Rounding.{noisyDistance, noisyBearing}
-use Rattle.rows.specs.Listing.{noisyRow}
+use Rattle.listing_writer.specs.Rounding.{noisyDistance, noisyBearing}
+use Rattle.listing_writer.specs.Listing.{noisyRow}
 use Rattle.job.proofs.shot.print_shot.Statement.{statement}
 use Rattle.job.proofs.shot.print_shot.Tie as tie
 

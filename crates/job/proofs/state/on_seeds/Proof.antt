@@ -4,7 +4,7 @@ use borrow.Author.Tests.{ne-eqb}
 use Rattle.streams.specs.declared.RecordAnswer.{RecordAnswer}
 use Rattle.job.specs.Private.{taken}
 use Rattle.job.specs.Job.{settingAfter}
-use Rattle.job.proofs.Refused.{seeds-8, seeds-7, seeds-number}
+use Rattle.job.proofs.Refused.{seeds-8, seeds-7, seeds-code}
 use Rattle.job.proofs.state.on_seeds.Statement.{statement}
 use Rattle.job.proofs.state.on_seeds.Tie as tie
 
@@ -30,8 +30,8 @@ unfolding taken
 returns-3 c =
     let at = c .before .before .before .before .before .before in
     let b = sym (c .before .before .before .seeds-beyond .ensures) ∙ c .before .before .if2 .left in
-    let n = ap (λ (q : RecordAnswer). q .number) (c .before .seeded .ensures) in
-    rw (seeds-number _ _ _ _ _ _ (at .args .s .line) (c .before .before .before .before .if1 .left) b, ← n, ne-eqb _ 0 (c .if3 .taken))
+    let n = ap (λ (q : RecordAnswer). q .code) (c .before .seeded .ensures) in
+    rw (seeds-code _ _ _ _ _ _ (at .args .s .line) (c .before .before .before .before .if1 .left) b, ← n, ne-eqb _ 0 (c .if3 .taken))
 
 returns-4 : tie.Need-returns-4
 unfolding taken settingAfter
@@ -40,7 +40,7 @@ returns-4 c =
     let b = sym (c .before .before .before .before .before .seeds-beyond .ensures) ∙ c .before .before .before .before .if2 .left in
     let e = c .before .before .before .seeded .ensures in
     let k = c .before .before .before .before .before .before .if1 .left in
-    rw (seeds-number _ _ _ _ _ _ (at .args .s .line) k b, ← e, c .before .before .if3 .left, k)
+    rw (seeds-code _ _ _ _ _ _ (at .args .s .line) k b, ← e, c .before .before .if3 .left, k)
 
 pub on-seeds-spec : {M : Type 1} → statement M
 on-seeds-spec =

@@ -2,7 +2,7 @@
 use mathlib.Core.Path.{refl, sym, ap, _∙_}
 use borrow.Author.Needs.{needs}
 use Rattle.job.specs.Private.{takenOf, bufferOf, taken}
-use Rattle.forms.specs.Forms.{said}
+use Rattle.job_lines.specs.Forms.{said}
 use Rattle.job.specs.Job.{printed, settingAfter}
 use Rattle.job.proofs.Refused.{none-6}
 use Rattle.job.proofs.Names.{state-same, buffer-same}

@@ -1,7 +1,7 @@
 -- `Generator::ahead`: the three squares give n draws of each stream.
 use native.Mathlib.Omega.{arith}
 use borrow.Author.Needs.{needs}
-use Rattle.streams.specs.Streams.{onward, countNumber, ifAccepted}
+use Rattle.streams.specs.Streams.{onward, countCode, ifAccepted}
 use Rattle.streams.proofs.Skip.{stream-ahead}
 use Rattle.streams.proofs.Generator.ahead.Statement.{statement}
 use Rattle.streams.proofs.Generator.ahead.Tie as tie
@@ -35,7 +35,7 @@ returns c =
       c .before .before .before .powers .ensures,
       c .before .before .before .before .before .before .before .before .before .step-squares .ensures,
     )
-    (λ i. ifAccepted (countNumber g n) (onward g (a-ahead i) (b-ahead i) n) g)
+    (λ i. ifAccepted (countCode g n) (onward g (a-ahead i) (b-ahead i) n) g)
 
 pub ahead-spec : {M : Type 1} → statement M
 ahead-spec =

@@ -5,19 +5,19 @@ use Rattle.streams.specs.Streams.{askOf}
 use Rattle.streams.proofs.Generator.ask.Statement.{statement}
 use Rattle.streams.proofs.Generator.ask.Tie as tie
 
-ask-number-requires : tie.Need-ask-number-requires
-ask-number-requires c κs = search needs
+ask-code-requires : tie.Need-ask-code-requires
+ask-code-requires c κs = search needs
 
 returns : tie.Need-returns
 unfolding askOf
-returns c = rw (← c .before .ask-number .ensures, ne-eqb _ _ (c .if1 .taken))
+returns c = rw (← c .before .ask-code .ensures, ne-eqb _ _ (c .if1 .taken))
 
 with-note-requires : tie.Need-with-note-requires
 with-note-requires c κs = search needs
 
 returns-2 : tie.Need-returns-2
 unfolding askOf
-returns-2 c = rw (c .with-note .ensures, ← c .before .before .ask-number .ensures, c .before .if1 .left)
+returns-2 c = rw (c .with-note .ensures, ← c .before .before .ask-code .ensures, c .before .if1 .left)
 
 pub ask-spec : {M : Type 1} → statement M
-ask-spec = tie.close (tie.spec ask-number-requires returns with-note-requires returns-2)
+ask-spec = tie.close (tie.spec ask-code-requires returns with-note-requires returns-2)

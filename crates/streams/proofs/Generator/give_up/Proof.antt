@@ -5,19 +5,19 @@ use Rattle.streams.specs.Streams.{giveUpOf}
 use Rattle.streams.proofs.Generator.give_up.Statement.{statement}
 use Rattle.streams.proofs.Generator.give_up.Tie as tie
 
-give-up-number-requires : tie.Need-give-up-number-requires
-give-up-number-requires c κs = search needs
+give-up-code-requires : tie.Need-give-up-code-requires
+give-up-code-requires c κs = search needs
 
 returns : tie.Need-returns
 unfolding giveUpOf
-returns c = rw (← c .before .give-up-number .ensures, ne-eqb _ _ (c .if1 .taken))
+returns c = rw (← c .before .give-up-code .ensures, ne-eqb _ _ (c .if1 .taken))
 
 without-note-requires : tie.Need-without-note-requires
 without-note-requires c κs = search needs
 
 returns-2 : tie.Need-returns-2
 unfolding giveUpOf
-returns-2 c = rw (c .without-note .ensures, ← c .before .before .give-up-number .ensures, c .before .if1 .left)
+returns-2 c = rw (c .without-note .ensures, ← c .before .before .give-up-code .ensures, c .before .if1 .left)
 
 pub give-up-spec : {M : Type 1} → statement M
-give-up-spec = tie.close (tie.spec give-up-number-requires returns without-note-requires returns-2)
+give-up-spec = tie.close (tie.spec give-up-code-requires returns without-note-requires returns-2)

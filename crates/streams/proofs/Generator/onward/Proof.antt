@@ -6,19 +6,19 @@ use Rattle.streams.proofs.Causes.{count-room}
 use Rattle.streams.proofs.Generator.onward.Statement.{statement}
 use Rattle.streams.proofs.Generator.onward.Tie as tie
 
-count-number-requires : tie.Need-count-number-requires
-count-number-requires c κs = search needs
+count-code-requires : tie.Need-count-code-requires
+count-code-requires c κs = search needs
 
 returns : tie.Need-returns
-returns c = rw (← c .before .count-number .ensures, ne-eqb _ _ (c .if1 .taken))
+returns c = rw (← c .before .count-code .ensures, ne-eqb _ _ (c .if1 .taken))
 
 add-next : tie.Need-add-next
 add-next c =
-    let room = count-room _ _ .0 (rw (c .before .before .count-number .ensures) at (c .before .if1 .left)) in
+    let room = count-room _ _ .0 (rw (c .before .before .count-code .ensures) at (c .before .if1 .left)) in
     omega (arith, room)
 
 returns-2 : tie.Need-returns-2
-returns-2 c = rw (← c .before .before .count-number .ensures, c .before .if1 .left)
+returns-2 c = rw (← c .before .before .count-code .ensures, c .before .if1 .left)
 
 pub onward-spec : {M : Type 1} → statement M
-onward-spec = tie.close (tie.spec count-number-requires returns add-next returns-2)
+onward-spec = tie.close (tie.spec count-code-requires returns add-next returns-2)

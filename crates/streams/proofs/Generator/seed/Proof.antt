@@ -8,14 +8,14 @@ use Rattle.streams.proofs.Generator.seed.Tie as tie
 fresh-record-requires : tie.Need-fresh-record-requires
 fresh-record-requires c κs = search needs
 
-record-number-requires : tie.Need-record-number-requires
-record-number-requires c κs = search needs
+record-code-requires : tie.Need-record-code-requires
+record-code-requires c κs = search needs
 
 returns : tie.Need-returns
 unfolding seedOf
 returns c =
-    let number-is = rw (c .before .before .fresh-record .ensures) at (c .before .record-number .ensures) in
-    rw (c .before .before .fresh-record .ensures, ← number-is, c .if1 .taken)
+    let code-is = rw (c .before .before .fresh-record .ensures) at (c .before .record-code .ensures) in
+    rw (c .before .before .fresh-record .ensures, ← code-is, c .if1 .taken)
 
 fresh-record-requires-2 : tie.Need-fresh-record-requires-2
 fresh-record-requires-2 c κs = search needs
@@ -23,15 +23,15 @@ fresh-record-requires-2 c κs = search needs
 returns-2 : tie.Need-returns-2
 unfolding seedOf
 returns-2 c =
-    let number-is = rw (c .before .before .before .fresh-record .ensures) at (c .before .before .record-number .ensures) in
-    rw (c .fresh-record2 .ensures, ← number-is, ne-eqb _ _ (c .before .if1 .left))
+    let code-is = rw (c .before .before .before .fresh-record .ensures) at (c .before .before .record-code .ensures) in
+    rw (c .fresh-record2 .ensures, ← code-is, ne-eqb _ _ (c .before .if1 .left))
 
 pub seed-spec : {M : Type 1} → statement M
 seed-spec =
     tie.close
     (tie.spec
     fresh-record-requires
-    record-number-requires
+    record-code-requires
     returns
     fresh-record-requires-2
     returns-2)

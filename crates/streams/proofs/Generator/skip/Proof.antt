@@ -8,12 +8,12 @@ use Rattle.streams.proofs.Theorems.{sound, pairs-accepted, after-moved}
 use Rattle.streams.proofs.Generator.skip.Statement.{statement}
 use Rattle.streams.proofs.Generator.skip.Tie as tie
 
-pairs-number-requires : tie.Need-pairs-number-requires
-pairs-number-requires c κs = search needs
+pairs-code-requires : tie.Need-pairs-code-requires
+pairs-code-requires c κs = search needs
 
 returns : tie.Need-returns
 unfolding skipOf
-returns c = rw (← c .before .pairs-number .ensures, ne-eqb _ _ (c .if1 .taken))
+returns c = rw (← c .before .pairs-code .ensures, ne-eqb _ _ (c .if1 .taken))
 
 ahead-requires : tie.Need-ahead-requires
 ahead-requires c κs = search needs
@@ -23,9 +23,9 @@ unfolding skipOf
 returns-2 c =
     let start = c .before .before .before in
     let g = start .args .self in
-    let (fits, room, none) = pairs-accepted g (start .args .n) .0 (rw (c .before .before .pairs-number .ensures) at (c .before .if1 .left)) in
+    let (fits, room, none) = pairs-accepted g (start .args .n) .0 (rw (c .before .before .pairs-code .ensures) at (c .before .if1 .left)) in
     let reached = after-moved _ g (sound g (omega (arith, start .good)) (omega (arith, start .good)) fits) none room in
-    rw (c .ahead .ensures, count-room g (start .args .n) .1 room, ← reached, ← c .before .before .pairs-number .ensures, c .before .if1 .left)
+    rw (c .ahead .ensures, count-room g (start .args .n) .1 room, ← reached, ← c .before .before .pairs-code .ensures, c .before .if1 .left)
 
 pub skip-spec : {M : Type 1} → statement M
-skip-spec = tie.close (tie.spec pairs-number-requires returns ahead-requires returns-2)
+skip-spec = tie.close (tie.spec pairs-code-requires returns ahead-requires returns-2)

@@ -7,12 +7,12 @@ use Rattle.streams.proofs.Theorems.{pairs-accepted}
 use Rattle.streams.proofs.Generator.uniforms.Statement.{statement}
 use Rattle.streams.proofs.Generator.uniforms.Tie as tie
 
-pairs-number-requires : tie.Need-pairs-number-requires
-pairs-number-requires c κs = search needs
+pairs-code-requires : tie.Need-pairs-code-requires
+pairs-code-requires c κs = search needs
 
 returns : tie.Need-returns
 unfolding uniformsOf
-returns c = rw (← c .before .pairs-number .ensures, ne-eqb _ _ (c .if1 .taken))
+returns c = rw (← c .before .pairs-code .ensures, ne-eqb _ _ (c .if1 .taken))
 
 advanced-requires : tie.Need-advanced-requires
 advanced-requires c κs = search needs
@@ -44,10 +44,10 @@ add-t12 c = search needs
 returns-2 : tie.Need-returns-2
 unfolding uniformsOf
 returns-2 c =
-    let number = c .before .before .before .before .before .before .pairs-number .ensures in
+    let code = c .before .before .before .before .before .before .pairs-code .ensures in
     let test = c .before .before .before .before .before .if1 .left in
     let g = c .before .before .before .before .before .before .before .args .self in
-    let room = pairs-accepted g 1 .0 (rw number at test) .1 in
+    let room = pairs-accepted g 1 .0 (rw code at test) .1 in
     rw (
       c .word2 .ensures,
       c .before .word .ensures,
@@ -55,7 +55,7 @@ returns-2 c =
       count-room g 1 .1 room,
       c .before .before .before .advanced2 .ensures,
       c .before .before .before .before .advanced .ensures,
-      ← number,
+      ← code,
       test,
     )
 
@@ -63,7 +63,7 @@ pub uniforms-spec : {M : Type 1} → statement M
 uniforms-spec =
     tie.close
     (tie.spec
-    pairs-number-requires
+    pairs-code-requires
     returns
     advanced-requires
     advanced-requires-2

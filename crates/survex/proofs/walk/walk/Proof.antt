@@ -12,11 +12,11 @@ use Rattle.survex.proofs.walk.walk.Statement.{statement}
 use Rattle.survex.proofs.walk.walk.Tie as tie
 
 abbrev Inv-loop : tie.InvT-loop
-Inv-loop text first number room out₀ at₀ line₀ m₀ out at line m =
-    Going text (legsFrom number (lines (drop first text))) room out₀ out at line m
+Inv-loop text first start room out₀ at₀ line₀ m₀ out at line m =
+    Going text (legsFrom start (lines (drop first text))) room out₀ out at line m
 
 abbrev μ-loop : tie.MeasureT-loop
-μ-loop text first number room out₀ at₀ line₀ m₀ out at line m = length text - at
+μ-loop text first start room out₀ at₀ line₀ m₀ out at line m = length text - at
 
 loop-holds : tie.Need-loop-holds Inv-loop μ-loop
 loop-holds c = going-start _ _ _ _ _ (c .before .before .pre)

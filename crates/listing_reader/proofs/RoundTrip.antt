@@ -1,0 +1,216 @@
+-- A row that is printed is read as itself, and a line that is read is the one that is printed.
+use Prim.Native.Nat.{ℕ, _+_, _<_}
+use native.Mathlib.Omega.{arith}
+use mathlib.Core.Path.{_≡_, refl, sym, ap, _∙_}
+use mathlib.Core.Bool.{Bool, true, false, cond, _&&_, false≢true}
+use mathlib.Core.List.{List, [], _∷_, _++_}
+use mathlib.Core.Option.{Option, some, none}
+use lib.ListN.{length, getD}
+use lib.Seq.{drop-append-seam}
+use Rattle.text.specs.Limits.{numeralBound}
+use Rattle.text.specs.Ascii.{ascii}
+use Rattle.text.specs.Fields.{all, name, numeral, value, decimal}
+use Rattle.text.specs.Scan.{oneOf, lines}
+use Rattle.text.specs.Forms.{printForm, readForm, marks, isEmpty}
+use Rattle.text.specs.Theorems.{plain, allPlain, formed, startsSeparate}
+use Rattle.text.proofs.Decimal.{numeral-decimal, value-decimal, decimal-value, numeral-below}
+use Rattle.text.proofs.Plain.{plains, no-plains, decimal-plain, name-plain, feedForm, line-printed}
+use Rattle.text.proofs.Forms.{unmarked, read-mark, read-byte, starts-same, starts-other, field-is, read-count, read-printed, printed-read}
+use Rattle.text.proofs.Split.{line-first}
+use Rattle.job_lines.proofs.RoundTrip.{print-places}
+use Rattle.listing_writer.specs.Listing.{header, shotRow, endRow}
+use Rattle.listing_reader.specs.Entries.{isSome, headerOf, isHeader, rowForm, endForm, highAt, Said, leg, last, neither, legOf, endOf, readEntry, rowOf}
+use Rattle.listing_reader.proofs.Reading.{header-marks, row-marks, end-marks, read-row, read-end, read-neither}
+
+row-formed : (b : Bool) → (formed (rowForm b) ≡ true) × (feedForm (rowForm b) ≡ true)
+unfolding formed startsSeparate feedForm isEmpty rowForm oneOf
+row-formed true = (refl, refl)
+row-formed false = (refl, refl)
+
+end-formed : (formed endForm ≡ true) × (feedForm endForm ≡ true)
+unfolding formed startsSeparate feedForm isEmpty endForm oneOf
+end-formed = (refl, refl)
+
+-- ---- a shot
+
+-- the fields of its row
+abbrev fieldsOf : Bool → List ℕ → List ℕ → ℕ → ℕ → ℕ → List (List ℕ)
+fieldsOf true f t m n s = f ∷ t ∷ decimal m ∷ decimal n ∷ decimal s ∷ []
+fieldsOf false f t m n s = f ∷ t ∷ decimal m ∷ decimal s ∷ []
+
+-- one distance is both
+abbrev pub Alike : Bool → ℕ → ℕ → Type 0
+Alike true low high = Unit {0}
+Alike false low high = low ≡ high
+
+module _ (f t : List ℕ) (m n s : ℕ) (hf : name f ≡ true) (ht : name t ≡ true) where
+  all-plain : (b : Bool) → allPlain (fieldsOf b f t m n s) ≡ true
+  all-plain true =
+      plains _ _ (name-plain f hf) (plains _ _ (name-plain t ht) (plains _ _ (decimal-plain m) (plains _ _ (decimal-plain n) (plains _ _ (decimal-plain s) no-plains))))
+  all-plain false = plains _ _ (name-plain f hf) (plains _ _ (name-plain t ht) (plains _ _ (decimal-plain m) (plains _ _ (decimal-plain s) no-plains)))
+
+  row-is : (b : Bool) → rowOf b f t m n s ≡ printForm (rowForm b) (fieldsOf b f t m n s)
+  unfolding rowOf shotRow rowForm
+  row-is true = refl
+  row-is false = refl
+
+  field-count : (b : Bool) → length (fieldsOf b f t m n s) ≡ marks (rowForm b)
+  unfolding marks rowForm
+  field-count true = refl
+  field-count false = refl
+
+  -- a row is one line, and is read as its shot
+  pub row-line : (b : Bool) (rest : List ℕ) → lines (rowOf b f t m n s ++ rest) ≡ rowOf b f t m n s ∷ lines rest
+  row-line b rest = rw (row-is b) (line-printed (rowForm b) (fieldsOf b f t m n s) rest (row-formed b .1) (all-plain b) (field-count b))
+
+  fields-leg : (b : Bool) → Alike b m n → m < numeralBound → n < numeralBound → s < numeralBound → legOf (highAt b) (fieldsOf b f t m n s) ≡ leg f t m n s
+  unfolding legOf highAt
+  fields-leg true alike hm hn hs =
+      rw (hf, ht, numeral-decimal m hm, numeral-decimal n hn, numeral-decimal s hs, value-decimal m, value-decimal n, value-decimal s)
+  fields-leg false alike hm hn hs = rw (hf, ht, numeral-decimal m hm, numeral-decimal s hs, value-decimal m, value-decimal s, ← alike)
+
+  pub row-read : (b : Bool) → Alike b m n → m < numeralBound → n < numeralBound → s < numeralBound → readEntry b (rowOf b f t m n s) ≡ leg f t m n s
+  row-read b alike hm hn hs =
+      ap (readEntry b) (row-is b)
+      ∙ read-row b (printForm (rowForm b) (fieldsOf b f t m n s)) (fieldsOf b f t m n s)
+      (read-printed (rowForm b) (fieldsOf b f t m n s) (row-formed b .0) (all-plain b) (field-count b))
+      ∙ fields-leg b alike hm hn hs
+
+-- ---- the end
+
+module _ (n : ℕ) where
+  end-is : endRow n ≡ printForm endForm (decimal n ∷ [])
+  unfolding endRow endForm
+  end-is = refl
+
+  end-plain : allPlain (decimal n ∷ []) ≡ true
+  end-plain = plains _ _ (decimal-plain n) no-plains
+
+  pub end-line : (rest : List ℕ) → lines (endRow n ++ rest) ≡ endRow n ∷ lines rest
+  end-line rest = rw end-is (line-printed endForm (decimal n ∷ []) rest (end-formed .1) end-plain end-marks)
+
+  -- it has two fields and no more: after the second stands the line feed
+  no-third : (form : List ℕ) → readForm (35 ∷ 32 ∷ form) (decimal n ++ (10 ∷ [])) ≡ none
+  unfolding oneOf
+  no-third form =
+      read-mark 35 (32 ∷ form) (decimal n ++ (10 ∷ [])) refl
+      ∙ rw (
+        field-is (decimal n) 10 [] (decimal-plain n) refl,
+        drop-append-seam (decimal n) (10 ∷ []),
+        read-byte 32 form (10 ∷ []) refl,
+        starts-other 32 10 [] refl,
+      )
+
+  no-more : (form : List ℕ) → readForm (35 ∷ 32 ∷ 35 ∷ 32 ∷ form) (endRow n) ≡ none
+  unfolding endRow printForm plain all oneOf
+  no-more form =
+      read-mark 35 (32 ∷ 35 ∷ 32 ∷ form) (ascii "END" ++ 32 ∷ (decimal n ++ (10 ∷ []))) refl
+      ∙ rw (
+        field-is (ascii "END") 32 (decimal n ++ (10 ∷ [])) refl refl,
+        read-byte 32 (35 ∷ 32 ∷ form) (32 ∷ (decimal n ++ (10 ∷ []))) refl,
+        starts-same 32 (decimal n ++ (10 ∷ [])),
+        no-third form,
+      )
+
+  no-row : (b : Bool) → readForm (rowForm b) (endRow n) ≡ none
+  unfolding rowForm
+  no-row true = no-more (ascii "# # #\n")
+  no-row false = no-more (ascii "# #\n")
+
+  pub end-said : (b : Bool) → readEntry b (endRow n) ≡ endOf (decimal n ∷ [])
+  end-said b =
+      read-end b (endRow n) (decimal n ∷ []) (no-row b)
+      (ap (readForm endForm) end-is ∙ read-printed endForm (decimal n ∷ []) (end-formed .0) end-plain end-marks)
+
+  pub end-read : (b : Bool) → n < numeralBound → readEntry b (endRow n) ≡ last n
+  unfolding endOf
+  end-read b h = end-said b ∙ rw (numeral-decimal n h, value-decimal n)
+
+-- ---- the header
+
+pub header-line : (b : Bool) (rest : List ℕ) → lines (headerOf b ++ rest) ≡ headerOf b ∷ lines rest
+unfolding header headerOf all oneOf
+header-line true rest = line-first (ascii "FROM TO LOW HIGH STEP") rest refl
+header-line false rest = line-first (ascii "FROM TO MM STEP") rest refl
+
+pub header-lengths : (length (headerOf false) ≡ 16) × (length (headerOf true) ≡ 22)
+unfolding header headerOf
+header-lengths = (refl, refl)
+
+printed-header : (b : Bool) → printForm (headerOf b) [] ≡ headerOf b
+printed-header b = unmarked (headerOf b) [] (header-marks b) .0
+
+pub header-read : (b : Bool) → isHeader b (headerOf b) ≡ true
+unfolding isHeader isSome allPlain
+header-read b =
+    ap isSome
+    (ap (readForm (headerOf b)) (sym (printed-header b))
+    ∙ read-printed (headerOf b) [] (unmarked (headerOf b) [] (header-marks b) .1) refl (header-marks b))
+
+pub header-is : (b : Bool) (l : List ℕ) → isHeader b l ≡ true → l ≡ headerOf b
+unfolding isHeader isSome
+header-is b l h = go (readForm (headerOf b) l) refl h
+  where
+    go : (o : Option (List (List ℕ))) → readForm (headerOf b) l ≡ o → isSome o ≡ true → l ≡ headerOf b
+    go none e h = absurd (false≢true h)
+    go (some []) e h = sym (printed-read (headerOf b) l [] e) ∙ printed-header b
+    go (some (v ∷ vs)) e h = absurd (omega (arith, read-count (headerOf b) l (v ∷ vs) e, header-marks b))
+
+-- ---- what is read is what is printed
+
+abbrev pub Printed : Bool → List ℕ → Said → Type 0
+Printed b l (leg f t m n s) =
+    (name f ≡ true) × (name t ≡ true) × (m < numeralBound) × (n < numeralBound) × (s < numeralBound) × Alike b m n × (l ≡ rowOf b f t m n s)
+Printed b l (last n) = (n < numeralBound) × (l ≡ endRow n)
+Printed b l neither = Unit {0}
+
+-- the tests of a row's fields
+tests-true : (a b c d e : Bool) → a && b && (c && d && e) ≡ true → (a ≡ true) × (b ≡ true) × (c ≡ true) × (d ≡ true) × (e ≡ true)
+tests-true true true true true true h = (refl, refl, refl, refl, refl)
+tests-true true true true true false h = absurd (false≢true h)
+tests-true true true true false e h = absurd (false≢true h)
+tests-true true true false d e h = absurd (false≢true h)
+tests-true true false c d e h = absurd (false≢true h)
+tests-true false b c d e h = absurd (false≢true h)
+
+module _ (l : List ℕ) (vs : List (List ℕ)) where
+  abbrev v : ℕ → List ℕ
+  v i = getD vs i []
+
+  row-same : (b : Bool) → readForm (rowForm b) l ≡ some vs → numeral (v 2) ≡ true → numeral (v (highAt b)) ≡ true → numeral (v (highAt b + 1)) ≡ true
+      → Alike b (value 0 (v 2)) (value 0 (v (highAt b))) × (l ≡ rowOf b (v 0) (v 1) (value 0 (v 2)) (value 0 (v (highAt b))) (value 0 (v (highAt b + 1))))
+  unfolding highAt rowOf shotRow rowForm
+  row-same true h p q r =
+      (tt, sym (rw (decimal-value (v 2) p, decimal-value (v 3) q, decimal-value (v 4) r) (print-places (rowForm true) l vs 5 (row-marks true) h)))
+  row-same false h p q r = (refl, sym (rw (decimal-value (v 2) p, decimal-value (v 3) r) (print-places (rowForm false) l vs 4 (row-marks false) h)))
+
+  row-printed : (b : Bool) → readForm (rowForm b) l ≡ some vs → Printed b l (legOf (highAt b) vs)
+  unfolding legOf
+  row-printed b h = split (name (v 0) && name (v 1) && (numeral (v 2) && numeral (v (highAt b)) && numeral (v (highAt b + 1)))) refl
+    where
+      split : (t : Bool) → name (v 0) && name (v 1) && (numeral (v 2) && numeral (v (highAt b)) && numeral (v (highAt b + 1))) ≡ t
+          → Printed b l (cond t (leg (v 0) (v 1) (value 0 (v 2)) (value 0 (v (highAt b))) (value 0 (v (highAt b + 1)))) neither)
+      split false e = tt
+      split true e =
+          let (f, t, m, n, s) = tests-true (name (v 0)) (name (v 1)) (numeral (v 2)) (numeral (v (highAt b))) (numeral (v (highAt b + 1))) e in
+          let (alike, same) = row-same b h m n s in
+          (f, t, numeral-below _ m, numeral-below _ n, numeral-below _ s, alike, same)
+
+  end-printed : (b : Bool) → readForm endForm l ≡ some vs → Printed b l (endOf vs)
+  unfolding endOf endRow endForm
+  end-printed b h = go (numeral (v 0)) refl
+    where
+      go : (t : Bool) → numeral (v 0) ≡ t → Printed b l (cond t (last (value 0 (v 0))) neither)
+      go false e = tt
+      go true e = (numeral-below (v 0) e, sym (rw (decimal-value (v 0) e) (print-places endForm l vs 1 end-marks h)))
+
+pub entry-printed : (b : Bool) (l : List ℕ) → Printed b l (readEntry b l)
+entry-printed b l = on-row (readForm (rowForm b) l) refl
+  where
+    on-end : readForm (rowForm b) l ≡ none → (o : Option (List (List ℕ))) → readForm endForm l ≡ o → Printed b l (readEntry b l)
+    on-end p (some vs) e = rw (read-end b l vs p e) (end-printed l vs b e)
+    on-end p none e = rw (read-neither b l p e) tt
+
+    on-row : (o : Option (List (List ℕ))) → readForm (rowForm b) l ≡ o → Printed b l (readEntry b l)
+    on-row (some vs) e = rw (read-row b l vs e) (row-printed l vs b e)
+    on-row none e = on-end e (readForm endForm l) refl

@@ -1,0 +1,25 @@
+-- `end_entry` meets its contract.
+use borrow.Author.Tests.{not-true, not-false}
+use native.Mathlib.Omega.{arith}
+use Rattle.text.proofs.Readings.{test-true, test-false, spelled-value}
+use Rattle.listing_reader.proofs.Reading.{end-at}
+use Rattle.listing_reader.proofs.end_entry.Statement.{statement}
+use Rattle.listing_reader.proofs.end_entry.Tie as tie
+
+array-copy-out-numeral-at : tie.Need-array-copy-out-numeral-at
+array-copy-out-numeral-at c = omega arith
+
+numeral-at-requires : tie.Need-numeral-at-requires
+numeral-at-requires c κs = tt
+
+returns : tie.Need-returns
+returns c = rw (end-at, test-false (c .before .before .numeral-at .ensures) (not-true _ (c .if1 .taken)))
+
+returns-2 : tie.Need-returns-2
+returns-2 c =
+    let count = c .before .before .numeral-at .ensures in
+    let t = not-false _ (c .if1 .left) in
+    rw (end-at, test-true count t, spelled-value count t)
+
+pub end-entry-spec : {M : Type 1} → statement M
+end-entry-spec = tie.close (tie.spec array-copy-out-numeral-at numeral-at-requires returns returns-2)

@@ -1,0 +1,79 @@
+// The rows of a listing, and the noise on a shot's distance and bearing (document 01, "A job and its listing"). A row is written into
+// a lent buffer from a place on; the place after it is returned.
+use text::buffer::put;
+use text::buffer::put_field;
+use text::buffer::put_numeral;
+ghost use mathlib.Core.Path.{_≡_};
+ghost use Prim.Native.Nat.{_^_, _<_};
+ghost use lib.IntN.{natAbs};
+ghost use Rattle.text.specs.Buffer.{Puts};
+ghost use Rattle.listing_writer.specs.Rounding.{noiseSize, noisyDistance, noisyBearing};
+ghost use Rattle.listing_writer.specs.Listing.{header, shotRow, endRow, refusedRow};
+
+// The steps of a turn.
+pub const TURN_STEPS: u64 = 65536;
+
+// The size of the noise.
+fn noise_size(sigma: u32, sample: i16) -> u64
+    ensures { λ r. ⌜ (r ≡ noiseSize sigma (natAbs sample)) × (r < 2 ^ 37) ⌝ }
+{
+    (sigma as u64 * sample::size_of(sample) as u64 + 1024) / 2048
+}
+
+pub fn noisy_distance(sigma: u32, distance: u32, sample: i16) -> u64
+    ensures { λ r. ⌜ r ≡ noisyDistance sigma distance sample ⌝ }
+{
+    let noise = noise_size(sigma, sample);
+    let exact = distance as u64;
+    if 0 <= sample {
+        return exact + noise;
+    }
+    if exact < noise {
+        return 0;
+    }
+    exact - noise
+}
+
+pub fn noisy_bearing(sigma: u32, bearing: u32, sample: i16) -> u64
+    ensures { λ r. ⌜ r ≡ noisyBearing sigma bearing sample ⌝ }
+{
+    let noise = noise_size(sigma, sample);
+    let exact = bearing as u64;
+    if 0 <= sample {
+        return (exact + noise) % TURN_STEPS;
+    }
+    (exact + (TURN_STEPS - noise % TURN_STEPS)) % TURN_STEPS
+}
+
+// A row of a listing: the two names, the distance and the bearing.
+pub fn put_shot(out: &mut [u8], at: usize, from: &[u8], to: &[u8], mm: u64, step: u64) -> usize
+    ensures { λ r. ⌜ Puts (now (out .entry)) at (shotRow (now (from .entry)) (now (to .entry)) mm step) r (now (out .exit)) ⌝ }
+{
+    let a = put_field(out, at, from, b' ');
+    let b = put_field(out, a, to, b' ');
+    let c = put_numeral(out, b, mm, b' ');
+    put_numeral(out, c, step, b'\n')
+}
+
+pub fn put_header(out: &mut [u8]) -> usize
+    ensures { λ r. ⌜ Puts (now (out .entry)) 0 header r (now (out .exit)) ⌝ }
+{
+    put(out, 0, b"FROM TO MM STEP\n")
+}
+
+// The last row: the count of shots.
+pub fn put_end(out: &mut [u8], at: usize, count: u32) -> usize
+    ensures { λ r. ⌜ Puts (now (out .entry)) at (endRow count) r (now (out .exit)) ⌝ }
+{
+    let a = put_field(out, at, b"END", b' ');
+    put_numeral(out, a, count as u64, b'\n')
+}
+
+// The one line of a refused text.
+pub fn put_refused(out: &mut [u8], code: u32, line: u64) -> usize
+    ensures { λ r. ⌜ Puts (now (out .entry)) 0 (refusedRow code line) r (now (out .exit)) ⌝ }
+{
+    let a = put_field(out, 0, b"REFUSED", b' ');
+    let b = put_numeral(out, a, code as u64, b' ');
+    put_numeral(out, b, line, b'\n')
+}
