@@ -165,7 +165,7 @@ pub extern "C" fn jabulghi_ask(words: &mut [u32; 10], n: u32) -> u32
     ensures { λ _. ⌜ now (words .exit) ≡ wordsOf (askOf (generatorOf (now (words .entry))) n .next) ⌝ }
 {
     let g = unpacked(*words);
-    let asked = g.ask(n);
+    let asked = requests::ask(g, n);
     let after_ask = asked.next;
     *words = packed(after_ask);
     asked.code
@@ -192,7 +192,7 @@ pub extern "C" fn jabulghi_give_up(words: &mut [u32; 10]) -> u32
     ensures { λ _. ⌜ now (words .exit) ≡ wordsOf (giveUpOf (generatorOf (now (words .entry))) .next) ⌝ }
 {
     let g = unpacked(*words);
-    let given_up = g.give_up();
+    let given_up = requests::give_up(g);
     let after_request = given_up.next;
     *words = packed(after_request);
     given_up.code
