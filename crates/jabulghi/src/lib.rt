@@ -11,7 +11,6 @@ ghost use Rattle.sample.specs.Sample.{samplesOf, nineSixteenths};
 ghost use Rattle.sample.specs.DataSheet.{thirtyThreeSixtyFourths};
 ghost use Rattle.exact.specs.Pair.{Close};
 ghost use Rattle.noise.specs.Noise.{pairOf, blockOf, blockHolds, lookOf, lookHolds, takeOf, takeHolds};
-ghost use Rattle.job.specs.Job.{jobOf, answerOf, bufferAfter};
 ghost use Rattle.jabulghi.specs.Words.{wordsOf, generatorOf, samplesIn};
 use streams::Generator;
 use streams::Stream;
@@ -196,23 +195,4 @@ pub extern "C" fn jabulghi_give_up(words: &mut [u32; 10]) -> u32
     let after_request = given_up.next;
     *words = packed(after_request);
     given_up.code
-}
-
-// The listing of a job, and the line and the listing's length besides.
-#[no_mangle]
-pub extern "C" fn jabulghi_list(
-    text: &[u8],
-    listing: &mut [u8],
-    line: &mut u32,
-    written: &mut usize,
-) -> u32
-    ensures { λ r. ⌜ r ≡ answerOf (jobOf (now (text .entry))) (length (now (listing .entry))) .code ⌝ }
-    ensures { λ _. ⌜ now (line .exit) ≡ answerOf (jobOf (now (text .entry))) (length (now (listing .entry))) .line ⌝ }
-    ensures { λ _. ⌜ now (written .exit) ≡ answerOf (jobOf (now (text .entry))) (length (now (listing .entry))) .length ⌝ }
-    ensures { λ _. ⌜ now (listing .exit) ≡ bufferAfter (jobOf (now (text .entry))) (now (listing .entry)) ⌝ }
-{
-    let answer = job::list(text, listing);
-    *line = answer.line;
-    *written = answer.length;
-    answer.code
 }

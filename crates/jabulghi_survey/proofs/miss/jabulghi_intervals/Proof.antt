@@ -1,13 +1,13 @@
--- `jabulghi_intervals` meets its contract: number, line and all ends are those of the call, and so is what they span.
+-- `jabulghi_intervals` meets its contract: code, line and all ends are those of the call, and so is what they span.
 use mathlib.Core.Path.{refl, ap, _∙_}
 use mir.Syntax.{w64}
 use mir.Val.{SFits}
 use Rattle.misclosure.specs.declared.IntervalSums.{IntervalSums}
 use Rattle.misclosure.proofs.Theorems.{theorems}
-use Rattle.jabulghi_misclosure.specs.Stored.{fourOf}
-use Rattle.jabulghi_misclosure.proofs.Stored.{stored}
-use Rattle.jabulghi_misclosure.proofs.jabulghi_intervals.Statement.{statement}
-use Rattle.jabulghi_misclosure.proofs.jabulghi_intervals.Tie as tie
+use Rattle.jabulghi_survey.specs.Stored.{fourOf}
+use Rattle.jabulghi_survey.proofs.Stored.{stored}
+use Rattle.jabulghi_survey.proofs.miss.jabulghi_intervals.Statement.{statement}
+use Rattle.jabulghi_survey.proofs.miss.jabulghi_intervals.Tie as tie
 
 intervals-requires : tie.Need-intervals-requires
 intervals-requires c κs = tt

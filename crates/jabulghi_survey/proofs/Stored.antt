@@ -1,4 +1,4 @@
--- Numbers that fit a width read back from lent memory as themselves.
+-- Numbers that fit a width read back from the caller's memory as themselves.
 use mathlib.Core.Path.{_≡_, ap₂}
 use mathlib.Core.List.{List, _∷_}
 use lib.IntN.{ℤ}

@@ -1,4 +1,4 @@
-// The C interface of the legs: a call of `survex` on lent memory (include/jabulghi.h).
+// The legs of a Survex text.
 ghost use mathlib.Core.Path.{_≡_};
 ghost use lib.ListN.{length};
 ghost use Rattle.job.specs.Job.{answerOf, bufferAfter};

@@ -1,4 +1,4 @@
-// The makers' C interface to the sums of a listing: the functions equal the calls of crate `misclosure`.
+// The sums of a listing: the miss of a traverse, and the lowest and highest of distances between two readings.
 ghost use mathlib.Core.Path.{_≡_};
 ghost use mathlib.Core.List.{List, [], _∷_};
 ghost use mathlib.Core.Bool.{true, false};
@@ -6,7 +6,7 @@ ghost use Rattle.sums.specs.Sums.{sine, cosine};
 ghost use Rattle.sums.specs.Exact.{exactSine, exactCosine, Close};
 ghost use Rattle.sums.specs.Spans.{Span, lowShots, Spans};
 ghost use Rattle.misclosure.specs.Misclosure.{accepted, listingOf, missOf, intervalsOf};
-ghost use Rattle.jabulghi_misclosure.specs.Stored.{fourOf};
+ghost use Rattle.jabulghi_survey.specs.Stored.{fourOf};
 use misclosure::intervals;
 use misclosure::misclosure;
 

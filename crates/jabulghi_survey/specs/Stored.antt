@@ -1,4 +1,4 @@
--- How two ends stand in lent memory: east low, east high, north low, north high.
+-- How two ends stand in the caller's memory: east low, east high, north low, north high.
 use mathlib.Core.List.{List, [], _∷_}
 use lib.IntN.{ℤ}
 use Rattle.misclosure.specs.declared.Ends.{Ends}

@@ -1,9 +1,9 @@
--- `jabulghi_legs::jabulghi_legs` meets its contract: number, line, length and shot lines are those of the call below it.
+-- `jabulghi_legs` meets its contract: code, line, length and shot lines are those of the call below it.
 use mathlib.Core.Path.{ap}
 use borrow.Author.Needs.{needs}
 use Rattle.survex.specs.declared.LegsAnswer.{LegsAnswer}
-use Rattle.jabulghi_legs.proofs.jabulghi_legs.Statement.{statement}
-use Rattle.jabulghi_legs.proofs.jabulghi_legs.Tie as tie
+use Rattle.jabulghi_survey.proofs.legs.jabulghi_legs.Statement.{statement}
+use Rattle.jabulghi_survey.proofs.legs.jabulghi_legs.Tie as tie
 
 legs-requires : tie.Need-legs-requires
 legs-requires c κs = search needs

@@ -1,8 +1,8 @@
--- `jabulghi::jabulghi_list` meets its contract: number, line, length and listing are those of the call below it.
+-- `jabulghi_list` meets its contract: code, line, length and listing are those of the call below it.
 use mathlib.Core.Path.{refl}
 use borrow.Author.Needs.{needs}
-use Rattle.jabulghi.proofs.jabulghi_list.Statement.{statement}
-use Rattle.jabulghi.proofs.jabulghi_list.Tie as tie
+use Rattle.jabulghi_survey.proofs.list.jabulghi_list.Statement.{statement}
+use Rattle.jabulghi_survey.proofs.list.jabulghi_list.Tie as tie
 
 list-requires : tie.Need-list-requires
 list-requires c κs = search needs

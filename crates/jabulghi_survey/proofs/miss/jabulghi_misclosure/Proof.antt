@@ -1,13 +1,13 @@
--- `jabulghi_misclosure` meets its contract: number, line and both pairs of sums are those of the call, and so is their closeness.
+-- `jabulghi_misclosure` meets its contract: code, line and both pairs of sums are those of the call, and so is their closeness.
 use mathlib.Core.Path.{refl, ap, _∙_}
 use mathlib.Core.List.{[], _∷_}
 use mir.Syntax.{w64}
 use mir.Val.{SFits}
 use Rattle.misclosure.specs.declared.Miss.{Miss}
 use Rattle.misclosure.proofs.Theorems.{theorems}
-use Rattle.jabulghi_misclosure.proofs.Stored.{stored}
-use Rattle.jabulghi_misclosure.proofs.jabulghi_misclosure.Statement.{statement}
-use Rattle.jabulghi_misclosure.proofs.jabulghi_misclosure.Tie as tie
+use Rattle.jabulghi_survey.proofs.Stored.{stored}
+use Rattle.jabulghi_survey.proofs.miss.jabulghi_misclosure.Statement.{statement}
+use Rattle.jabulghi_survey.proofs.miss.jabulghi_misclosure.Tie as tie
 
 misclosure-requires : tie.Need-misclosure-requires
 misclosure-requires c κs = tt
