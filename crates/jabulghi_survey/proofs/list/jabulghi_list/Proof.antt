@@ -4,16 +4,10 @@ use borrow.Author.Needs.{needs}
 use Rattle.jabulghi_survey.proofs.list.jabulghi_list.Statement.{statement}
 use Rattle.jabulghi_survey.proofs.list.jabulghi_list.Tie as tie
 
-list-requires : tie.Need-list-requires
-list-requires c κs = search needs
-
-same-length : tie.Need-same-length
-same-length c = search needs
-
 returns : tie.Need-returns
 returns c =
     let list = c .before .before .list in
     rw (← (list .ensures .0)) (refl, (refl, (refl, list .ensures .1 .0)))
 
 pub jabulghi-list-spec : {M : Type 1} → statement M
-jabulghi-list-spec = tie.close (tie.spec list-requires same-length returns)
+jabulghi-list-spec = tie.close (tie.spec (λ c κs. tt) (λ c. search needs) returns)
