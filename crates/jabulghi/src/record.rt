@@ -44,7 +44,7 @@ pub extern "C" fn jabulghi_ask(words: &mut [u32; 10], n: u32) -> u32
     ensures { λ _. ⌜ now (words .exit) ≡ wordsOf (askOf (generatorOf (now (words .entry))) n .next) ⌝ }
 {
     let g = unpacked(*words);
-    let asked = g.ask(n);
+    let asked = requests::ask(g, n);
     *words = packed(asked.next);
     asked.code
 }
@@ -56,7 +56,7 @@ pub extern "C" fn jabulghi_give_up(words: &mut [u32; 10]) -> u32
     ensures { λ _. ⌜ now (words .exit) ≡ wordsOf (giveUpOf (generatorOf (now (words .entry))) .next) ⌝ }
 {
     let g = unpacked(*words);
-    let given_up = g.give_up();
+    let given_up = requests::give_up(g);
     *words = packed(given_up.next);
     given_up.code
 }

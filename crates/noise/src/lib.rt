@@ -3,18 +3,15 @@
 ghost use mathlib.Core.Path.{_≡_};
 ghost use Prim.Native.Nat.{_+_, _*_, _/_, _%_, _≤_, min};
 ghost use lib.ListN.{length};
-ghost use Rattle.streams.specs.Streams.{lengthCode, takenCode, codeOf, pairsCode, after};
-ghost use Rattle.streams.specs.Streams.Call.{a-take};
+ghost use Rattle.streams.specs.Streams.{pairsCode, after};
 ghost use Rattle.sample.specs.Steps.{fractionBits, fractionBits18};
-ghost use Rattle.noise.specs.Noise.{sampledOf, widePair, pairOf, blockCode, blockOf, blockHolds, lookOf, lookHolds, takeOf, takeHolds};
+ghost use Rattle.noise.specs.Noise.{sampledOf, widePair, pairOf, blockOf, blockHolds, lookOf, lookHolds, takeOf, takeHolds};
 ghost use Rattle.noise.specs.Private.{stretchLength, numbers, PairsDrawn};
 use lanes::Both;
 use lanes::draw_pairs;
 use streams::Generator;
 use streams::RecordAnswer;
 use streams::Uniforms;
-use streams::asked_code;
-use streams::first_cause;
 
 pub struct PairAnswer {
     pub code: u32,
@@ -187,34 +184,12 @@ fn stretches18(g: Generator, out: &mut [i32]) -> Generator
     state
 }
 
-// 4 for an odd length.
-fn length_code(n: usize) -> u32
-    ensures { λ r. ⌜ r ≡ lengthCode n ⌝ }
-{
-    if n % 2 != 0 {
-        return 4;
-    }
-    0
-}
-
-// The number of a block of n elements.
-fn block_code(g: Generator, n: usize) -> u32
-    ensures { λ r. ⌜ r ≡ blockCode g n ⌝ }
-{
-    let unfit = g.record_code();
-    let open = g.open_code();
-    let odd = length_code(n);
-    let full = g.count_code((n / 2) as u64);
-    let causes = [unfit, open, odd, full];
-    first_cause(&causes)
-}
-
 // A block of samples, first and second of each pair alternating.
 pub fn block(g: Generator, out: &mut [i16]) -> RecordAnswer
     ensures { λ r. ⌜ r ≡ blockOf g (length (now (out .entry))) ⌝ }
     ensures { λ r. ⌜ now (out .exit) ≡ blockHolds fractionBits g (now (out .entry)) ⌝ }
 {
-    let code = block_code(g, out.len());
+    let code = requests::block_code(g, out.len());
     if code != 0 {
         return RecordAnswer { code, next: g };
     }
@@ -227,7 +202,7 @@ pub fn block18(g: Generator, out: &mut [i32]) -> RecordAnswer
     ensures { λ r. ⌜ r ≡ blockOf g (length (now (out .entry))) ⌝ }
     ensures { λ r. ⌜ now (out .exit) ≡ blockHolds fractionBits18 g (now (out .entry)) ⌝ }
 {
-    let code = block_code(g, out.len());
+    let code = requests::block_code(g, out.len());
     if code != 0 {
         return RecordAnswer { code, next: g };
     }
@@ -261,38 +236,12 @@ pub fn look18(g: Generator, out: &mut [i32]) -> RecordAnswer
     }
 }
 
-// 16 where more pairs are noted than a request may ask for, or n is not two for each of them.
-fn taken_code(g: Generator, n: usize) -> u32
-    ensures { λ r. ⌜ r ≡ takenCode g n ⌝ }
-{
-    let many = asked_code(g.asked);
-    if many != 0 {
-        return 16;
-    }
-    if n != 2 * g.asked as usize {
-        return 16;
-    }
-    0
-}
-
-// The number of taking into a block of n elements.
-fn take_code(g: Generator, n: usize) -> u32
-    ensures { λ r. ⌜ r ≡ codeOf (a-take n) g ⌝ }
-{
-    let unfit = g.record_code();
-    let none = g.none_open_code();
-    let other = taken_code(g, n);
-    let full = g.count_code(g.asked as u64);
-    let causes = [unfit, none, other, full];
-    first_cause(&causes)
-}
-
 // The samples that were asked for; the request is closed.
 pub fn take(g: Generator, out: &mut [i16]) -> RecordAnswer
     ensures { λ r. ⌜ r ≡ takeOf g (length (now (out .entry))) ⌝ }
     ensures { λ r. ⌜ now (out .exit) ≡ takeHolds fractionBits g (now (out .entry)) ⌝ }
 {
-    let code = take_code(g, out.len());
+    let code = requests::take_code(g, out.len());
     if code != 0 {
         return RecordAnswer { code, next: g };
     }
@@ -306,7 +255,7 @@ pub fn take18(g: Generator, out: &mut [i32]) -> RecordAnswer
     ensures { λ r. ⌜ r ≡ takeOf g (length (now (out .entry))) ⌝ }
     ensures { λ r. ⌜ now (out .exit) ≡ takeHolds fractionBits18 g (now (out .entry)) ⌝ }
 {
-    let refusal = take_code(g, out.len());
+    let refusal = requests::take_code(g, out.len());
     if refusal != 0 {
         return RecordAnswer {
             code: refusal,

@@ -4,8 +4,8 @@ use native.Mathlib.Omega.{arith}
 use borrow.Author.Needs.{needs}
 use borrow.Author.Tests.{eq-eqb, ne-eqb}
 use Rattle.streams.specs.Streams.{takenCode}
-use Rattle.noise.proofs.taken_code.Statement.{statement}
-use Rattle.noise.proofs.taken_code.Tie as tie
+use Rattle.requests.proofs.taken_code.Statement.{statement}
+use Rattle.requests.proofs.taken_code.Tie as tie
 
 asked-code-requires : tie.Need-asked-code-requires
 asked-code-requires c κs = search needs

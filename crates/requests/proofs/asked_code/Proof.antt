@@ -1,8 +1,8 @@
 -- `asked_code` is `askedCode`.
 use borrow.Author.Tests.{le-leb, lt-leb}
 use Rattle.streams.specs.Streams.{askedCode}
-use Rattle.streams.proofs.asked_code.Statement.{statement}
-use Rattle.streams.proofs.asked_code.Tie as tie
+use Rattle.requests.proofs.asked_code.Statement.{statement}
+use Rattle.requests.proofs.asked_code.Tie as tie
 
 returns : tie.Need-returns
 unfolding askedCode

@@ -1,9 +1,9 @@
--- `Generator::ask` is `askOf`: each return rewrites with its number.
+-- `ask` is `askOf`: each return rewrites with its code.
 use borrow.Author.Needs.{needs}
 use borrow.Author.Tests.{ne-eqb}
 use Rattle.streams.specs.Streams.{askOf}
-use Rattle.streams.proofs.Generator.ask.Statement.{statement}
-use Rattle.streams.proofs.Generator.ask.Tie as tie
+use Rattle.requests.proofs.ask.Statement.{statement}
+use Rattle.requests.proofs.ask.Tie as tie
 
 ask-code-requires : tie.Need-ask-code-requires
 ask-code-requires c κs = search needs

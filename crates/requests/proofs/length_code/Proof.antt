@@ -1,8 +1,8 @@
 -- `length_code` is `lengthCode`.
 use borrow.Author.Tests.{eq-eqb, ne-eqb}
 use Rattle.streams.specs.Streams.{lengthCode}
-use Rattle.noise.proofs.length_code.Statement.{statement}
-use Rattle.noise.proofs.length_code.Tie as tie
+use Rattle.requests.proofs.length_code.Statement.{statement}
+use Rattle.requests.proofs.length_code.Tie as tie
 
 returns : tie.Need-returns
 unfolding lengthCode
