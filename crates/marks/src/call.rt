@@ -7,7 +7,7 @@ use crate::label::Label;
 use crate::place::place_of;
 use crate::place::save_place;
 use streams::Generator;
-use streams::first_cause;
+use streams::first_of;
 use text::field::is_name;
 
 // A call's refusal code, and the place that it is about.
@@ -22,8 +22,7 @@ fn idle_code(g: Generator) -> u32
 {
     let unfit = g.record_code();
     let open = g.open_code();
-    let causes = [unfit, open];
-    first_cause(&causes)
+    first_of(unfit, open, 0, 0)
 }
 
 // 18: the name is malformed.
@@ -51,8 +50,7 @@ fn with_cause(place: usize, busy: u32, malformed: u32, code: u32) -> Placed
     ensures { λ r. ⌜ r ≡ placedOf place busy malformed code ⌝ }
 {
     let absent = place_code(place, code);
-    let causes = [busy, malformed, absent];
-    let code = first_cause(&causes);
+    let code = first_of(busy, malformed, absent, 0);
     Placed { code, place }
 }
 
