@@ -121,21 +121,6 @@ fn step_squares() -> StepSquares
     StepSquares { s0, s1, s2 }
 }
 
-// The first of the causes that is not 0, or 0: the number of a call that is tested for them in that order.
-pub fn first_cause(causes: &[u32]) -> u32
-    ensures { λ r. ⌜ r ≡ firstCause (now (causes .entry)) ⌝ }
-{
-    let mut i: usize = 0;
-    while i < causes.len() {
-        let cause = causes[i];
-        if cause != 0 {
-            return cause;
-        }
-        i += 1;
-    }
-    0
-}
-
 const MOST_COUNT: u64 = 0xffff_ffff_ffff_ffff;
 
 // The first of a call's four causes that is not 0, or 0: the record's, the note's, that of its own arguments, and the count's.
