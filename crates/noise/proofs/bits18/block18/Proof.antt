@@ -1,7 +1,8 @@
 -- `block18` is `blockOf`, and leaves `blockHolds`: each return rewrites with the block's refusal code.
 use borrow.Author.Needs.{needs}
-use mathlib.Core.Path.{sym, _∙_}
+use mathlib.Core.Path.{sym, ap, _∙_}
 use borrow.Author.Tests.{ne-eqb}
+use Rattle.streams.specs.declared.Generator.{Generator}
 use Rattle.noise.specs.Noise.{blockOf, blockHolds}
 use Rattle.noise.proofs.Laws.{block-accepted}
 use Rattle.noise.proofs.bits18.block18.Statement.{statement}
@@ -27,7 +28,8 @@ unfolding blockOf blockHolds
 returns-2 c =
     let code-is = c .before .before .before .before .block-code .ensures in
     let accepted = c .before .before .before .if1 .left in
-    (rw (c .before .chunks18 .ensures .0, ← code-is, accepted), rw (← code-is, accepted) (c .before .chunks18 .ensures .1))
+    let (moved, written) = c .before .chunks18 .ensures in
+    (rw (← code-is, accepted) (ap (λ (next : Generator). record { code = 0; next = next }) moved), rw (← code-is, accepted) written)
 
 pub block18-spec : {M : Type 1} → statement M
 block18-spec =

@@ -1,8 +1,9 @@
 -- `take18` is `takeOf`, and leaves `takeHolds`: each return rewrites with the take's refusal code.
-use mathlib.Core.Path.{sym, _∙_}
+use mathlib.Core.Path.{sym, ap, _∙_}
 use borrow.Author.Needs.{needs}
 use borrow.Author.Tests.{ne-eqb}
 use Rattle.box_muller.specs.Steps.{fractionBits18}
+use Rattle.streams.specs.declared.Generator.{Generator}
 use Rattle.noise.specs.Noise.{takeOf, takeHolds}
 use Rattle.noise.proofs.TakeLaws.{asks, taken}
 use Rattle.noise.proofs.bits18.take18.Statement.{statement}
@@ -33,7 +34,7 @@ returns-2 c =
     let code-is = c .before .before .before .before .before .take-code .ensures in
     let accepted = c .before .before .before .before .if1 .left in
     let drawn = taken fractionBits18 _ _ (c .before .before .before .without-note .ensures) (sym code-is ∙ accepted) (c .before .chunks18 .ensures) in
-    (rw (drawn .0, ← code-is, accepted), rw (← code-is, accepted) (drawn .1))
+    (rw (← code-is, accepted) (ap (λ (next : Generator). record { code = 0; next = next }) (drawn .0)), rw (← code-is, accepted) (drawn .1))
 
 pub take18-spec : {M : Type 1} → statement M
 take18-spec =
