@@ -5,7 +5,7 @@ use mathlib.Core.List.{List, [], _∷_, _++_}
 use lib.Dec.{leb, ltb, eqb}
 use lib.ListN.{length, drop}
 use Rattle.streams.specs.Streams.{seedOf}
-use Rattle.sample.specs.Steps.{fractionBits}
+use Rattle.box_muller.specs.Steps.{fractionBits}
 use Rattle.noise.specs.Noise.{pairOf}
 use Rattle.text.specs.Scan.{lines}
 use Rattle.job.specs.Limits.{mostBytes}

@@ -18,13 +18,14 @@ use Rattle.streams.proofs.Theorems.{sound-accepted, pairs-accepted, moved-sound
 use Rattle.streams.proofs.Skip.{skip-accepted, skip-moves}
 use Rattle.streams.proofs.Theorems.{readings as draw-readings}
 use Rattle.radius.specs.Steps.{inverse}
-use Rattle.sample.specs.Steps.{fractionBits, fractionBits18}
-use Rattle.sample.specs.Sample.{samplesOf}
-use Rattle.sample.specs.Theorems.{largest}
-use Rattle.sample.specs.Readings.{Reading, readings, readings-hold}
-use Rattle.sample.specs.declared.Samples.{Samples}
-use Rattle.sample.proofs.Closeness.{Room, samples-close}
-use Rattle.sample.proofs.Theorems.{theorems}
+use Rattle.box_muller.specs.Steps.{fractionBits, fractionBits18}
+use Rattle.box_muller.specs.Sample.{samplesOf}
+use Rattle.box_muller.specs.Theorems.{largest}
+use Rattle.box_muller.specs.Readings.{Reading, readings}
+use Rattle.box_muller.proofs.Readings.{the-readings}
+use Rattle.box_muller.specs.declared.Samples.{Samples}
+use Rattle.box_muller.proofs.Closeness.{Room, samples-close}
+use Rattle.box_muller.proofs.Theorems.{theorems}
 use Rattle.noise.specs.Noise.{pairOf, samples, blockCode, blockOf, blockHolds}
 use Rattle.noise.specs.Readings.{Check, of-samples, of-draw, AllHold, twelve}
 use Rattle.noise.proofs.Laws.{block-accepted, pair-code, pair-is, samples-add, length-samples}
@@ -159,7 +160,7 @@ block-close limit f g old i d enough h e l =
     rw (block-holds f g old e, samples-first f (length old / 2) i g d l, samples-second f (length old / 2) i g d l)
     (pair-close limit f (after i g) enough (after-sound i g h) (pair-accepted f i g h none (omega arith)))
 
--- A block of samples of 18 bits and one of 16 bits, from equal records and of equal length, have one number and end in equal records: both calls
+-- A block of samples of 18 bits and one of 16 bits, from equal records and of equal length, have one refusal code and end in equal records: both calls
 -- return `blockOf`. So do pairs.
 pub blocks-alike : (g h : Generator) (x y : List ℤ) → g ≡ h → length x ≡ length y → blockOf g (length x) ≡ blockOf h (length y)
 blocks-alike g h x y same size = rw (same, size)
@@ -183,4 +184,4 @@ each-holds (r ∷ l) e rest h =
 pub twelve-readings : AllHold twelve
 unfolding twelve
 twelve-readings =
-    each-holds readings readings-hold (of-draw 1 0x00202080 ∷ of-draw 2 0x02002C80 ∷ []) (draw-readings .0, (draw-readings .1, tt))
+    each-holds readings (the-readings .hold) (of-draw 1 0x00202080 ∷ of-draw 2 0x02002C80 ∷ []) (draw-readings .0, (draw-readings .1, tt))

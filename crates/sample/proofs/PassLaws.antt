@@ -1,4 +1,4 @@
--- The last pass over a part. What holds between two of its turns, over f and so for either element type, and the radius that a turn takes.
+-- The last pass over a chunk. What holds between two of its turns, over f and so for either width, and the radius that a turn takes.
 use mathlib.Core.Path.{_≡_, refl, _∙_}
 use mathlib.Core.List.{List, [], _∷_, map}
 use Prim.Native.Nat.{ℕ, zero, suc, _/_, _≤_, _<_}
@@ -8,7 +8,7 @@ use lib.IntN.{ℤ}
 use lib.ListN.{length, take, getD}
 use Rattle.roots.specs.Root.{wholeRoot}
 use Rattle.radius.specs.Steps.{radiusOf}
-use Rattle.sample.specs.Sample.{filled}
+use Rattle.sample.specs.Chunk.{filled}
 use Rattle.sample.specs.Private.{underRootAt}
 
 pub record Reached (f : ℕ) (z : List ℕ) (out₀ out : List ℤ) (i : ℕ) : Type 0 where

@@ -1,5 +1,7 @@
 -- `look` is `lookOf`, and leaves what a block leaves on the record with its note cleared.
+use mathlib.Core.Path.{ap}
 use borrow.Author.Needs.{needs}
+use Rattle.streams.specs.declared.RecordAnswer.{RecordAnswer}
 use Rattle.noise.specs.Noise.{lookOf, lookHolds}
 use Rattle.noise.proofs.look.Statement.{statement}
 use Rattle.noise.proofs.look.Tie as tie
@@ -15,7 +17,11 @@ same-length c = search needs
 
 returns : tie.Need-returns
 unfolding lookOf lookHolds
-returns c = ((cc), rw (← (c .before .before .before .without-note .ensures)) (c .before .block .ensures .1))
+returns c =
+    let cleared-is = c .before .before .before .without-note .ensures in
+    let g = c .before .before .before .before .args .g in
+    let (code-is, written) = c .before .block .ensures in
+    (rw (← cleared-is) (ap (λ (shown : RecordAnswer). record { code = shown .code; next = g }) code-is), rw (← cleared-is) written)
 
 pub look-spec : {M : Type 1} → statement M
 look-spec = tie.close (tie.spec without-note-requires block-requires same-length returns)
