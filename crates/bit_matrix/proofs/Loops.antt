@@ -11,7 +11,7 @@ use lib.Pow.{pow-lt}
 use mir.Val.{Fits}
 use mir.Syntax.{w32}
 use lib.Bits.{bitXor, xor-zero-r}
-use Rattle.bit_matrix.specs.Squares.{repeat, applied, units}
+use Rattle.bit_matrix.specs.Matrices.{repeat, applied, units}
 use Rattle.bit_matrix.proofs.Additive.{xor-assoc}
 use Rattle.bit_matrix.proofs.Theorems.{repeat-add, squared-repeat}
 
@@ -69,7 +69,7 @@ pub once-even : (f : ℕ → ℕ) (n x : ℕ) → n % 2 ≡ 0 → x ≡ repeat f
 unfolding repeat
 once-even f n x h = rw h
 
--- one where the count is odd, and then the square's square half as often
+-- one where the count is odd, and then the matrix's square half as often
 pub power-turn : (p p′ : List ℕ) (n x x′ : ℕ) → p′ ≡ map (applied p) p → x′ ≡ repeat (applied p) (n % 2) x
     → repeat (applied p′) (n / 2) x′ ≡ repeat (applied p) n x
 power-turn p p′ n x x′ squared once =

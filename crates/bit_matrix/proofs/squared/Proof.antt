@@ -1,11 +1,11 @@
--- `squared`: the columns done, and the square at each one left, are the square at every column.
+-- `squared`: the columns done, and the matrix at each one left, are the matrix at every column.
 use mathlib.Core.Path.{_≡_, refl, sym, _∙_}
 use mathlib.Core.List.{_++_, map}
 use Prim.Native.Nat.{_≤_, _<_, _-_}
 use native.Mathlib.Omega.{arith}
 use lib.ListN.{length, take, drop, length-set}
 use borrow.Author.Needs.{needs}
-use Rattle.bit_matrix.specs.Squares.{applied}
+use Rattle.bit_matrix.specs.Matrices.{applied}
 use Rattle.bit_matrix.proofs.Loops.{map-turn, map-end}
 use Rattle.bit_matrix.proofs.squared.Statement.{statement}
 use Rattle.bit_matrix.proofs.squared.Tie as tie

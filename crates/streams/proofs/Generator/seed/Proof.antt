@@ -1,4 +1,4 @@
--- `Generator::seed` is `seedOf`: each return rewrites with the record's number.
+-- `Generator::seed` is `seedOf`: each return rewrites with the record's refusal code.
 use borrow.Author.Needs.{needs}
 use borrow.Author.Tests.{ne-eqb}
 use Rattle.streams.specs.Streams.{seedOf}

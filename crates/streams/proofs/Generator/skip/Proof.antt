@@ -1,4 +1,4 @@
--- `Generator::skip` is `skipOf`: the squares give the record n pairs on.
+-- `Generator::skip` is `skipOf`: the matrices give the record n pairs on.
 use native.Mathlib.Omega.{arith}
 use borrow.Author.Needs.{needs}
 use borrow.Author.Tests.{ne-eqb}

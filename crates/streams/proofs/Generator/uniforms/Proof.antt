@@ -1,4 +1,4 @@
--- `Generator::uniforms` is `uniformsOf`: each return rewrites with the record's number.
+-- `Generator::uniforms` is `uniformsOf`: each return rewrites with the call's refusal code.
 use borrow.Author.Needs.{needs}
 use borrow.Author.Tests.{ne-eqb}
 use Rattle.streams.specs.Streams.{uniformsOf}

@@ -1,28 +1,28 @@
--- `step_squares`: the first j columns are stepped, and each of the others is a unit word yet.
+-- `step_matrices`: the first j columns are stepped, and each of the others is a unit word yet.
 use mathlib.Core.Path.{_≡_, refl, sym, ap, _∙_}
 use mathlib.Core.List.{List, _++_, map}
 use Prim.Native.Nat.{ℕ, _+_, _-_, _≤_, _<_}
 use native.Mathlib.Omega.{arith}
 use borrow.Author.Needs.{needs}
 use lib.ListN.{length, take, drop, getD, set, length-set}
-use Rattle.bit_matrix.specs.Squares.{units, squareOf}
+use Rattle.bit_matrix.specs.Matrices.{units, matrixOf}
 use Rattle.bit_matrix.proofs.Loops.{map-turn, map-end}
 use Rattle.streams.specs.declared.Stream.{Stream}
 use Rattle.streams.specs.Streams.{step, advance}
-use Rattle.streams.proofs.step_squares.Statement.{statement}
-use Rattle.streams.proofs.step_squares.Tie as tie
+use Rattle.streams.proofs.ahead.step_matrices.Statement.{statement}
+use Rattle.streams.proofs.ahead.step_matrices.Tie as tie
 
--- with the step at each of the others, the columns are the step's square
+-- with the step at each of the others, the columns are the step's matrix
 record Stepped (f : ℕ → ℕ) (j : ℕ) (columns : List ℕ) : Type 0 where
   size : length columns ≡ 32
-  done : take j columns ++ map f (drop j columns) ≡ squareOf f
+  done : take j columns ++ map f (drop j columns) ≡ matrixOf f
 
 again : {f : ℕ → ℕ} {j : ℕ} {columns : List ℕ} {v : ℕ} → Stepped f j columns → j < 32 → v ≡ f (getD columns j 0)
     → Stepped f (j + 1) (set columns j v)
 again {f} {j} {columns} {v} r h e =
     record { size = simp length-set (r .size); done = map-turn f columns j v (omega (arith, r .size)) e ∙ r .done }
 
-ended : {f : ℕ → ℕ} {j : ℕ} {columns : List ℕ} → Stepped f j columns → 32 ≤ j → columns ≡ squareOf f
+ended : {f : ℕ → ℕ} {j : ℕ} {columns : List ℕ} → Stepped f j columns → 32 ≤ j → columns ≡ matrixOf f
 ended {f} {j} {columns} r h = sym (map-end f columns j (omega (arith, r .size))) ∙ r .done
 
 abbrev Inv-loop : tie.InvT-loop
@@ -36,7 +36,7 @@ unit-words-requires : tie.Need-unit-words-requires Inv-loop μ-loop
 unit-words-requires c κs = search needs
 
 loop-holds : tie.Need-loop-holds Inv-loop μ-loop
-unfolding squareOf
+unfolding matrixOf
 loop-holds c = rw (c .unit-words .ensures) (omega arith, (start, (start, start)))
   where
     start : {f : ℕ → ℕ} → Stepped f 0 (units 32)
@@ -114,8 +114,8 @@ returns c =
       s2 = ended (l .inv .1 .1 .1) all i;
     }
 
-pub step-squares-spec : {M : Type 1} → statement M
-step-squares-spec =
+pub step-matrices-spec : {M : Type 1} → statement M
+step-matrices-spec =
     tie.close
     (tie.spec
     Inv-loop

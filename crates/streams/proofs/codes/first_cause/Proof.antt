@@ -9,8 +9,8 @@ use lib.Seq.{drop-cons, drop-length}
 use borrow.Author.Needs.{needs}
 use borrow.Author.Tests.{ne-eqb}
 use Rattle.streams.specs.Streams.{firstCause}
-use Rattle.streams.proofs.first_cause.Statement.{statement}
-use Rattle.streams.proofs.first_cause.Tie as tie
+use Rattle.streams.proofs.codes.first_cause.Statement.{statement}
+use Rattle.streams.proofs.codes.first_cause.Tie as tie
 
 record Passed (causes : List ℕ) (i : ℕ) : Type 0 where
   within : i ≤ length causes
