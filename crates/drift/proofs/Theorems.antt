@@ -12,8 +12,8 @@ use lib.Seq.{drop-nil}
 use mir.Syntax.{w16}
 use mir.Val.{SFits}
 use borrow.Author.Tests.{le-leb}
-use Rattle.drift.specs.declared.Window.{Window}
-use Rattle.drift.specs.declared.WindowAnswer.{WindowAnswer}
+use Rattle.drift.specs.Drift.{Window}
+use Rattle.drift.specs.Drift.{WindowAnswer}
 use Rattle.drift.specs.Drift.{mostSize, mostSum, sizeFit, fitOf, emptyPlaces, emptyWindow, accepted, refusal, checkedOf, madeOf, movedOf, pushedOf, pushedFrom, pushedAll}
 use Rattle.drift.specs.Theorems.{Samples, latest, sumOf, itself, square, after, Drift, OneByOne}
 use Rattle.drift.proofs.Signed.{product-size, fits-size}

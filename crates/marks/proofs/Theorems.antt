@@ -14,8 +14,8 @@ use Rattle.streams.specs.declared.RecordAnswer.{RecordAnswer}
 use Rattle.streams.specs.Streams.{firstCause, ifAccepted}
 use Rattle.streams.proofs.Causes.{lone-cause}
 use Rattle.text.specs.Fields.{name}
-use Rattle.marks.specs.declared.Label.{Label}
-use Rattle.marks.specs.declared.Marks.{Marks}
+use Rattle.marks.specs.declared.label.Label.{Label}
+use Rattle.marks.specs.Marks.{Marks}
 use Rattle.marks.specs.Marks.{
   places,
   hasName,

@@ -6,21 +6,6 @@ use crate::Generator;
 
 const MOST_COUNT: u64 = 0xffff_ffff_ffff_ffff;
 
-// The first of the causes that is not 0, or 0: the refusal code of a call that is tested for them in that order.
-pub fn first_cause(causes: &[u32]) -> u32
-    ensures { λ r. ⌜ r ≡ firstCause (now (causes .entry)) ⌝ }
-{
-    let mut i: usize = 0;
-    while i < causes.len() {
-        let cause = causes[i];
-        if cause != 0 {
-            return cause;
-        }
-        i += 1;
-    }
-    0
-}
-
 // The first of a call's four causes that is not 0, or 0: the record's, the note's, that of its own arguments, and the count's.
 pub fn first_of(unfit: u32, note: u32, own: u32, room: u32) -> u32
     ensures { λ r. ⌜ r ≡ firstCause (unfit ∷ note ∷ own ∷ room ∷ []) ⌝ }

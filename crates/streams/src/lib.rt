@@ -10,7 +10,6 @@ mod pairs;
 // A record many pairs on.
 mod ahead;
 
-pub use codes::first_cause;
 pub use codes::first_of;
 
 pub struct Stream {
