@@ -9,10 +9,6 @@ unfoldable pub repeat : {A : Type 0} → (A → A) → ℕ → A → A
 repeat f zero x = x
 repeat f (suc n) x = repeat f n (f x)
 
--- f is "linear over exclusive-or".
-abbrev pub Additive : (ℕ → ℕ) → Type 0
-Additive f = (x y : ℕ) → f (bitXor x y) ≡ bitXor (f x) (f y)
-
 -- A matrix at a word: the exclusive-or of the columns at the digits of x that are 1, the first column at the lowest digit.
 unfoldable pub applied : List ℕ → ℕ → ℕ
 applied [] x = 0
@@ -22,6 +18,12 @@ applied (column ∷ columns) x = bitXor (column * (x % 2)) (applied columns (x /
 unfoldable pub units : ℕ → List ℕ
 units zero = []
 units (suc n) = 1 ∷ map (λ word. word * 2) (units n)
+
+-- ---- For theorems and private functions; no public contract cites these
+
+-- f is "linear over exclusive-or".
+abbrev pub Additive : (ℕ → ℕ) → Type 0
+Additive f = (x y : ℕ) → f (bitXor x y) ≡ bitXor (f x) (f y)
 
 -- The matrix of a map on words of 32 digits: its columns are the map at the unit words.
 unfoldable pub matrixOf : (ℕ → ℕ) → List ℕ

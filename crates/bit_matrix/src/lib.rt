@@ -44,7 +44,8 @@ fn squared(columns: [u32; 32]) -> [u32; 32]
     let mut product = columns;
     let mut j: usize = 0;
     while j < 32 {
-        product[j] = apply(&columns, product[j]);
+        let column = columns[j];
+        product[j] = apply(&columns, column);
         j += 1;
     }
     product

@@ -18,15 +18,17 @@ struct StepMatrices {
 fn step_matrices() -> StepMatrices
     ensures { λ r. ⌜ r ≡ record { s0 = matrixOf (step 31 13 12); s1 = matrixOf (step 29 2 4); s2 = matrixOf (step 28 3 17) } ⌝ }
 {
-    let mut s0 = bit_matrix::unit_words();
-    let mut s1 = s0;
-    let mut s2 = s0;
+    let words = bit_matrix::unit_words();
+    let mut s0 = words;
+    let mut s1 = words;
+    let mut s2 = words;
     let mut j: usize = 0;
     while j < 32 {
+        let word = words[j];
         let unit = Stream {
-            s0: s0[j],
-            s1: s1[j],
-            s2: s2[j],
+            s0: word,
+            s1: word,
+            s2: word,
         };
         let column = unit.advanced();
         s0[j] = column.s0;

@@ -39,7 +39,7 @@ impl Generator {
     }
 
     // The refusal code of n pairs more: 13 where the count would pass its most.
-    pub fn count_code(self, n: u64) -> u32
+    pub(crate) fn count_code(self, n: u64) -> u32
         ensures { λ r. ⌜ r ≡ countCode self n ⌝ }
     {
         if MOST_COUNT - self.count < n {
@@ -78,7 +78,7 @@ impl Generator {
     }
 
     // The refusal code of a call for n pairs that has no arguments of its own to test.
-    pub fn pairs_code(self, n: u64) -> u32
+    pub(crate) fn pairs_code(self, n: u64) -> u32
         ensures { λ r. ⌜ r ≡ pairsCode self n ⌝ }
     {
         let open = self.open_code();

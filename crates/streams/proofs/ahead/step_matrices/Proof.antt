@@ -1,4 +1,4 @@
--- `step_matrices`: the first j columns are stepped, and each of the others is a unit word yet.
+-- `step_matrices`: the first j columns are the step at the first j unit words.
 use mathlib.Core.Path.{_≡_, refl, sym, ap, _∙_}
 use mathlib.Core.List.{List, _++_, map}
 use Prim.Native.Nat.{ℕ, _+_, _-_, _≤_, _<_}
@@ -12,53 +12,51 @@ use Rattle.streams.specs.Streams.{step, advance}
 use Rattle.streams.proofs.ahead.step_matrices.Statement.{statement}
 use Rattle.streams.proofs.ahead.step_matrices.Tie as tie
 
--- with the step at each of the others, the columns are the step's matrix
-record Stepped (f : ℕ → ℕ) (j : ℕ) (columns : List ℕ) : Type 0 where
+-- with the step at each of the other words, the columns are the step at every word
+record Stepped (f : ℕ → ℕ) (j : ℕ) (words columns : List ℕ) : Type 0 where
   size : length columns ≡ 32
-  done : take j columns ++ map f (drop j columns) ≡ matrixOf f
+  done : take j columns ++ map f (drop j words) ≡ map f words
 
-again : {f : ℕ → ℕ} {j : ℕ} {columns : List ℕ} {v : ℕ} → Stepped f j columns → j < 32 → v ≡ f (getD columns j 0)
-    → Stepped f (j + 1) (set columns j v)
-again {f} {j} {columns} {v} r h e =
-    record { size = simp length-set (r .size); done = map-turn f columns j v (omega (arith, r .size)) e ∙ r .done }
+again : {f : ℕ → ℕ} {j : ℕ} {words columns : List ℕ} {v : ℕ} → Stepped f j words columns → length words ≡ 32 → j < 32 → v ≡ f (getD words j 0)
+    → Stepped f (j + 1) words (set columns j v)
+again {f} {j} {words} {columns} {v} r given h e =
+    record {
+      size = simp length-set (r .size);
+      done = map-turn f words columns j v (omega (arith, given)) (omega (arith, r .size)) e ∙ r .done;
+    }
 
-ended : {f : ℕ → ℕ} {j : ℕ} {columns : List ℕ} → Stepped f j columns → 32 ≤ j → columns ≡ matrixOf f
-ended {f} {j} {columns} r h = sym (map-end f columns j (omega (arith, r .size))) ∙ r .done
+ended : {f : ℕ → ℕ} {j : ℕ} {words columns : List ℕ} → Stepped f j words columns → words ≡ units 32 → length words ≡ 32 → 32 ≤ j
+    → columns ≡ matrixOf f
+unfolding matrixOf
+ended {f} {j} {words} {columns} r is given h =
+    sym (map-end f words columns j (omega (arith, given)) (omega (arith, r .size))) ∙ r .done ∙ ap (map f) is
 
 abbrev Inv-loop : tie.InvT-loop
-Inv-loop s0₀ s1₀ s2₀ j₀ s0 s1 s2 j =
-    (j ≤ 32) × (Stepped (step 31 13 12) j s0 × (Stepped (step 29 2 4) j s1 × Stepped (step 28 3 17) j s2))
+Inv-loop words s0₀ s1₀ s2₀ j₀ s0 s1 s2 j =
+    (words ≡ units 32)
+    × ((length words ≡ 32)
+    × ((j ≤ 32) × (Stepped (step 31 13 12) j words s0 × (Stepped (step 29 2 4) j words s1 × Stepped (step 28 3 17) j words s2))))
 
 abbrev μ-loop : tie.MeasureT-loop
-μ-loop s0₀ s1₀ s2₀ j₀ s0 s1 s2 j = 32 - j
+μ-loop words s0₀ s1₀ s2₀ j₀ s0 s1 s2 j = 32 - j
 
 unit-words-requires : tie.Need-unit-words-requires Inv-loop μ-loop
 unit-words-requires c κs = search needs
 
 loop-holds : tie.Need-loop-holds Inv-loop μ-loop
-unfolding matrixOf
-loop-holds c = rw (c .unit-words .ensures) (omega arith, (start, (start, start)))
+loop-holds c = rw (c .unit-words .ensures) (refl, (size, (omega arith, (start, (start, start)))))
   where
-    start : {f : ℕ → ℕ} → Stepped f 0 (units 32)
-    start = record { size = unfold units in refl; done = refl }
+    size : length (units 32) ≡ 32
+    size = unfold units in refl
 
-mul-t9 : tie.Need-mul-t9 Inv-loop μ-loop
-mul-t9 c = search needs
+    start : {f : ℕ → ℕ} → Stepped f 0 (units 32) (units 32)
+    start = record { size = size; done = refl }
 
-array-read-t12 : tie.Need-array-read-t12 Inv-loop μ-loop
-array-read-t12 c = search needs
+mul-word : tie.Need-mul-word Inv-loop μ-loop
+mul-word c = search needs
 
-mul-t13 : tie.Need-mul-t13 Inv-loop μ-loop
-mul-t13 c = search needs
-
-array-read-t16 : tie.Need-array-read-t16 Inv-loop μ-loop
-array-read-t16 c = search needs
-
-mul-t17 : tie.Need-mul-t17 Inv-loop μ-loop
-mul-t17 c = search needs
-
-array-read-t20 : tie.Need-array-read-t20 Inv-loop μ-loop
-array-read-t20 c = search needs
+array-read-word : tie.Need-array-read-word Inv-loop μ-loop
+array-read-word c = search needs
 
 advanced-requires : tie.Need-advanced-requires Inv-loop μ-loop
 advanced-requires c κs = search needs
@@ -91,14 +89,18 @@ loop-again : tie.Need-loop-again Inv-loop μ-loop
 unfolding advance
 loop-again c =
     let l = c .before .before .loop in
+    let (is, (given, (_, (r0, (r1, r2))))) = l .inv in
     let column = c .advanced .ensures in
     let below : l .j < 32 = omega arith in (
-      omega arith,
+      is,
       (
-        again (l .inv .1 .0) below (ap (λ (u : Stream). u .s0) column),
+        given,
         (
-          again (l .inv .1 .1 .0) below (ap (λ (u : Stream). u .s1) column),
-          again (l .inv .1 .1 .1) below (ap (λ (u : Stream). u .s2) column),
+          omega arith,
+          (
+            again r0 given below (ap (λ (u : Stream). u .s0) column),
+            (again r1 given below (ap (λ (u : Stream). u .s1) column), again r2 given below (ap (λ (u : Stream). u .s2) column)),
+          ),
         ),
       ),
     )
@@ -106,13 +108,9 @@ loop-again c =
 returns : tie.Need-returns Inv-loop μ-loop
 returns c =
     let l = c .before .loop in
+    let (is, (given, (_, (r0, (r1, r2))))) = l .inv in
     let all : 32 ≤ l .j = omega arith in
-    λ i.
-    record {
-      s0 = ended (l .inv .1 .0) all i;
-      s1 = ended (l .inv .1 .1 .0) all i;
-      s2 = ended (l .inv .1 .1 .1) all i;
-    }
+    λ i. record { s0 = ended r0 is given all i; s1 = ended r1 is given all i; s2 = ended r2 is given all i }
 
 pub step-matrices-spec : {M : Type 1} → statement M
 step-matrices-spec =
@@ -122,12 +120,8 @@ step-matrices-spec =
     μ-loop
     unit-words-requires
     loop-holds
-    mul-t9
-    array-read-t12
-    mul-t13
-    array-read-t16
-    mul-t17
-    array-read-t20
+    mul-word
+    array-read-word
     advanced-requires
     mul-s0
     array-write-s0
