@@ -4,18 +4,18 @@ use lib.IntN.{_+ℤ_, _-ℤ_}
 use mir.Syntax.{w64}
 use mir.Val.{SFits}
 use mir.Facts.{toZ-ofZ}
-use Rattle.drift.proofs.Signed.{fits, minus-size, sum-size}
+use Rattle.signs.proofs.Sizes.{size-fits, minus-size, sum-size}
 use Rattle.drift.proofs.sums.exchanged.Statement.{statement}
 use Rattle.drift.proofs.sums.exchanged.Tie as tie
 use Rattle.drift.proofs.sums.exchanged.Reads as reads
 use Rattle.drift.proofs.sums.exchanged.Lts as lts
 
 less : (c : lts.Start reads.Pre reads.Post) → SFits w64 (c .args .sum -ℤ c .args .old)
-less c = fits w64 _ (omega (arith, minus-size (c .args .sum) (c .args .old)))
+less c = size-fits w64 _ (omega (arith, minus-size (c .args .sum) (c .args .old)))
 
 more : (c : lts.Start reads.Pre reads.Post) → SFits w64 (c .args .sum -ℤ c .args .old +ℤ c .args .new)
 more c =
-    fits w64 _
+    size-fits w64 _
     (omega (arith, minus-size (c .args .sum) (c .args .old), sum-size (c .args .sum -ℤ c .args .old) (c .args .new)))
 
 sub-result : tie.Need-sub-result

@@ -2,7 +2,7 @@
 use mathlib.Core.Path.{refl}
 use mir.Syntax.{w16, w64}
 use mir.Facts.{sfits-widen, toZ-ofZ}
-use Rattle.drift.proofs.Signed.{fits-size}
+use Rattle.signs.proofs.Sizes.{fits-size}
 use Rattle.drift.proofs.sums.wide.Statement.{statement}
 use Rattle.drift.proofs.sums.wide.Tie as tie
 
