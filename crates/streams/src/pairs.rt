@@ -1,6 +1,6 @@
 // A record from six numbers, and the two numbers of a pair.
 ghost use mathlib.Core.Path.{_≡_};
-ghost use Rattle.streams.specs.Streams.{fresh, onward, cleared, countCode, ifAccepted, seedOf, uniformsOf};
+ghost use Rattle.streams.specs.Streams.{fresh, onward, countCode, ifAccepted, seedOf, uniformsOf};
 use crate::Generator;
 use crate::RecordAnswer;
 use crate::Stream;
@@ -49,7 +49,7 @@ impl Generator {
     }
 
     // The same record n pairs on, its streams as they then are; the record itself where the count has no room for n.
-    pub fn onward(self, a: Stream, b: Stream, n: u64) -> Generator
+    pub(crate) fn onward(self, a: Stream, b: Stream, n: u64) -> Generator
         ensures { λ r. ⌜ r ≡ ifAccepted (countCode self n) (onward self a b n) self ⌝ }
     {
         let full = self.count_code(n);
@@ -87,15 +87,5 @@ impl Generator {
             v: low % 65536,
             next,
         }
-    }
-
-    // The same record with no request open.
-    pub fn without_note(self) -> Generator
-        ensures { λ r. ⌜ r ≡ cleared self ⌝ }
-    {
-        let mut free = self;
-        free.waiting = 0;
-        free.asked = 0;
-        free
     }
 }
