@@ -6,7 +6,7 @@ use native.Mathlib.Omega.{arith}
 use lib.Arith.{bin-ind}
 use lib.Pow.{pow-pos}
 use lib.Bits.{bitAnd, bitXor, and-step, and-shr, xor-shr, xor-mod, xor-block, xor-comm, xor-self, xor-add-and}
-use Rattle.bit_matrix.specs.Squares.{Additive}
+use Rattle.bit_matrix.specs.Matrices.{Additive}
 
 -- ---- Halves and lowest digits
 

@@ -6,25 +6,25 @@ use native.Mathlib.Nat.{mul-le-mul, not-suc-le-zero, one-mul, pow-suc, mod-eq-of
 use native.Mathlib.Numerals.{add-one}
 use native.Mathlib.Omega.{arith}
 use lib.ListN.{length, take, drop, getD, set, drop-of-length-le}
-use lib.Seq.{drop-cons, take-all, take-suc-set, drop-set-lt, append-snoc}
+use lib.Seq.{drop-cons, take-all, take-suc-set, append-snoc}
 use lib.Pow.{pow-lt}
 use mir.Val.{Fits}
 use mir.Syntax.{w32}
 use lib.Bits.{bitXor, xor-zero-r}
-use Rattle.bit_matrix.specs.Squares.{repeat, applied, units}
+use Rattle.bit_matrix.specs.Matrices.{repeat, applied, units}
 use Rattle.bit_matrix.proofs.Additive.{xor-assoc}
 use Rattle.bit_matrix.proofs.Theorems.{repeat-add, squared-repeat}
 
--- ---- A list mapped in place: the elements before j are done
+-- ---- A list mapped into another: the elements before j are done
 
-pub map-turn : (f : ℕ → ℕ) (l : List ℕ) (j v : ℕ) → j < length l → v ≡ f (getD l j 0)
-    → take (j + 1) (set l j v) ++ map f (drop (j + 1) (set l j v)) ≡ take j l ++ map f (drop j l)
-map-turn f l j v h e =
-    rw (add-one, take-suc-set l j v h, drop-set-lt (suc j) l j v (omega arith), drop-cons l j 0 h, e)
-    (append-snoc (take j l) (f (getD l j 0)) (map f (drop (suc j) l)))
+pub map-turn : (f : ℕ → ℕ) (l out : List ℕ) (j v : ℕ) → j < length l → j < length out → v ≡ f (getD l j 0)
+    → take (j + 1) (set out j v) ++ map f (drop (j + 1) l) ≡ take j out ++ map f (drop j l)
+map-turn f l out j v within h e =
+    rw (add-one, take-suc-set out j v h, drop-cons l j 0 within, e)
+    (append-snoc (take j out) (f (getD l j 0)) (map f (drop (suc j) l)))
 
-pub map-end : (f : ℕ → ℕ) (l : List ℕ) (j : ℕ) → length l ≤ j → take j l ++ map f (drop j l) ≡ l
-map-end f l j h = rw (drop-of-length-le l h, take-all j l h) (append-nil l)
+pub map-end : (f : ℕ → ℕ) (l out : List ℕ) (j : ℕ) → length l ≤ j → length out ≤ j → take j out ++ map f (drop j l) ≡ out
+map-end f l out j all h = rw (drop-of-length-le l all, take-all j out h) (append-nil out)
 
 -- ---- `unit_words`: the words before j are unit words
 
@@ -69,7 +69,7 @@ pub once-even : (f : ℕ → ℕ) (n x : ℕ) → n % 2 ≡ 0 → x ≡ repeat f
 unfolding repeat
 once-even f n x h = rw h
 
--- one where the count is odd, and then the square's square half as often
+-- one where the count is odd, and then the matrix's square half as often
 pub power-turn : (p p′ : List ℕ) (n x x′ : ℕ) → p′ ≡ map (applied p) p → x′ ≡ repeat (applied p) (n % 2) x
     → repeat (applied p′) (n / 2) x′ ≡ repeat (applied p) n x
 power-turn p p′ n x x′ squared once =

@@ -1,4 +1,4 @@
--- An additive map is its square, a square of squares is one after the other, and n applications are those of the n-th power,
+-- An additive map is its matrix, a product of matrices is one after the other, and n applications are those of the n-th power,
 -- by squaring.
 use mathlib.Core.Path.{_≡_, refl, sym, ap, ap₂, _∙_}
 use mathlib.Core.List.{List, [], _∷_, map}
@@ -6,7 +6,7 @@ use Prim.Native.Nat.{ℕ, zero, suc, _+_, _*_, _/_, _%_, _^_, _<_}
 use native.Mathlib.Nat.{mul-zero, mul-one, one-mul, pow-suc, div-add-mod', zero-add, suc-add}
 use native.Mathlib.Omega.{arith}
 use lib.Bits.{bitXor, xor-shifted, xor-zero-r, xor-comm, xor-self}
-use Rattle.bit_matrix.specs.Squares.{repeat, Additive, applied, units, squareOf}
+use Rattle.bit_matrix.specs.Matrices.{repeat, Additive, applied, units, matrixOf}
 use Rattle.bit_matrix.proofs.Additive.{xor-half, xor-low, xor-swap, keeps-zero, shl-additive}
 
 -- ---- Repeated maps
@@ -30,7 +30,7 @@ unfolding repeat
 repeat-same f g P same kept zero x h = refl
 repeat-same f g P same kept (suc n) x h = ap (repeat f n) (same x h) ∙ repeat-same f g P same kept n (g x) (kept x h)
 
--- ---- Squares
+-- ---- Matrices
 
 -- a column at the sum of two digits
 column-digits : (c a b : ℕ) → a < 2 → b < 2 → c * ((a + b) % 2) ≡ bitXor (c * a) (c * b)
@@ -42,7 +42,7 @@ column-digits c (suc zero) (suc zero) ha hb = simp (mul-zero, xor-self)
 column-digits c (suc zero) (suc (suc b)) ha hb = omega arith
 column-digits c (suc (suc a)) b ha hb = omega arith
 
--- A square is additive.
+-- A matrix is additive.
 pub applied-additive : (columns : List ℕ) → Additive (applied columns)
 unfolding applied
 applied-additive [] x y = refl
@@ -56,7 +56,7 @@ at-digit f additive c zero h = simp mul-zero (sym (keeps-zero f additive))
 at-digit f additive c (suc zero) h = simp mul-one
 at-digit f additive c (suc (suc a)) h = omega arith
 
--- The map at each column is the square and then the map. So `map (applied a) b` is the product of two squares: b, then a.
+-- The map at each column is the matrix and then the map. So `map (applied a) b` is the product of two matrices: b, then a.
 pub applied-map : (f : ℕ → ℕ) → Additive f → (columns : List ℕ) (x : ℕ) → applied (map f columns) x ≡ f (applied columns x)
 unfolding applied
 applied-map f additive [] x = sym (keeps-zero f additive)
@@ -73,19 +73,19 @@ applied-units (suc n) x h =
     rw (one-mul, applied-map (λ u. u * 2) (shl-additive 1) (units n) (x / 2), applied-units n (x / 2) below)
     (xor-comm (x % 2) (x / 2 * 2) ∙ xor-shifted (x / 2) 1 (x % 2) (omega arith) ∙ div-add-mod' x 2)
 
--- An additive map is its square, below 2 ^ 32,
-pub square-is : (f : ℕ → ℕ) → Additive f → (x : ℕ) → x < 2 ^ 32 → applied (squareOf f) x ≡ f x
-unfolding squareOf
-square-is f additive x h = applied-map f additive (units 32) x ∙ ap f (applied-units 32 x h)
+-- An additive map is its matrix, below 2 ^ 32,
+pub matrix-is : (f : ℕ → ℕ) → Additive f → (x : ℕ) → x < 2 ^ 32 → applied (matrixOf f) x ≡ f x
+unfolding matrixOf
+matrix-is f additive x h = applied-map f additive (units 32) x ∙ ap f (applied-units 32 x h)
 
 -- and n times too.
-pub square-repeat : (f : ℕ → ℕ) → Additive f → ((x : ℕ) → x < 2 ^ 32 → f x < 2 ^ 32) → (n x : ℕ) → x < 2 ^ 32
-    → repeat (applied (squareOf f)) n x ≡ repeat f n x
-square-repeat f additive kept = repeat-same (applied (squareOf f)) f (λ x. x < 2 ^ 32) (square-is f additive) kept
+pub matrix-repeat : (f : ℕ → ℕ) → Additive f → ((x : ℕ) → x < 2 ^ 32 → f x < 2 ^ 32) → (n x : ℕ) → x < 2 ^ 32
+    → repeat (applied (matrixOf f)) n x ≡ repeat f n x
+matrix-repeat f additive kept = repeat-same (applied (matrixOf f)) f (λ x. x < 2 ^ 32) (matrix-is f additive) kept
 
 -- ---- Powers by squaring
 
--- The square's own square, half as often.
+-- The matrix's square, half as often.
 pub squared-repeat : (columns : List ℕ) (n x : ℕ) → repeat (applied (map (applied columns) columns)) n x ≡ repeat (applied columns) (n * 2) x
 squared-repeat columns n x =
     let f : ℕ → ℕ = applied columns in

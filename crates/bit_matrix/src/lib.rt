@@ -1,8 +1,8 @@
-// Squares of 32 by 32 bits, each as its 32 columns: applied to a word, and raised to a power by squaring.
+// Bit matrices of 32 by 32 bits, each as its 32 columns: applied to a word, and raised to a power by squaring.
 ghost use mathlib.Core.Path.{_≡_};
 ghost use mathlib.Core.List.{map};
 ghost use Prim.Native.Nat.{_%_};
-ghost use Rattle.bit_matrix.specs.Squares.{repeat, applied, units};
+ghost use Rattle.bit_matrix.specs.Matrices.{repeat, applied, units};
 
 pub struct Two {
     pub x: u32,
@@ -37,20 +37,21 @@ pub fn apply(columns: &[u32], x: u32) -> u32
     sum
 }
 
-// The square that is the given one applied twice: each column with the square applied to it.
+// The square of a matrix, which is the matrix applied twice: each column with the matrix applied to it.
 fn squared(columns: [u32; 32]) -> [u32; 32]
     ensures { λ r. ⌜ r ≡ map (applied columns) columns ⌝ }
 {
     let mut product = columns;
     let mut j: usize = 0;
     while j < 32 {
-        product[j] = apply(&columns, product[j]);
+        let column = columns[j];
+        product[j] = apply(&columns, column);
         j += 1;
     }
     product
 }
 
-// The square applied to x where n is odd, else x.
+// The matrix applied to x where n is odd, else x.
 fn once(columns: [u32; 32], n: u64, x: u32) -> u32
     ensures { λ r. ⌜ r ≡ repeat (applied columns) (n % 2) x ⌝ }
 {
@@ -60,19 +61,19 @@ fn once(columns: [u32; 32], n: u64, x: u32) -> u32
     x
 }
 
-// The square applied n times to x, and to y: a squaring for each binary digit of n.
+// The matrix applied n times to x, and to y: a squaring for each binary digit of n.
 pub fn powers(columns: [u32; 32], n: u64, x: u32, y: u32) -> Two
     ensures { λ r. ⌜ r ≡ record { x = repeat (applied columns) n x; y = repeat (applied columns) n y } ⌝ }
 {
-    let mut square = columns;
+    let mut matrix = columns;
     let mut first = x;
     let mut second = y;
     let mut left = n;
     while left > 0 {
-        first = once(square, left, first);
-        second = once(square, left, second);
-        let twice = squared(square);
-        square = twice;
+        first = once(matrix, left, first);
+        second = once(matrix, left, second);
+        let twice = squared(matrix);
+        matrix = twice;
         left = left / 2;
     }
     Two {

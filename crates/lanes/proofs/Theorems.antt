@@ -6,13 +6,14 @@ use Prim.Native.Nat.{ℕ, zero, suc, _+_, _*_, _/_, _%_}
 use native.Mathlib.Nat.{zero-add, suc-add, mod-lt}
 use native.Mathlib.Omega.{arith}
 use lib.Pow.{high, low, pow-pos}
-use Rattle.bit_matrix.specs.Squares.{repeat}
+use Rattle.bit_matrix.specs.Matrices.{repeat}
 use Rattle.streams.specs.declared.Stream.{Stream}
 use Rattle.streams.specs.Streams.{advance, output}
 use Rattle.streams.specs.Recurrence.{InRange}
 use Rattle.streams.proofs.Register.{step-lt}
 use Rattle.lanes.specs.declared.Lanes.{Lanes}
-use Rattle.lanes.specs.Lanes.{lanesOf, upper, lower, wordOf, words}
+use Rattle.lanes.specs.Lanes.{wordOf, words}
+use Rattle.lanes.specs.Private.{lanesOf, upper, lower}
 
 -- ---- Side by side and apart
 

@@ -18,7 +18,7 @@ use Rattle.streams.specs.Streams.Call.{a-skip, a-block, a-take}
 use Rattle.streams.specs.Recurrence.{Sound, moved}
 use Rattle.streams.proofs.Theorems.{sound-accepted, pairs-accepted, moved-sound, uniforms-accepted, next-sound, numbers-bounded}
 use Rattle.streams.proofs.Causes.{accepted-causes, one-open, just-taken, even-length, count-room}
-use Rattle.bit_matrix.specs.Squares.{repeat}
+use Rattle.bit_matrix.specs.Matrices.{repeat}
 use Rattle.lanes.specs.Lanes.{words}
 use Rattle.lanes.proofs.Theorems.{word-is-pair}
 use Rattle.box_muller.specs.Steps.{fractionBits}

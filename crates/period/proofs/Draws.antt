@@ -8,7 +8,7 @@ use native.Mathlib.Nat.{suc-add, add-zero, mul-comm, mul-assoc, mul-left-comm, a
 use native.Mathlib.Decide.{decLe}
 use native.Mathlib.Numerals.{add-one}
 use native.Mathlib.Omega.{arith}
-use Rattle.bit_matrix.specs.Squares.{repeat}
+use Rattle.bit_matrix.specs.Matrices.{repeat}
 use Rattle.bit_matrix.proofs.Theorems.{repeat-add}
 use Rattle.streams.specs.declared.Stream.{Stream}
 use Rattle.streams.specs.Streams.{advance, output}

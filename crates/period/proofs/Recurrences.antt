@@ -1,13 +1,12 @@
 -- The exact period of a sequence that follows a recurrence, by the computed test.
 use mathlib.Core.Path.{_≡_, sym, ap, _∙_}
-use mathlib.Core.Bool.{Bool, _&&_}
 use mathlib.Core.List.{List, [], _∷_}
 use mathlib.Core.Logic.{_⊎_, inl, inr}
 use Prim.Native.Nat.{ℕ, zero, suc, _+_, _*_, _/_, _%_}
 use native.Mathlib.Nat.{suc-mul, zero-mul, add-zero, add-mul, mul-comm, one-mul, mod-one, div-add-mod'}
 use native.Mathlib.Omega.{arith}
 use lib.Dec.{T, eqb, ltb, eqb→eq, ltb→lt}
-use store.Enc.{and-l, and-r}
+use mir.Facts.{and-yes}
 use Rattle.period.proofs.Polynomials.{power, digits, value, isOne, noDivisor, Row, rowTest, rowsTest, periodTest}
 use Rattle.period.proofs.Action.{Bits, Period, power-one, power-apart}
 use Rattle.period.proofs.Divisors.{common-divisor, IsPrime, is-prime, both-divide}
@@ -43,9 +42,6 @@ pub record Exact (u : ℕ → ℕ) (N : ℕ) : Type 0 where
   pub period : Period u N
   pub only : (n : ℕ) → Period u n → n % N ≡ 0
 
-halves : (a b : Bool) → T (a && b) → T a × T b
-halves a b t = (and-l a b t, and-r a b t)
-
 module _ {k q : ℕ} (u : ℕ → ℕ) (h : Bits k q u) (some : ((m : ℕ) → u m ≡ 0) → ⊥) (N : ℕ) (whole : Period u N) (n : ℕ) (period : Period u n) where
   -- The prime of a row divides the period n, and so does its product with those before it.
   row-divides : (before : ℕ) (r : Row) → T (rowTest k q N before r) → n % before ≡ 0 → n % (before * r .prime) ≡ 0
@@ -55,12 +51,12 @@ module _ {k q : ℕ} (u : ℕ → ℕ) (h : Bits k q u) (some : ((m : ℕ) → u
       let M : ℕ = N / p in
       let bound : ℕ = suc (suc (r .reach)) * suc (suc (r .reach)) in
       let product : ℕ = r .unit * before in
-      let (undivided, t₁) = halves (noDivisor p (r .reach)) _ t in
-      let (reached, t₂) = halves (ltb p bound) _ t₁ in
-      let (positive, t₃) = halves (ltb 0 p) _ t₂ in
-      let (quotient, t₄) = halves (eqb (p * M) N) _ t₃ in
-      let (remainder, t₅) = halves (eqb (product % p) 1) _ t₄ in
-      let (number, inverse) = halves (eqb (value (digits k M)) M) _ t₅ in
+      let (undivided, t₁) = and-yes (noDivisor p (r .reach)) _ t in
+      let (reached, t₂) = and-yes (ltb p bound) _ t₁ in
+      let (positive, t₃) = and-yes (ltb 0 p) _ t₂ in
+      let (quotient, t₄) = and-yes (eqb (p * M) N) _ t₃ in
+      let (remainder, t₅) = and-yes (eqb (product % p) 1) _ t₄ in
+      let (number, inverse) = and-yes (eqb (value (digits k M)) M) _ t₅ in
       let prime : IsPrime p = is-prime p (r .reach) undivided (ltb→lt 0 p positive) (ltb→lt p bound reached) in
       let unit : product ≡ product / p * p + 1 = omega (arith, div-add-mod' product p, eqb→eq (product % p) 1 remainder) in
       let part : Period u M → ⊥
@@ -71,14 +67,14 @@ module _ {k q : ℕ} (u : ℕ → ℕ) (h : Bits k q u) (some : ((m : ℕ) → u
   unfolding rowsTest
   rows-divide before [] t h₀ = rw (eqb→eq before N t) at h₀
   rows-divide before (r ∷ l) t h₀ =
-      let (first, rest) = halves (rowTest k q N before r) _ t in
+      let (first, rest) = and-yes (rowTest k q N before r) _ t in
       rows-divide (before * r .prime) l rest (row-divides before r first h₀)
 
 -- A sequence of bits that follows the recurrence and is not all zeros has the period N exactly.
 pub exact : {k q : ℕ} (u : ℕ → ℕ) → Bits k q u → (((m : ℕ) → u m ≡ 0) → ⊥) → (N : ℕ) (l : List Row) → T (periodTest k q N l) → Exact u N
 unfolding periodTest
 exact {k} {q} u h some N l t =
-    let (number, t₁) = halves (eqb (value (digits k N)) N) _ t in
-    let (one, rows) = halves (isOne (power k q (digits k N))) _ t₁ in
+    let (number, t₁) = and-yes (eqb (value (digits k N)) N) _ t in
+    let (one, rows) = and-yes (isOne (power k q (digits k N))) _ t₁ in
     let whole : Period u N = rw (eqb→eq (value (digits k N)) N number) at (power-one u h (digits k N) one) in
     record { period = whole; only = λ n period. rows-divide u h some N whole n period 1 l rows (mod-one n) }

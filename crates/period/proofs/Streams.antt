@@ -2,7 +2,7 @@
 use mathlib.Core.Path.{_≡_, refl, sym, ap, _∙_}
 use Prim.Native.Nat.{ℕ, suc, _+_, _-_, _*_, _%_, _^_}
 use native.Mathlib.Omega.{arith}
-use Rattle.bit_matrix.specs.Squares.{repeat}
+use Rattle.bit_matrix.specs.Matrices.{repeat}
 use Rattle.bit_matrix.proofs.Theorems.{repeat-add}
 use Rattle.streams.specs.declared.Stream.{Stream}
 use Rattle.streams.specs.Streams.{step, advance, fresh}

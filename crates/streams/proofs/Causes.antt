@@ -9,7 +9,7 @@ use lib.Dec.{leb, eqb}
 use borrow.Author.Tests.{leb-true, leb-false, eqb-true, eqb-false}
 use Rattle.streams.specs.declared.Generator.{Generator}
 use Rattle.streams.specs.Streams.{recordCode, openCode, noneOpenCode, askedCode, takenCode, lengthCode, countCode, firstCause}
-use Rattle.streams.specs.Streams.{mostAsked, mostCount, Call, noteCode, ownCode, roomCode, codeOf}
+use Rattle.streams.specs.Streams.{mostAsked, mostCount, Call, noteCode, ownCode, roomCode, codeOf, ifAccepted}
 
 -- One cause alone.
 pub lone-cause : (code : ℕ) → firstCause (code ∷ []) ≡ code
@@ -97,6 +97,15 @@ count-room g n = by-test (leb (g .count + n) mostCount) refl
     by-test : (t : Bool) → leb (g .count + n) mostCount ≡ t → (countCode g n ≡ 0) ↔ (g .count + n ≤ mostCount)
     by-test true e = (λ h. leb-true _ _ e, λ h. rw (countCode, e))
     by-test false e = (λ h. absurd (omega (arith, rw (countCode, e) at h)), λ h. absurd (omega (arith, leb-false (g .count + n) mostCount e)))
+
+-- What stands for a count that has room.
+pub if-room : {A : Type 0} (g : Generator) (n : ℕ) {x y : A} (z : A) → x ≡ ifAccepted (countCode g n) y z → g .count + n ≤ mostCount → x ≡ y
+if-room g n z e h = e ∙ rw (count-room g n .1 h)
+
+-- A call that asks for pairs within the count's room is refused for its other causes alone.
+pub room-falls-away : (g : Generator) (note n : ℕ) {r : ℕ} → r ≡ firstCause (recordCode g ∷ note ∷ 0 ∷ countCode g n ∷ [])
+    → g .count + n ≤ mostCount → r ≡ firstCause (recordCode g ∷ note ∷ [])
+room-falls-away g note n e h = e ∙ rw (count-room g n .1 h)
 
 pub count-full : (g : Generator) (n : ℕ) → (countCode g n ≡ 13) ↔ (mostCount < g .count + n)
 unfolding countCode

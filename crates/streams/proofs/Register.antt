@@ -9,7 +9,7 @@ use native.Mathlib.Omega.{arith}
 use lib.Pow.{pow-pos, shr-le, shr-lt}
 use lib.Bits.{bitAnd, bitXor, xor-lt}
 use borrow.Author.Tests.{lt-ltb, le-ltb}
-use Rattle.bit_matrix.specs.Squares.{repeat}
+use Rattle.bit_matrix.specs.Matrices.{repeat}
 use Rattle.streams.specs.Streams.{step}
 use Rattle.streams.specs.Recurrence.{top, Follows, Params, shifted, sequenceFrom, sequence}
 use Rattle.streams.proofs.Bits.{bit, bit-lt, bit-above, bit-shr, bit-shl, bit-shl-low, bit-mod, bit-xor, bit-high}

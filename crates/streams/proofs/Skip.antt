@@ -1,13 +1,13 @@
--- Request 2: each register's step is additive, so its square gives n steps at once; a stream is its three registers; skips add up.
+-- Request 2: each register's step is additive, so its matrix gives n steps at once; a stream is its three registers; skips add up.
 use mathlib.Core.Path.{_≡_, refl, sym, ap, _∙_}
 use mathlib.Core.Logic.{_↔_}
 use Prim.Native.Nat.{ℕ, _+_, _-_, _*_, _/_, _%_, _^_, _≤_, _<_}
 use native.Mathlib.Nat.{add-comm}
 use native.Mathlib.Omega.{arith}
 use lib.Bits.{bitAnd, bitXor}
-use Rattle.bit_matrix.specs.Squares.{repeat, Additive, applied, squareOf}
+use Rattle.bit_matrix.specs.Matrices.{repeat, Additive, applied, matrixOf}
 use Rattle.bit_matrix.proofs.Additive.{same-additive, word-shl-additive, shr-additive, and-additive, then-additive, xor-additive}
-use Rattle.bit_matrix.proofs.Theorems.{square-repeat}
+use Rattle.bit_matrix.proofs.Theorems.{matrix-repeat}
 use Rattle.streams.specs.declared.Stream.{Stream}
 use Rattle.streams.specs.declared.Generator.{Generator}
 use Rattle.streams.specs.Streams.{step, advance, recordCode, mostCount, skipOf}
@@ -29,18 +29,18 @@ step-additive k q s =
     (then-additive clear (left s) (and-additive (2 ^ 32 - 2 ^ (32 - k))) (word-shl-additive 32 s))
     (then-additive fold right (xor-additive (left q) (λ x. x) (word-shl-additive 32 q) same-additive) (shr-additive (k - s)))
 
--- Its square, n times, is n steps.
-pub register-ahead : (k q s n x : ℕ) → x < 2 ^ 32 → repeat (applied (squareOf (step k q s))) n x ≡ repeat (step k q s) n x
-register-ahead k q s n x h = square-repeat (step k q s) (step-additive k q s) (step-lt k q s) n x h
+-- Its matrix, n times, is n steps.
+pub register-ahead : (k q s n x : ℕ) → x < 2 ^ 32 → repeat (applied (matrixOf (step k q s))) n x ≡ repeat (step k q s) n x
+register-ahead k q s n x h = matrix-repeat (step k q s) (step-additive k q s) (step-lt k q s) n x h
 
 -- ---- A stream
 
--- Three squares, each n times, are n draws.
+-- Three matrices, each n times, are n draws.
 pub stream-ahead : (n : ℕ) (u : Stream) → InRange u
     → record {
-      s0 = repeat (applied (squareOf (step 31 13 12))) n (u .s0);
-      s1 = repeat (applied (squareOf (step 29 2 4))) n (u .s1);
-      s2 = repeat (applied (squareOf (step 28 3 17))) n (u .s2);
+      s0 = repeat (applied (matrixOf (step 31 13 12))) n (u .s0);
+      s1 = repeat (applied (matrixOf (step 29 2 4))) n (u .s1);
+      s2 = repeat (applied (matrixOf (step 28 3 17))) n (u .s2);
     }
     ≡ repeat advance n u
 stream-ahead n u h =

@@ -1,7 +1,7 @@
 -- What is proved of the streams and of the calls on a record. The register laws behind it are in `Register`, once over (k, q, s).
 -- Runs of calls are in `noise`, which has all of them.
 use mathlib.Core.Path.{_≡_, refl, sym, ap, _∙_}
-use mathlib.Core.Bool.{Bool, true, false, cond, _&&_, true≢false}
+use mathlib.Core.Bool.{Bool, true, false, cond, _&&_, true≢false, and-eq-true-iff}
 use mathlib.Core.List.{[], _∷_}
 use mathlib.Core.Logic.{_↔_, _⊎_, inl, inr}
 use Prim.Native.Nat.{ℕ, zero, suc, _+_, _*_, _/_, _%_, _^_, _≤_, _<_}
@@ -11,7 +11,7 @@ use native.Mathlib.Omega.{arith}
 use lib.Bits.{bitXor, xor-lt}
 use lib.Dec.{leb, eqb}
 use borrow.Author.Tests.{leb-true, le-leb, eqb-true}
-use Rattle.bit_matrix.specs.Squares.{repeat}
+use Rattle.bit_matrix.specs.Matrices.{repeat}
 use Rattle.bit_matrix.proofs.Theorems.{repeat-add}
 use Rattle.streams.specs.declared.Stream.{Stream}
 use Rattle.streams.specs.declared.Generator.{Generator}
@@ -69,22 +69,18 @@ stream-history u h t i hi =
 
 -- ---- Which record is accepted
 
-and-true : (a b : Bool) → a && b ≡ true → (a ≡ true) × (b ≡ true)
-and-true true b h = (refl, h)
-and-true false b h = let z : _≡_ {A = Bool} false true = h in (z, (cc))
-
 -- A stream is fit where its registers have their minima, 2, 8 and 16.
 pub fit-minima : (u : Stream) → (fit u ≡ true) ↔ Minima u
 unfolding fit
 fit-minima u = (
   λ h.
-      let (p, r) = and-true (leb 2 (u .s0)) (leb 8 (u .s1) && leb 16 (u .s2)) h in
-      let (q, w) = and-true (leb 8 (u .s1)) (leb 16 (u .s2)) r in
+      let (p, r) = and-eq-true-iff (leb 2 (u .s0)) (leb 8 (u .s1) && leb 16 (u .s2)) .0 h in
+      let (q, w) = and-eq-true-iff (leb 8 (u .s1)) (leb 16 (u .s2)) .0 r in
       record { s0-least = leb-true 2 (u .s0) p; s1-least = leb-true 8 (u .s1) q; s2-least = leb-true 16 (u .s2) w },
   λ m. rw (le-leb 2 (u .s0) (m .s0-least), le-leb 8 (u .s1) (m .s1-least), le-leb 16 (u .s2) (m .s2-least)),
 )
 
--- The number of any record is one of these, by which of its streams are fit.
+-- The refusal code of any record is one of these, by which of its streams are fit.
 abbrev codeBy : Bool → Bool → ℕ
 codeBy a b = cond a (cond b 0 12) 11
 

@@ -3,11 +3,12 @@
 -- x_(m+k) = x_(m+q) + x_m mod 2, and its t-th word has the bits x_(ts), x_(ts+1), .., the first one highest (in the paper, over
 -- L bits: u_n = x_(ns) 2^-1 + x_(ns+1) 2^-2 + .. + x_(ns+L-1) 2^-L). A combined generator takes the bitwise exclusive-or of
 -- several. Here L = 32 and the parameters (k, q, s) are (31, 13, 12), (29, 2, 4), (28, 3, 17).
+-- Theorems are stated by these definitions, and `moved` is what a private function gives; no public contract cites them.
 use mathlib.Core.Path.{_≡_}
 use mathlib.Core.Bool.{cond}
 use Prim.Native.Nat.{ℕ, zero, suc, _+_, _-_, _*_, _/_, _%_, _^_, _≤_, _<_}
 use lib.Dec.{ltb}
-use Rattle.bit_matrix.specs.Squares.{repeat}
+use Rattle.bit_matrix.specs.Matrices.{repeat}
 use Rattle.streams.specs.declared.Stream.{Stream}
 use Rattle.streams.specs.declared.Generator.{Generator}
 use Rattle.streams.specs.declared.RecordAnswer.{RecordAnswer}

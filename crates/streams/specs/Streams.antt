@@ -48,7 +48,7 @@ cleared g = noted g 0 0
 unfoldable pub fit : Stream → Bool
 fit u = leb 2 (u .s0) && (leb 8 (u .s1) && leb 16 (u .s2))
 
--- A record's number: 0, or why every call on it is refused: "Code 11 for stream a and 12 for stream b", "11 first" (document 02,
+-- A record's refusal code: 0, or why every call on it is refused: "Code 11 for stream a and 12 for stream b", "11 first" (document 02,
 -- Job 1).
 unfoldable pub recordCode : Generator → ℕ
 recordCode g = cond (fit (g .a)) (cond (fit (g .b)) 0 12) 11
@@ -120,7 +120,7 @@ roomCode (an-ask n) g = countCode g n
 roomCode (a-take n) g = countCode g (g .asked)
 roomCode give-up g = 0
 
--- The number of a call: the first of its causes, each 0 where it does not apply, in the order that they are tested: "after 11 and 12, in the
+-- The refusal code of a call: the first of its causes, each 0 where it does not apply, in the order that they are tested: "after 11 and 12, in the
 -- order 15, 14, 16, 4, then 13".
 abbrev pub firstCause : List ℕ → ℕ
 firstCause [] = 0
@@ -134,7 +134,7 @@ codeOf c g = firstCause (causesOf c g)
 
 -- ---- The calls
 
--- What a call with that number returns: the first where it is accepted (0), else the second.
+-- What a call with that refusal code returns: the first where it is accepted (0), else the second.
 abbrev pub ifAccepted : {A : Type 0} → ℕ → A → A → A
 ifAccepted code yes-value no-value = cond (eqb code 0) yes-value no-value
 
@@ -145,7 +145,7 @@ seedOf a0 a1 a2 b0 b1 b2 =
     let none : Stream = record { s0 = 0; s1 = 0; s2 = 0 } in
     record { code = recordCode g; next = ifAccepted (recordCode g) g (fresh none none) }
 
--- The number of a call for n pairs: of a skip, and, n being 1, of a pair and of its numbers.
+-- The refusal code of a call for n pairs: of a skip, and, n being 1, of a pair and of its numbers.
 abbrev pub pairsCode : Generator → ℕ → ℕ
 pairsCode g n = codeOf (a-skip n) g
 

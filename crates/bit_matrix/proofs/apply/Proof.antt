@@ -5,7 +5,7 @@ use native.Mathlib.Omega.{arith}
 use lib.ListN.{length, drop}
 use lib.Bits.{bitXor}
 use borrow.Author.Needs.{needs}
-use Rattle.bit_matrix.specs.Squares.{applied}
+use Rattle.bit_matrix.specs.Matrices.{applied}
 use Rattle.bit_matrix.proofs.Loops.{digit-fits, apply-turn, apply-end}
 use Rattle.bit_matrix.proofs.apply.Statement.{statement}
 use Rattle.bit_matrix.proofs.apply.Tie as tie

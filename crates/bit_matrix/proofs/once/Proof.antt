@@ -1,4 +1,4 @@
--- `once` is the square applied as often as the lowest digit of n says.
+-- `once` is the matrix applied as often as the lowest digit of n says.
 use mathlib.Core.Path.{_∙_}
 use native.Mathlib.Omega.{arith}
 use borrow.Author.Needs.{needs}

@@ -1,33 +1,39 @@
--- `squared`: the columns done, and the square at each one left, are the square at every column.
+-- `squared`: the columns done, and the matrix at each one left, are the matrix at every column.
 use mathlib.Core.Path.{_≡_, refl, sym, _∙_}
-use mathlib.Core.List.{_++_, map}
-use Prim.Native.Nat.{_≤_, _<_, _-_}
+use mathlib.Core.List.{List, _++_, map}
+use Prim.Native.Nat.{ℕ, _≤_, _-_}
 use native.Mathlib.Omega.{arith}
 use lib.ListN.{length, take, drop, length-set}
 use borrow.Author.Needs.{needs}
-use Rattle.bit_matrix.specs.Squares.{applied}
+use Rattle.bit_matrix.specs.Matrices.{applied}
 use Rattle.bit_matrix.proofs.Loops.{map-turn, map-end}
 use Rattle.bit_matrix.proofs.squared.Statement.{statement}
 use Rattle.bit_matrix.proofs.squared.Tie as tie
 
+-- the first j columns of the product are done
+record Done (columns product : List ℕ) (j : ℕ) : Type 0 where
+  given : length columns ≡ 32
+  size : length product ≡ 32
+  within : j ≤ 32
+  done : take j product ++ map (applied columns) (drop j columns) ≡ map (applied columns) columns
+
 abbrev Inv-loop : tie.InvT-loop
-Inv-loop columns product₀ j₀ product j =
-    (length product ≡ 32) × ((j ≤ 32) × (take j product ++ map (applied columns) (drop j product) ≡ map (applied columns) columns))
+Inv-loop columns product₀ j₀ product j = Done columns product j
 
 abbrev μ-loop : tie.MeasureT-loop
 μ-loop columns product₀ j₀ product j = 32 - j
 
 loop-holds : tie.Need-loop-holds Inv-loop μ-loop
-loop-holds c = (search needs, (omega arith, refl))
+loop-holds c = record { given = search needs; size = search needs; within = omega arith; done = refl }
+
+mul-column : tie.Need-mul-column Inv-loop μ-loop
+mul-column c = omega arith
+
+array-read-column : tie.Need-array-read-column Inv-loop μ-loop
+array-read-column c = omega arith
 
 slice-aggregate-apply : tie.Need-slice-aggregate-apply Inv-loop μ-loop
 slice-aggregate-apply c = search needs
-
-mul-apply : tie.Need-mul-apply Inv-loop μ-loop
-mul-apply c = omega arith
-
-array-read-apply : tie.Need-array-read-apply Inv-loop μ-loop
-array-read-apply c = omega arith
 
 apply-requires : tie.Need-apply-requires Inv-loop μ-loop
 apply-requires c κs = tt
@@ -47,11 +53,17 @@ loop-less c = omega arith
 loop-again : tie.Need-loop-again Inv-loop μ-loop
 loop-again c =
     let l = c .before .before .before .loop in
-    let h : l .j < length (l .product) = omega arith in
-    (simp length-set (l .inv .0), (omega arith, map-turn _ (l .product) (l .j) _ h (c .apply .ensures) ∙ l .inv .1 .1))
+    record {
+      given = l .inv .given;
+      size = simp length-set (l .inv .size);
+      within = omega arith;
+      done = map-turn _ _ (l .product) (l .j) _ (omega arith) (omega arith) (c .apply .ensures) ∙ l .inv .done;
+    }
 
 returns : tie.Need-returns Inv-loop μ-loop
-returns c = let l = c .before .loop in sym (map-end _ (l .product) (l .j) (omega arith)) ∙ l .inv .1 .1
+returns c =
+    let l = c .before .loop in
+    sym (map-end _ _ (l .product) (l .j) (omega arith) (omega arith)) ∙ l .inv .done
 
 pub squared-spec : {M : Type 1} → statement M
 squared-spec =
@@ -60,9 +72,9 @@ squared-spec =
     Inv-loop
     μ-loop
     loop-holds
+    mul-column
+    array-read-column
     slice-aggregate-apply
-    mul-apply
-    array-read-apply
     apply-requires
     mul-product
     array-write-product

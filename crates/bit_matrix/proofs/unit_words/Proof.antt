@@ -5,7 +5,7 @@ use native.Mathlib.Omega.{arith}
 use lib.ListN.{length, take, length-set}
 use lib.Seq.{take-all}
 use borrow.Author.Needs.{needs}
-use Rattle.bit_matrix.specs.Squares.{units}
+use Rattle.bit_matrix.specs.Matrices.{units}
 use Rattle.bit_matrix.proofs.Loops.{units-turn}
 use Rattle.bit_matrix.proofs.unit_words.Statement.{statement}
 use Rattle.bit_matrix.proofs.unit_words.Tie as tie

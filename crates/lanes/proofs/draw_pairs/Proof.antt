@@ -7,13 +7,14 @@ use native.Mathlib.Omega.{arith}
 use lib.ListN.{length, take, set, length-set}
 use lib.Seq.{take-suc-set, take-all}
 use borrow.Author.Needs.{needs}
-use Rattle.bit_matrix.specs.Squares.{repeat}
+use Rattle.bit_matrix.specs.Matrices.{repeat}
 use Rattle.bit_matrix.proofs.Theorems.{repeat-add}
 use Rattle.streams.specs.declared.Stream.{Stream}
 use Rattle.streams.specs.Streams.{advance}
 use Rattle.streams.specs.Recurrence.{InRange}
 use Rattle.lanes.specs.declared.Lanes.{Lanes}
-use Rattle.lanes.specs.Lanes.{lanesOf, upper, lower, wordOf, words}
+use Rattle.lanes.specs.Lanes.{wordOf, words}
+use Rattle.lanes.specs.Private.{lanesOf, upper, lower}
 use Rattle.lanes.proofs.Theorems.{upper-is, lower-is, lower-range, words-add}
 use Rattle.lanes.proofs.draw_pairs.Statement.{statement}
 use Rattle.lanes.proofs.draw_pairs.Tie as tie

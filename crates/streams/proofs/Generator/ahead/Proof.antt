@@ -1,4 +1,4 @@
--- `Generator::ahead`: the three squares give n draws of each stream.
+-- `Generator::ahead`: the three matrices give n draws of each stream.
 use native.Mathlib.Omega.{arith}
 use borrow.Author.Needs.{needs}
 use Rattle.streams.specs.Streams.{onward, countCode, ifAccepted}
@@ -6,8 +6,8 @@ use Rattle.streams.proofs.Skip.{stream-ahead}
 use Rattle.streams.proofs.Generator.ahead.Statement.{statement}
 use Rattle.streams.proofs.Generator.ahead.Tie as tie
 
-step-squares-requires : tie.Need-step-squares-requires
-step-squares-requires c κs = search needs
+step-matrices-requires : tie.Need-step-matrices-requires
+step-matrices-requires c κs = search needs
 
 powers-requires : tie.Need-powers-requires
 powers-requires c κs = search needs
@@ -33,7 +33,7 @@ returns c =
       c .before .powers3 .ensures,
       c .before .before .powers2 .ensures,
       c .before .before .before .powers .ensures,
-      c .before .before .before .before .before .before .before .before .before .step-squares .ensures,
+      c .before .before .before .before .before .before .before .before .before .step-matrices .ensures,
     )
     (λ i. ifAccepted (countCode g n) (onward g (a-ahead i) (b-ahead i) n) g)
 
@@ -41,7 +41,7 @@ pub ahead-spec : {M : Type 1} → statement M
 ahead-spec =
     tie.close
     (tie.spec
-    step-squares-requires
+    step-matrices-requires
     powers-requires
     powers-requires-2
     powers-requires-3

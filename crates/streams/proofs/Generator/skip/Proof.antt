@@ -1,9 +1,9 @@
--- `Generator::skip` is `skipOf`: the squares give the record n pairs on.
+-- `Generator::skip` is `skipOf`: the matrices give the record n pairs on.
 use native.Mathlib.Omega.{arith}
 use borrow.Author.Needs.{needs}
 use borrow.Author.Tests.{ne-eqb}
 use Rattle.streams.specs.Streams.{skipOf}
-use Rattle.streams.proofs.Causes.{count-room}
+use Rattle.streams.proofs.Causes.{if-room}
 use Rattle.streams.proofs.Theorems.{sound, pairs-accepted, after-moved}
 use Rattle.streams.proofs.Generator.skip.Statement.{statement}
 use Rattle.streams.proofs.Generator.skip.Tie as tie
@@ -25,7 +25,8 @@ returns-2 c =
     let g = start .args .self in
     let (fits, room, none) = pairs-accepted g (start .args .n) .0 (rw (c .before .before .pairs-code .ensures) at (c .before .if1 .left)) in
     let reached = after-moved _ g (sound g (omega (arith, start .good)) (omega (arith, start .good)) fits) none room in
-    rw (c .ahead .ensures, count-room g (start .args .n) .1 room, ← reached, ← c .before .before .pairs-code .ensures, c .before .if1 .left)
+    let next-is = if-room g _ g (c .ahead .ensures) (omega (arith, room)) in
+    rw (next-is, ← c .before .before .pairs-code .ensures, c .before .if1 .left, reached)
 
 pub skip-spec : {M : Type 1} → statement M
 skip-spec = tie.close (tie.spec pairs-code-requires returns ahead-requires returns-2)

@@ -1,8 +1,9 @@
--- `Generator::uniforms` is `uniformsOf`: each return rewrites with the record's number.
+-- `Generator::uniforms` is `uniformsOf`: each return rewrites with the call's refusal code.
+use native.Mathlib.Omega.{arith}
 use borrow.Author.Needs.{needs}
 use borrow.Author.Tests.{ne-eqb}
 use Rattle.streams.specs.Streams.{uniformsOf}
-use Rattle.streams.proofs.Causes.{count-room}
+use Rattle.streams.proofs.Causes.{if-room}
 use Rattle.streams.proofs.Theorems.{pairs-accepted}
 use Rattle.streams.proofs.Generator.uniforms.Statement.{statement}
 use Rattle.streams.proofs.Generator.uniforms.Tie as tie
@@ -48,11 +49,11 @@ returns-2 c =
     let test = c .before .before .before .before .before .if1 .left in
     let g = c .before .before .before .before .before .before .before .args .self in
     let room = pairs-accepted g 1 .0 (rw code at test) .1 in
+    let next-is = if-room g _ g (c .before .before .onward .ensures) (omega (arith, room)) in
     rw (
       c .word2 .ensures,
       c .before .word .ensures,
-      c .before .before .onward .ensures,
-      count-room g 1 .1 room,
+      next-is,
       c .before .before .before .advanced2 .ensures,
       c .before .before .before .before .advanced .ensures,
       ← code,

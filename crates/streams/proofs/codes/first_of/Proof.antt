@@ -2,8 +2,8 @@
 use mathlib.Core.Path.{sym}
 use borrow.Author.Tests.{ne-eqb}
 use Rattle.streams.proofs.Causes.{lone-cause}
-use Rattle.streams.proofs.first_of.Statement.{statement}
-use Rattle.streams.proofs.first_of.Tie as tie
+use Rattle.streams.proofs.codes.first_of.Statement.{statement}
+use Rattle.streams.proofs.codes.first_of.Tie as tie
 
 returns : tie.Need-returns
 returns c = rw (ne-eqb _ _ (c .if1 .taken))
