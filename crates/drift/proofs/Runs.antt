@@ -33,7 +33,7 @@ unfolding pushedFrom pushedAll
 all-from w [] = refl
 all-from w (x ∷ l) = ap (λ (r : WindowAnswer). pushedFrom r l) (tested w x)
 
--- The numbers of a window that is made, with empty places, are that window.
+-- The members of a window that is made, with empty places, are that window.
 pub made-whole : (n : ℕ) → answerOf (membersOf (madeOf n)) emptyPlaces ≡ madeOf n
 unfolding madeOf
 made-whole n = by-test (sizeFit n)

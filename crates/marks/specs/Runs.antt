@@ -19,7 +19,7 @@ pub data MarkCall : Type 0 where
   on-record : Call → MarkCall
   a-save a-return a-drop : List ℕ → MarkCall
 
--- Its number, and what it leaves: a return leaves the set, a save and a drop leave the record.
+-- Its refusal code, and what it leaves: a return leaves the set, a save and a drop leave the record.
 unfoldable pub codeIn : MarkCall → State → ℕ
 codeIn (on-record c) s = returned c (s .generator) .code
 codeIn (a-save x) s = savedOf (s .marks) (s .generator) x .code
