@@ -1,4 +1,4 @@
--- What a fit window's numbers are.
+-- What a fit window's members are.
 use mathlib.Core.Path.{_≡_}
 use mathlib.Core.Bool.{Bool, true, _&&_, and-eq-true-iff}
 use Prim.Native.Nat.{ℕ, _^_, _≤_, _<_}

@@ -7,9 +7,12 @@ use native.Mathlib.Numerals.{add-one}
 use lib.IntN.{ℤ}
 use lib.ListN.{length, getD, drop, drop-of-length-le}
 use lib.Seq.{drop-cons}
-use Rattle.drift.specs.Drift.{Window}
-use Rattle.drift.specs.Drift.{WindowAnswer}
-use Rattle.drift.specs.Drift.{sizeFit, fitOf, emptyPlaces, emptyWindow, accepted, refusal, checkedOf, madeOf, movedOf, pushedOf, pushedFrom, pushedAll, answerOf, membersOf}
+use Rattle.drift.specs.Drift.{Window, WindowAnswer, sizeFit, fitOf, emptyPlaces, emptyWindow, accepted, refusal, checkedOf, madeOf, movedOf, pushedOf, pushedFrom, pushedAll, withPlaces, membersOf}
+use Rattle.drift.specs.declared.window.Members.{Members}
+
+-- the answer that members and places are
+abbrev pub answerOf : Members → List ℤ → WindowAnswer
+answerOf m places = record { code = m .code; window = withPlaces m places }
 
 pub one-more : (r : WindowAnswer) (l : List ℤ) (i : ℕ) (d : ℤ) → i < length l → pushedFrom r (drop i l) ≡ pushedFrom (pushedOf (r .window) (getD l i d)) (drop (i + 1) l)
 unfolding pushedFrom
@@ -33,7 +36,7 @@ unfolding pushedFrom pushedAll
 all-from w [] = refl
 all-from w (x ∷ l) = ap (λ (r : WindowAnswer). pushedFrom r l) (tested w x)
 
--- The numbers of a window that is made, with empty places, are that window.
+-- The members of a window that is made, with empty places, are that window.
 pub made-whole : (n : ℕ) → answerOf (membersOf (madeOf n)) emptyPlaces ≡ madeOf n
 unfolding madeOf
 made-whole n = by-test (sizeFit n)

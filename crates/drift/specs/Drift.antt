@@ -112,9 +112,6 @@ pushedAll w (x ∷ samples) = pushedFrom (pushedOf w x) samples
 abbrev pub withPlaces : Members → List ℤ → Window
 withPlaces m places = windowOf (m .size) (m .held) (m .place) places (m .sum) (m .squares)
 
-abbrev pub answerOf : Members → List ℤ → WindowAnswer
-answerOf m places = record { code = m .code; window = withPlaces m places }
-
 abbrev pub membersOf : WindowAnswer → Members
 membersOf r =
     record {

@@ -1,4 +1,4 @@
--- Two samples that fit a width read back from lent memory as themselves.
+-- Two samples that fit a width read back from the caller's memory as themselves.
 use mathlib.Core.Path.{_≡_, ap₂}
 use mathlib.Core.List.{[], _∷_}
 use lib.IntN.{ℤ}

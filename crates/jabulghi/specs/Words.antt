@@ -27,6 +27,6 @@ generatorOf l =
 pub kept : (g : Generator) → generatorOf (wordsOf g) ≡ g
 kept g = λ i. record { a = g .a; b = g .b; count = div-add-mod' (g .count) (2 ^ 32) i; waiting = g .waiting; asked = g .asked }
 
--- A pair's two samples, first and second, as they stand in lent memory.
+-- A pair's two samples, first and second, as they stand in the caller's memory.
 abbrev pub samplesIn : PairAnswer → List ℤ
 samplesIn p = p .first ∷ p .second ∷ []

@@ -10,9 +10,8 @@ use Rattle.text.specs.Limits.{nameLength}
 use Rattle.text.specs.Buffer.{written}
 use Rattle.jabulghi.specs.Words.{generatorOf}
 use Rattle.marks.specs.declared.label.Label.{Label}
-use Rattle.marks.specs.Marks.{Marks}
 use Rattle.marks.specs.declared.call.Placed.{Placed}
-use Rattle.marks.specs.Marks.{places, labelOf, noLabel, placeToSave, placeToReturn, placeToDrop}
+use Rattle.marks.specs.Marks.{Marks, places, labelOf, noLabel, placeToSave, placeToReturn, placeToDrop}
 
 -- the words of a record, and the sizes of the members
 abbrev pub recordWords : ℕ

@@ -1,7 +1,8 @@
-// The makers' C interface to windows: each function equals the call of crate `drift`. The caller's window comes as its members one by one, in the order of the
-// header's struct jabulghi_window, whose inline functions take it apart.
+// The makers' C interface to windows: each function equals the call of crate `drift`. The caller's window comes as its members one by one, in the order
+// of the header's struct jabulghi_window, whose inline functions take it apart.
 ghost use mathlib.Core.Path.{_≡_};
 ghost use Rattle.drift.specs.Drift.{windowOf, madeOf, pushedOf, pushedAll};
+use drift::window;
 use drift::window::Members;
 
 // A window for the latest n samples.
@@ -18,8 +19,8 @@ pub extern "C" fn jabulghi_window_make_members(
     ensures { λ r. ⌜ r ≡ madeOf n .code ⌝ }
     ensures { λ _. ⌜ windowOf (now (size .exit)) (now (held .exit)) (now (place .exit)) (now (places .exit)) (now (sum .exit)) (now (squares .exit)) ≡ madeOf n .window ⌝ }
 {
-    drift::window::clear(places);
-    let made = drift::window::made(n);
+    window::clear(places);
+    let made = window::made(n);
     *size = made.size;
     *held = made.held;
     *place = made.place;
@@ -52,7 +53,7 @@ pub extern "C" fn jabulghi_window_push_members(
         sum: *sum,
         squares: *squares,
     };
-    let pushed = drift::window::step(was, places, sample);
+    let pushed = window::step(was, places, sample);
     *size = pushed.size;
     *held = pushed.held;
     *place = pushed.place;
@@ -85,7 +86,7 @@ pub extern "C" fn jabulghi_window_push_all_members(
         sum: *sum,
         squares: *squares,
     };
-    let ran = drift::window::run(was, places, samples);
+    let ran = window::run(was, places, samples);
     *size = ran.size;
     *held = ran.held;
     *place = ran.place;

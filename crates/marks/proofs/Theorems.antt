@@ -16,8 +16,8 @@ use Rattle.streams.proofs.Causes.{lone-cause}
 use Rattle.text.specs.Fields.{name}
 use Rattle.text.proofs.Plain.{name-length}
 use Rattle.marks.specs.declared.label.Label.{Label}
-use Rattle.marks.specs.Marks.{Marks}
 use Rattle.marks.specs.Marks.{
+  Marks,
   places,
   hasName,
   isFree,

@@ -6,8 +6,7 @@ use lib.ListN.{getD}
 use Rattle.streams.specs.declared.Generator.{Generator}
 use Rattle.streams.specs.Streams.{Call, ifAccepted}
 use Rattle.noise.specs.Runs.{returned, handed}
-use Rattle.marks.specs.Marks.{Marks}
-use Rattle.marks.specs.Marks.{noRecord, placeOf, savedOf, returnedOf, droppedOf}
+use Rattle.marks.specs.Marks.{Marks, noRecord, placeOf, savedOf, returnedOf, droppedOf}
 
 -- What a maker keeps.
 pub record State : Type 0 where
@@ -19,7 +18,7 @@ pub data MarkCall : Type 0 where
   on-record : Call → MarkCall
   a-save a-return a-drop : List ℕ → MarkCall
 
--- Its number, and what it leaves: a return leaves the set, a save and a drop leave the record.
+-- Its refusal code, and what it leaves: a return leaves the set, a save and a drop leave the record.
 unfoldable pub codeIn : MarkCall → State → ℕ
 codeIn (on-record c) s = returned c (s .generator) .code
 codeIn (a-save x) s = savedOf (s .marks) (s .generator) x .code

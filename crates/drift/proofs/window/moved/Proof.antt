@@ -7,9 +7,8 @@ use lib.ListN.{getD}
 use mir.Facts.{toZ-ofZ}
 use mir.Syntax.{w16, w64}
 use borrow.Author.Needs.{needs}
-use Rattle.drift.specs.Drift.{windowOf, accepted, leavingOf, heldAfter, placeAfter, sumsOf, movedOf, membersOf}
 use Rattle.drift.specs.declared.sums.Sums.{Sums}
-use Rattle.drift.specs.Drift.{Window}
+use Rattle.drift.specs.Drift.{windowOf, accepted, leavingOf, heldAfter, placeAfter, sumsOf, movedOf, membersOf, Window}
 use Rattle.drift.proofs.Signed.{back}
 use Rattle.drift.proofs.Fitness.{fit-true}
 use Rattle.drift.proofs.window.moved.Statement.{statement}

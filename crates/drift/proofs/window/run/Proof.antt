@@ -6,10 +6,9 @@ use lib.ListN.{length, drop, getD}
 use lib.IntN.{pos}
 use mir.Syntax.{w16}
 use borrow.Author.Needs.{needs}
-use Rattle.drift.specs.Drift.{pushedFrom, answerOf, membersOf, withPlaces}
-use Rattle.drift.specs.Drift.{WindowAnswer}
+use Rattle.drift.specs.Drift.{pushedFrom, membersOf, withPlaces, WindowAnswer}
 use Rattle.drift.proofs.Signed.{back}
-use Rattle.drift.proofs.Runs.{one-more, at-end, all-from}
+use Rattle.drift.proofs.Runs.{answerOf, one-more, at-end, all-from}
 use Rattle.drift.proofs.window.run.Statement.{statement}
 use Rattle.drift.proofs.window.run.Tie as tie
 

@@ -3,18 +3,11 @@ use mathlib.Core.Path.{sym, _∙_}
 use mir.Facts.{toZ-ofZ}
 use mir.Syntax.{w64}
 use borrow.Author.Tests.{not-true, not-false}
-use borrow.Author.Needs.{needs}
 use Rattle.drift.specs.Drift.{pushedOf, movedOf}
 use Rattle.drift.proofs.Signed.{back}
 use Rattle.drift.proofs.Fitness.{fit-read}
 use Rattle.drift.proofs.window.step.Statement.{statement}
 use Rattle.drift.proofs.window.step.Tie as tie
-
-is-fit-requires : tie.Need-is-fit-requires
-is-fit-requires c κs = search needs
-
-refuse-requires : tie.Need-refuse-requires
-refuse-requires c κs = search needs
 
 returns : tie.Need-returns
 unfolding pushedOf
@@ -39,4 +32,4 @@ returns-2 c =
     rw (← fit-read _ _ _ (m .sum) (m .squares) (c .before .before .before .is-fit .ensures) s q, not-false (c .before .before .before .is-fit .result) (c .before .before .if1 .left)) (rw (back w64 (m .sum) s, back w64 (m .squares) q, toZ-ofZ (c .before .before .before .before .before .before .fits .sample)) at (c .moved .ensures))
 
 pub step-spec : {M : Type 1} → statement M
-step-spec = tie.close (tie.spec is-fit-requires refuse-requires returns moved-requires returns-2)
+step-spec = tie.close (tie.spec (λ c κs. tt) (λ c κs. tt) returns moved-requires returns-2)
