@@ -26,7 +26,6 @@ use Rattle.misclosure.proofs.Listings.{
   chosen-linked,
 }
 use Rattle.misclosure.proofs.Answer.{level-answer}
-use Rattle.misclosure.proofs.ReadBack.{read-back}
 
 close : (text : List ℕ) (l : List Span) → listingOf false text ≡ accepted l
     → Close 3 (lowShots l) (missOf (listingOf false text) .easting) (missOf (listingOf false text) .northing)
@@ -130,7 +129,6 @@ theorems = record {
   close = close;
   no-shots = rw (linked-accepted false [] tt (omega arith));
   joined = joined;
-  read-back = read-back;
   spans = all-spans;
   choice = choice;
   level-listing = λ rows h. ap intervalsOf (level-outcome rows h) ∙ level-answer (textOf false rows);

@@ -7,11 +7,8 @@ use lib.IntN.{pos, _+ℤ_}
 use lib.ListN.{length}
 use Rattle.text.specs.Limits.{numeralBound}
 use Rattle.text.specs.Fields.{name}
-use Rattle.text.specs.Scan.{lines}
-use Rattle.job_lines.specs.Forms.{Form, seeds, sigma, shot, noForm, readLine}
 use Rattle.listing_writer.specs.Listing.{endRow}
 use Rattle.listing_reader.specs.Entries.{headerOf, rowOf}
-use Rattle.job.specs.Job.{listed, jobOf}
 use Rattle.sums.specs.Sums.{Shot, sine, cosine, total, rounded, mostShots, mostDistance}
 use Rattle.sums.specs.Exact.{exactSine, exactCosine, Close}
 use Rattle.sums.specs.Spans.{Span, Chosen, lowShots, Spans}
@@ -71,14 +68,6 @@ chosenRows (r ∷ rows) [] = []
 chosenRows (r ∷ rows) (s ∷ c) =
     record { from = r .from; to = r .to; low = s .distance; high = s .distance; step = r .step } ∷ chosenRows rows c
 
--- the shots of a job follow each other
-unfoldable pub Following : List ℕ → List Form → Type 0
-Following station [] = Unit {0}
-Following station (shot from to d b ∷ xs) = (follows station from ≡ true) × Following to xs
-Following station (seeds a0 a1 a2 b0 b1 b2 ∷ xs) = Following station xs
-Following station (sigma d b ∷ xs) = Following station xs
-Following station (noForm ∷ xs) = Following station xs
-
 -- the most bytes of a shot's row, and of an accepted listing: the header, a row for each shot, and the last row
 unfoldable pub longestRow : Bool → ℕ
 longestRow false = 40
@@ -129,9 +118,6 @@ pub record Theorems : Type 0 where
   pub joined : (first second : List Row) → Linked false [] (first ++ second) → length (first ++ second) ≤ mostShots
       → (missIn (first ++ second) .east ≡ missIn first .east +ℤ missIn second .east)
       × (missIn (first ++ second) .north ≡ missIn first .north +ℤ missIn second .north)
-  -- a listing of the listing call whose shots follow each other is read back
-  pub read-back : (text bytes : List ℕ) → jobOf text ≡ listed bytes → Following [] (map readLine (lines text))
-      → (l : List Span) × (listingOf false bytes ≡ accepted l)
   -- Job 14: "Every choice lies between, and each end is met by some choice", and each end, rounded, is less than 3 mm from that choice's exact sum
   pub spans : (text : List ℕ) (l : List Span) → listingOf true text ≡ accepted l
       → Spans sine exactSine l (intervalsOf (listingOf true text) .east .low) (intervalsOf (listingOf true text) .east .high)

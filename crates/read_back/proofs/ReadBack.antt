@@ -30,9 +30,9 @@ use Rattle.job.proofs.Jobs as jobLaws
 use Rattle.sums.specs.Sums.{mostDistance}
 use Rattle.sums.specs.Spans.{Span}
 use Rattle.listing_reader.specs.Entries.{rowOf, headerOf}
 use Rattle.misclosure.specs.Misclosure.{lastLine, mostStep, accepted, onto, outcome, listingOf}
-use Rattle.misclosure.specs.Theorems.{Following}
+use Rattle.read_back.specs.ReadBack.{Following, ReadBack}
 use Rattle.misclosure.proofs.Listings.{outcome-leg, outcome-end, listing-headed}
 
 -- "1,008,242 mm, which the half step can reach"
 distance-most : (σ d : ℕ) (z : ℤ) → σ ≤ limits.mostSigma → d ≤ limits.mostDistance → natAbs z ≤ 16879 → noisyDistance σ d z ≤ mostDistance
@@ -118,8 +118,7 @@ back-lines (line ∷ ls) k s station bytes few steady e f =
     go ih false t = absurd (jobLaws.refused-not-listed (jobs.refusal k (readLine line)) k bytes
         (sym (going.outcome-no k s line ls (eqb-false (jobs.refusal k (readLine line)) 0 t)) ∙ e))
 
-pub read-back : (text bytes : List ℕ) → job.jobOf text ≡ job.listed bytes → Following [] (map readLine (lines text))
-    → (l : List Span) × (listingOf false bytes ≡ accepted l)
+pub read-back : ReadBack
 unfolding job.jobOf job.listingOf job.start headerOf
 read-back text bytes e f = go (ltb limits.mostBytes (length text)) e
   where
