@@ -10,11 +10,11 @@ use lib.Dec.{leb, ltb, eqb}
 use borrow.Author.Tests.{lt-ltb, le-ltb, le-leb, lt-leb, leb-true, eqb-false}
 use Rattle.text.specs.Buffer.{written, Puts}
 use Rattle.text.proofs.Writing.{place-fits, written-fits}
-use Rattle.job.specs.Limits.{mostBytes}
+use Rattle.job_refusals.specs.Limits.{mostBytes}
 use Rattle.job.specs.Job.{Outcome, refused, listed, onto, outcome, start, listingOf, jobOf, answerOf, bufferAfter, outputOf}
 use Rattle.job.specs.Job.{printed, settingAfter}
 use Rattle.job_lines.specs.Forms.{readLine}
-use Rattle.job.specs.Refusals.{refusal}
+use Rattle.job_refusals.specs.Refusals.{refusal}
 use Rattle.listing_writer.specs.Listing.{header, endRow, refusedRow}
 use Rattle.job.specs.declared.state.Setting.{Setting}
 use Rattle.text.specs.Scan.{lines}

@@ -8,10 +8,10 @@ use Rattle.streams.specs.Streams.{seedOf}
 use Rattle.sample.specs.Steps.{fractionBits}
 use Rattle.noise.specs.Noise.{pairOf}
 use Rattle.text.specs.Scan.{lines}
-use Rattle.job.specs.Limits.{mostBytes}
+use Rattle.job_refusals.specs.Limits.{mostBytes}
 use Rattle.job_lines.specs.Forms.{Form, seeds, sigma, shot, noForm, readLine}
 use Rattle.listing_writer.specs.Listing.{header, endRow, refusedRow, noisyRow}
-use Rattle.job.specs.Refusals.{refusal}
+use Rattle.job_refusals.specs.Refusals.{refusal}
 use Rattle.job.specs.declared.state.Setting.{Setting}
 use Rattle.job.specs.declared.JobAnswer.{JobAnswer}
 

@@ -4,10 +4,10 @@ use mathlib.Core.Path.{_≡_}
 use mathlib.Core.List.{List, [], _∷_, _++_, map}
 use lib.ListN.{length}
 use Rattle.text.specs.Scan.{lines}
-use Rattle.job.specs.Limits.{mostBytes, listingRoom, longestListing}
+use Rattle.job_refusals.specs.Limits.{mostBytes, listingRoom, longestListing}
 use Rattle.job_lines.specs.Forms.{Form, seeds, sigma, shot, noForm, readLine, printLine, Printable}
 use Rattle.listing_writer.specs.Listing.{header, endRow}
-use Rattle.job.specs.Refusals.{refusal}
+use Rattle.job_refusals.specs.Refusals.{refusal}
 use Rattle.job.specs.Job.{refused, listed, start, jobOf, answerOf, printed, settingAfter}
 use Rattle.job.specs.declared.state.Setting.{Setting}
 

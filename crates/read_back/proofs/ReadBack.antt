@@ -18,13 +18,14 @@ use Rattle.listing_writer.specs.Listing.{header, endRow, noisyRow}
 use Rattle.sample.specs.Steps.{fractionBits}
 use Rattle.noise.specs.Noise.{pairOf}
 use Rattle.noise.proofs.Theorems.{pair-sizes}
-use Rattle.job.specs.Limits as limits
-use Rattle.job.specs.Refusals as jobs
+use Rattle.job_refusals.specs.Limits as limits
+use Rattle.job_refusals.specs.Refusals as jobs
 use Rattle.job.specs.Job as job
 use Rattle.job.specs.Private.{Steady}
 use Rattle.job.specs.declared.state.Setting.{Setting}
-use Rattle.job.proofs.Refused.{or-false}
-use Rattle.job.proofs.Bounds.{Accepted, accepted-line, steps}
+use Rattle.job_refusals.proofs.Refused.{or-false}
+use Rattle.job_refusals.proofs.Accepted.{Accepted, accepted-line}
+use Rattle.job.proofs.Bounds.{steps}
 use Rattle.job.proofs.Going as going
 use Rattle.job.proofs.Jobs as jobLaws
 use Rattle.sums.specs.Sums.{mostDistance}
