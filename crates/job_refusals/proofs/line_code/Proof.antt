@@ -1,5 +1,5 @@
 -- `job_refusals::line_code` meets its contract.
-use mathlib.Core.Path.{sym}
+use native.Mathlib.Omega.{arith}
 use borrow.Author.Needs.{needs}
 use Rattle.job_refusals.proofs.Refused.{none-6}
 use Rattle.job_refusals.proofs.line_code.Statement.{statement}
@@ -36,7 +36,7 @@ returns-3 : tie.Need-returns-3
 returns-3 c = rw (c .before .before .x3 .given .1) (c .shot-code .ensures)
 
 returns-4 : tie.Need-returns-4
-returns-4 c = rw (c .enum-told .given .1) (sym (none-6 _))
+returns-4 c = rw (c .enum-told .given .1) (omega (arith, none-6 (c .before .before .args .line)))
 
 pub line-code-spec : {M : Type 1} → statement M
 line-code-spec =
