@@ -1,6 +1,6 @@
 -- What a fit window's numbers are.
-use mathlib.Core.Path.{_≡_, refl}
-use mathlib.Core.Bool.{Bool, true, false, _&&_, false≢true}
+use mathlib.Core.Path.{_≡_}
+use mathlib.Core.Bool.{Bool, true, _&&_, and-eq-true-iff}
 use Prim.Native.Nat.{ℕ, _^_, _≤_, _<_}
 use lib.Dec.{ltb, leb}
 use lib.IntN.{ℤ, natAbs}
@@ -19,19 +19,15 @@ pub record Fit (size held place : ℕ) (sum squares : ℤ) : Type 0 where
   pub sum-small : natAbs sum ≤ mostSum
   pub squares-small : natAbs squares ≤ mostSum
 
-both : (a : Bool) {b : Bool} → a && b ≡ true → (a ≡ true) × (b ≡ true)
-both true e = (refl, e)
-both false e = absurd (false≢true e)
-
 module _ (size held place : ℕ) (sum squares : ℤ) where
   pub fit-true : fitOf size held place sum squares ≡ true → Fit size held place sum squares
   unfolding fitOf sizeFit withinLimit
   fit-true e =
-      let (a, e1) = both (leb 1 size && leb size mostSize) e in
-      let (p, q) = both (leb 1 size) a in
-      let (b, e2) = both (leb held size) e1 in
-      let (d, e3) = both (ltb place size) e2 in
-      let (f, g) = both (leb (natAbs sum) mostSum) e3 in
+      let (a, e1) = and-eq-true-iff (leb 1 size && leb size mostSize) _ .0 e in
+      let (p, q) = and-eq-true-iff (leb 1 size) _ .0 a in
+      let (b, e2) = and-eq-true-iff (leb held size) _ .0 e1 in
+      let (d, e3) = and-eq-true-iff (ltb place size) _ .0 e2 in
+      let (f, g) = and-eq-true-iff (leb (natAbs sum) mostSum) _ .0 e3 in
       record {
         positive = leb-true _ _ p;
         small = leb-true _ _ q;

@@ -14,7 +14,7 @@ use mir.Val.{SFits}
 use borrow.Author.Tests.{ltb-true, ltb-false, lt-ltb, le-ltb}
 use Rattle.drift.specs.Drift.{leavingOf, heldAfter, placeAfter}
 use Rattle.drift.specs.Theorems.{Samples, latest, sumOf}
-use Rattle.drift.proofs.Signed.{sum-size}
+use Rattle.signs.proofs.Sizes.{sum-size}
 
 -- ---- The latest n, one sample on: the oldest leaves once there are n
 

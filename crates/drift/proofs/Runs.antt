@@ -7,9 +7,9 @@ use native.Mathlib.Numerals.{add-one}
 use lib.IntN.{ℤ}
 use lib.ListN.{length, getD, drop, drop-of-length-le}
 use lib.Seq.{drop-cons}
-use Rattle.drift.specs.declared.Window.{Window}
-use Rattle.drift.specs.declared.WindowAnswer.{WindowAnswer}
-use Rattle.drift.specs.Drift.{sizeFit, fitOf, emptyPlaces, emptyWindow, accepted, refusal, checkedOf, madeOf, movedOf, pushedOf, pushedFrom, pushedAll, answerOf, numbersOf}
+use Rattle.drift.specs.Drift.{Window}
+use Rattle.drift.specs.Drift.{WindowAnswer}
+use Rattle.drift.specs.Drift.{sizeFit, fitOf, emptyPlaces, emptyWindow, accepted, refusal, checkedOf, madeOf, movedOf, pushedOf, pushedFrom, pushedAll, answerOf, membersOf}
 
 pub one-more : (r : WindowAnswer) (l : List ℤ) (i : ℕ) (d : ℤ) → i < length l → pushedFrom r (drop i l) ≡ pushedFrom (pushedOf (r .window) (getD l i d)) (drop (i + 1) l)
 unfolding pushedFrom
@@ -34,10 +34,10 @@ all-from w [] = refl
 all-from w (x ∷ l) = ap (λ (r : WindowAnswer). pushedFrom r l) (tested w x)
 
 -- The numbers of a window that is made, with empty places, are that window.
-pub made-whole : (n : ℕ) → answerOf (numbersOf (madeOf n)) emptyPlaces ≡ madeOf n
+pub made-whole : (n : ℕ) → answerOf (membersOf (madeOf n)) emptyPlaces ≡ madeOf n
 unfolding madeOf
 made-whole n = by-test (sizeFit n)
   where
-    by-test : (t : Bool) → answerOf (numbersOf (cond t (accepted (emptyWindow n)) refusal)) emptyPlaces ≡ cond t (accepted (emptyWindow n)) refusal
+    by-test : (t : Bool) → answerOf (membersOf (cond t (accepted (emptyWindow n)) refusal)) emptyPlaces ≡ cond t (accepted (emptyWindow n)) refusal
     by-test true = refl
     by-test false = refl

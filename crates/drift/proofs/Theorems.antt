@@ -12,11 +12,11 @@ use lib.Seq.{drop-nil}
 use mir.Syntax.{w16}
 use mir.Val.{SFits}
 use borrow.Author.Tests.{le-leb}
-use Rattle.drift.specs.declared.Window.{Window}
-use Rattle.drift.specs.declared.WindowAnswer.{WindowAnswer}
+use Rattle.drift.specs.Drift.{Window}
+use Rattle.drift.specs.Drift.{WindowAnswer}
 use Rattle.drift.specs.Drift.{mostSize, mostSum, sizeFit, fitOf, emptyPlaces, emptyWindow, accepted, refusal, checkedOf, madeOf, movedOf, pushedOf, pushedFrom, pushedAll}
 use Rattle.drift.specs.Theorems.{Samples, latest, sumOf, itself, square, after, Drift, OneByOne}
-use Rattle.drift.proofs.Signed.{product-size, fits-size}
+use Rattle.signs.proofs.Sizes.{product-size, fits-size}
 use Rattle.drift.proofs.Fitness.{Fit, true-fit}
 use Rattle.drift.proofs.Latest.{grown, latest-more, sum-bound, Shape, filling, shape-bounds, shape-more, sum-follows}
 use Rattle.drift.proofs.Runs.{tested, all-from}

@@ -5,10 +5,8 @@ use mathlib.Core.List.{List, [], _∷_}
 use lib.Dec.{leb, ltb}
 use lib.IntN.{ℤ, pos, natAbs, _+ℤ_, _-ℤ_, _*ℤ_}
 use lib.ListN.{getD, set, replicate}
-use Rattle.drift.specs.declared.Window.{Window}
-use Rattle.drift.specs.declared.WindowAnswer.{WindowAnswer}
-use Rattle.drift.specs.declared.Numbers.{Numbers}
-use Rattle.drift.specs.declared.Sums.{Sums}
+use Rattle.drift.specs.declared.window.Members.{Members}
+use Rattle.drift.specs.declared.sums.Sums.{Sums}
 
 -- ---- Limits
 
@@ -32,6 +30,19 @@ fitOf size held place sum squares =
     sizeFit size && (leb held size && (ltb place size && (withinLimit sum && withinLimit squares)))
 
 -- ---- Windows
+
+-- N, how many samples are held, the place that the next one takes, the places, and the two sums.
+pub record Window : Type 0 where
+  pub size : ℕ
+  pub held : ℕ
+  pub place : ℕ
+  pub places : List ℤ
+  pub sum : ℤ
+  pub squares : ℤ
+
+pub record WindowAnswer : Type 0 where
+  pub code : ℕ
+  pub window : Window
 
 abbrev pub windowOf : ℕ → ℕ → ℕ → List ℤ → ℤ → ℤ → Window
 windowOf size held place places sum squares =
@@ -96,16 +107,16 @@ unfoldable pub pushedAll : Window → List ℤ → WindowAnswer
 pushedAll w [] = checkedOf w
 pushedAll w (x ∷ samples) = pushedFrom (pushedOf w x) samples
 
--- ---- A window whose places stand apart, in lent memory
+-- ---- A window whose places stand apart, in the caller's memory
 
-abbrev pub withPlaces : Numbers → List ℤ → Window
+abbrev pub withPlaces : Members → List ℤ → Window
 withPlaces m places = windowOf (m .size) (m .held) (m .place) places (m .sum) (m .squares)
 
-abbrev pub answerOf : Numbers → List ℤ → WindowAnswer
+abbrev pub answerOf : Members → List ℤ → WindowAnswer
 answerOf m places = record { code = m .code; window = withPlaces m places }
 
-abbrev pub numbersOf : WindowAnswer → Numbers
-numbersOf r =
+abbrev pub membersOf : WindowAnswer → Members
+membersOf r =
     record {
       code = r .code;
       size = r .window .size;

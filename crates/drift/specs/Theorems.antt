@@ -6,7 +6,7 @@ use lib.IntN.{ℤ, pos, natAbs, _+ℤ_, _*ℤ_}
 use lib.ListN.{length, drop}
 use mir.Syntax.{w16}
 use mir.Val.{SFits}
-use Rattle.drift.specs.declared.Window.{Window}
+use Rattle.drift.specs.Drift.{Window}
 use Rattle.drift.specs.Drift.{mostSum, madeOf, pushedOf, pushedAll}
 
 -- "16-bit samples"

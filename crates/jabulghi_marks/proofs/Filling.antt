@@ -11,7 +11,7 @@ use lib.Seq.{drop-cons, drop-drop, length-take-le, take-suc-set, take-all, appen
 use Rattle.text.specs.Limits.{nameLength}
 use Rattle.text.specs.Buffer.{written}
 use Rattle.text.proofs.Writing.{written-fits}
-use Rattle.marks.specs.declared.Label.{Label}
+use Rattle.marks.specs.declared.label.Label.{Label}
 use Rattle.marks.specs.Marks.{places}
 use Rattle.jabulghi_marks.specs.Members.{labelsOf}
 

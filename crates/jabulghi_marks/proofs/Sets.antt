@@ -15,7 +15,7 @@ use Rattle.text.specs.Buffer.{written}
 use Rattle.streams.specs.Streams.{seedOf, recordCode, fit}
 use Rattle.text.proofs.Writing.{written-length}
 use Rattle.jabulghi.specs.Words.{generatorOf}
-use Rattle.marks.specs.declared.Label.{Label}
+use Rattle.marks.specs.declared.label.Label.{Label}
 use Rattle.marks.specs.Marks.{places, labelOf, noLabel, noRecord, placeToSave, placeToReturn, placeToDrop, stored, savedOf, returnedOf, droppedOf}
 use Rattle.marks.proofs.Placing.{save-inside, return-inside, drop-inside}
 use Rattle.jabulghi_marks.specs.Members.{recordWords, namesLength, recordsLength, Members, labelsOf, recordsOf, setOf, storedIn, savedIn, returnedWords, droppedIn}
@@ -111,7 +111,7 @@ stored-is m p u label w s h b t k =
     (s .names-size ∙ ap (λ (n : ℕ). n * nameLength) (sym (s .used-size))) b t)
     (records-put p places (m .records) w h (s .records-size) k)
 
--- Saving, returning and dropping, from the members, are the calls of `marks` on the set that they are; a number is the same by definition.
+-- Saving, returning and dropping, from the members, are the calls of `marks` on the set that they are; a code is the same by definition.
 module _ (m : Members) (s : Sizes m) (words x : List ℕ) (size : length words ≡ recordWords) where
   pub save-is : setOf (savedIn m words x) ≡ savedOf (setOf m) (generatorOf words) x .next
   unfolding savedIn savedOf labelOf

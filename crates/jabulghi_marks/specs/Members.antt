@@ -9,9 +9,9 @@ use Rattle.streams.specs.Streams.{ifAccepted}
 use Rattle.text.specs.Limits.{nameLength}
 use Rattle.text.specs.Buffer.{written}
 use Rattle.jabulghi.specs.Words.{generatorOf}
-use Rattle.marks.specs.declared.Label.{Label}
-use Rattle.marks.specs.declared.Marks.{Marks}
-use Rattle.marks.specs.declared.Placed.{Placed}
+use Rattle.marks.specs.declared.label.Label.{Label}
+use Rattle.marks.specs.Marks.{Marks}
+use Rattle.marks.specs.declared.call.Placed.{Placed}
 use Rattle.marks.specs.Marks.{places, labelOf, noLabel, placeToSave, placeToReturn, placeToDrop}
 
 -- the words of a record, and the sizes of the members

@@ -1,8 +1,8 @@
-// The makers' C interface to windows: each function equals the call of crate `drift`. A window is lent as its members one by one, in the order of the
+// The makers' C interface to windows: each function equals the call of crate `drift`. The caller's window comes as its members one by one, in the order of the
 // header's struct jabulghi_window, whose inline functions take it apart.
 ghost use mathlib.Core.Path.{_≡_};
 ghost use Rattle.drift.specs.Drift.{windowOf, madeOf, pushedOf, pushedAll};
-use drift::Numbers;
+use drift::window::Members;
 
 // A window for the latest n samples.
 #[no_mangle]
@@ -18,8 +18,8 @@ pub extern "C" fn jabulghi_window_make_members(
     ensures { λ r. ⌜ r ≡ madeOf n .code ⌝ }
     ensures { λ _. ⌜ windowOf (now (size .exit)) (now (held .exit)) (now (place .exit)) (now (places .exit)) (now (sum .exit)) (now (squares .exit)) ≡ madeOf n .window ⌝ }
 {
-    drift::clear(places);
-    let made = drift::made(n);
+    drift::window::clear(places);
+    let made = drift::window::made(n);
     *size = made.size;
     *held = made.held;
     *place = made.place;
@@ -44,7 +44,7 @@ pub extern "C" fn jabulghi_window_push_members(
     ensures { λ r. ⌜ r ≡ pushedOf (windowOf (now (size .entry)) (now (held .entry)) (now (place .entry)) (now (places .entry)) (now (sum .entry)) (now (squares .entry))) sample .code ⌝ }
     ensures { λ _. ⌜ windowOf (now (size .exit)) (now (held .exit)) (now (place .exit)) (now (places .exit)) (now (sum .exit)) (now (squares .exit)) ≡ pushedOf (windowOf (now (size .entry)) (now (held .entry)) (now (place .entry)) (now (places .entry)) (now (sum .entry)) (now (squares .entry))) sample .window ⌝ }
 {
-    let was = Numbers {
+    let was = Members {
         code: 0,
         size: *size,
         held: *held,
@@ -52,7 +52,7 @@ pub extern "C" fn jabulghi_window_push_members(
         sum: *sum,
         squares: *squares,
     };
-    let pushed = drift::step(was, places, sample);
+    let pushed = drift::window::step(was, places, sample);
     *size = pushed.size;
     *held = pushed.held;
     *place = pushed.place;
@@ -77,7 +77,7 @@ pub extern "C" fn jabulghi_window_push_all_members(
     ensures { λ r. ⌜ r ≡ pushedAll (windowOf (now (size .entry)) (now (held .entry)) (now (place .entry)) (now (places .entry)) (now (sum .entry)) (now (squares .entry))) (now (samples .entry)) .code ⌝ }
     ensures { λ _. ⌜ windowOf (now (size .exit)) (now (held .exit)) (now (place .exit)) (now (places .exit)) (now (sum .exit)) (now (squares .exit)) ≡ pushedAll (windowOf (now (size .entry)) (now (held .entry)) (now (place .entry)) (now (places .entry)) (now (sum .entry)) (now (squares .entry))) (now (samples .entry)) .window ⌝ }
 {
-    let was = Numbers {
+    let was = Members {
         code: 0,
         size: *size,
         held: *held,
@@ -85,7 +85,7 @@ pub extern "C" fn jabulghi_window_push_all_members(
         sum: *sum,
         squares: *squares,
     };
-    let ran = drift::run(was, places, samples);
+    let ran = drift::window::run(was, places, samples);
     *size = ran.size;
     *held = ran.held;
     *place = ran.place;

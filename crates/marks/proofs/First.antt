@@ -5,7 +5,7 @@ use mathlib.Core.List.{List, [], _∷_}
 use Prim.Native.Nat.{ℕ, zero, suc, _≤_, _<_}
 use native.Mathlib.Omega.{arith}
 use lib.ListN.{length, getD, set}
-use Rattle.marks.specs.declared.Label.{Label}
+use Rattle.marks.specs.declared.label.Label.{Label}
 use Rattle.marks.specs.Marks.{firstPlace}
 
 module _ (test : Label → Bool) where

@@ -1,25 +1,19 @@
 -- A label has one name and no other.
 use mathlib.Core.Path.{_≡_, refl, sym, _∙_}
-use mathlib.Core.Bool.{Bool, true, false, not, _&&_, false≢true}
+use mathlib.Core.Bool.{Bool, true, false, and-eq-true-iff}
 use mathlib.Core.List.{List, _++_}
 use Prim.Native.Nat.{ℕ, _+_, _≤_}
 use native.Mathlib.Omega.{arith}
 use native.Mathlib.Nat.{min-eq-left, zero-add}
-use lib.Dec.{leb, ltb}
+use lib.Dec.{leb}
 use lib.ListN.{length, take, drop, replicate}
 use lib.Seq.{sets, sets-eq, take-append-seam}
 use borrow.Author.Tests.{le-leb, leb-true}
 use Rattle.text.specs.Limits.{nameLength}
-use Rattle.text.specs.Fields.{name, letterOrDigit, all}
 use Rattle.text.specs.Buffer.{written}
-use Rattle.marks.specs.declared.Label.{Label}
+use Rattle.marks.specs.declared.label.Label.{Label}
 use Rattle.text.proofs.SameBytes.{same-refl, same-bytes}
 use Rattle.marks.specs.Marks.{hasName, labelOf}
-
--- both of two tests
-pub and-true : (s t : Bool) → s && t ≡ true → (s ≡ true) × (t ≡ true)
-and-true true t e = (refl, e)
-and-true false t e = absurd (false≢true e)
 
 -- a test that is not passed
 pub not-passed : (t : Bool) → (t ≡ true → ⊥) → t ≡ false
@@ -35,16 +29,9 @@ pub record Has (bytes : List ℕ) (label : Label) : Type 0 where
 pub has : (bytes : List ℕ) (label : Label) → hasName bytes label ≡ true → Has bytes label
 unfolding hasName
 has bytes label e =
-    let (used, rest) = and-true (label .used) _ e in
-    let (short, is) = and-true (leb (label .length) nameLength) _ rest in
+    let (used, rest) = and-eq-true-iff (label .used) _ .0 e in
+    let (short, is) = and-eq-true-iff (leb (label .length) nameLength) _ .0 rest in
     record { used = used; short = leb-true _ _ short; is = same-bytes _ _ is }
-
--- "Names are 1 to 12 letters or digits"
-pub name-short : (bytes : List ℕ) → name bytes ≡ true → length bytes ≤ nameLength
-unfolding name
-name-short bytes e =
-    let (sized, letters) = and-true (ltb 0 (length bytes) && leb (length bytes) nameLength) (all letterOrDigit bytes) e in
-    leb-true _ _ (and-true (ltb 0 (length bytes)) (leb (length bytes) nameLength) sized .1)
 
 -- The label of a name has that name,
 pub own-name : (bytes : List ℕ) → length bytes ≤ nameLength → hasName bytes (labelOf bytes) ≡ true

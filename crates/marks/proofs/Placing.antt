@@ -4,15 +4,15 @@ use mathlib.Core.Bool.{Bool, true, false}
 use mathlib.Core.List.{List, [], _∷_}
 use Prim.Native.Nat.{ℕ, zero, suc, _<_}
 use lib.Dec.{ltb}
-use lib.ListN.{length, getD}
+use lib.ListN.{getD}
 use native.Mathlib.Omega.{arith}
 use borrow.Author.Tests.{ltb-true}
 use Rattle.streams.specs.declared.Generator.{Generator}
 use Rattle.streams.specs.Streams.{firstCause}
 use Rattle.streams.proofs.Causes.{none-applies}
-use Rattle.marks.specs.declared.Label.{Label}
-use Rattle.marks.specs.declared.Placed.{Placed}
-use Rattle.marks.specs.Marks.{places, placeOf, savePlace, idleCode, nameCode, placeCode, placeToSave, placeToReturn, placeToDrop}
+use Rattle.marks.specs.declared.label.Label.{Label}
+use Rattle.marks.specs.declared.call.Placed.{Placed}
+use Rattle.marks.specs.Marks.{places, placeOf, savePlace, idleCode, nameCode, placeCode, placedOf, placeToSave, placeToReturn, placeToDrop}
 
 pub inside : (place code : ℕ) → 0 < code → placeCode place code ≡ 0 → place < places
 unfolding placeCode
@@ -33,31 +33,21 @@ each-none (cause ∷ causes) h (suc i) = each-none causes (none-applies cause ca
 abbrev pub Inside : Placed → Type 0
 Inside placed = placed .code ≡ 0 → placed .place < places
 
+pub placed-inside : (place busy malformed code : ℕ) → 0 < code → Inside (placedOf place busy malformed code)
+placed-inside place busy malformed code some h = inside place code some (each-none (busy ∷ malformed ∷ placeCode place code ∷ []) h 2)
+
 pub save-inside : (labels : List Label) (g : Generator) (bytes : List ℕ) → Inside (placeToSave labels g bytes)
 unfolding placeToSave
-save-inside labels g bytes h =
-    let place = savePlace labels bytes in
-    inside place 20 (omega arith) (each-none (idleCode g ∷ nameCode bytes ∷ placeCode place 20 ∷ []) h 2)
+save-inside labels g bytes = placed-inside (savePlace labels bytes) (idleCode g) (nameCode bytes) 20 (omega arith)
 
 pub return-inside : (labels : List Label) (g : Generator) (bytes : List ℕ) → Inside (placeToReturn labels g bytes)
 unfolding placeToReturn
-return-inside labels g bytes h =
-    let place = placeOf labels bytes in
-    inside place 19 (omega arith) (each-none (idleCode g ∷ nameCode bytes ∷ placeCode place 19 ∷ []) h 2)
+return-inside labels g bytes = placed-inside (placeOf labels bytes) (idleCode g) (nameCode bytes) 19 (omega arith)
 
 pub drop-inside : (labels : List Label) (bytes : List ℕ) → Inside (placeToDrop labels bytes)
 unfolding placeToDrop
-drop-inside labels bytes h =
-    let place = placeOf labels bytes in
-    inside place 19 (omega arith) (each-none (nameCode bytes ∷ placeCode place 19 ∷ []) h 1)
+drop-inside labels bytes = placed-inside (placeOf labels bytes) 0 (nameCode bytes) 19 (omega arith)
 
 -- so is that of what equals it
 pub both : {r placed : Placed} → Inside placed → r ≡ placed → (r ≡ placed) × Inside r
 both h e = (e, rw e h)
-
--- ---- An element inside a list is there whatever stands for one outside
-
-pub same-inside : {A : Type 0} (l : List A) (i : ℕ) (d e : A) → i < length l → getD l i d ≡ getD l i e
-same-inside [] i d e h = absurd (omega arith)
-same-inside (x ∷ l) zero d e h = refl
-same-inside (x ∷ l) (suc i) d e h = same-inside l i d e (omega arith)

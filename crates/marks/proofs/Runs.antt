@@ -20,8 +20,8 @@ use Rattle.noise.specs.Noise.{blockHolds}
 use Rattle.noise.specs.Runs.{returned, handed, sumOver}
 use Rattle.noise.specs.Runs.{run as run-on-record}
 use Rattle.noise.proofs.Runs.{returned-code, next-is, call-sound, unfit-call, run-count}
-use Rattle.marks.specs.declared.Label.{Label}
-use Rattle.marks.specs.declared.Marks.{Marks}
+use Rattle.marks.specs.declared.label.Label.{Label}
+use Rattle.marks.specs.Marks.{Marks}
 use Rattle.marks.specs.Marks.{places, hasName, labelOf, noLabel, noRecord, empty, placeOf, savePlace, idleCode, nameCode, placeCode, placeToSave, placeToReturn, placeToDrop, stored, savedOf, returnedOf, droppedOf, Sized}
 use Rattle.marks.specs.Runs.{State, MarkCall, codeIn, nextIn, run, Tally, tallied, tally, Untouched}
 use Rattle.marks.specs.Runs.MarkCall.{on-record, a-save, a-return, a-drop}

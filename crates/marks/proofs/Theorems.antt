@@ -14,8 +14,9 @@ use Rattle.streams.specs.declared.RecordAnswer.{RecordAnswer}
 use Rattle.streams.specs.Streams.{firstCause, ifAccepted}
 use Rattle.streams.proofs.Causes.{lone-cause}
 use Rattle.text.specs.Fields.{name}
-use Rattle.marks.specs.declared.Label.{Label}
-use Rattle.marks.specs.declared.Marks.{Marks}
+use Rattle.text.proofs.Plain.{name-length}
+use Rattle.marks.specs.declared.label.Label.{Label}
+use Rattle.marks.specs.Marks.{Marks}
 use Rattle.marks.specs.Marks.{
   places,
   hasName,
@@ -38,8 +39,8 @@ use Rattle.marks.specs.Marks.{
   droppedOf,
   Sized,
 }
-use Rattle.marks.proofs.Placing.{inside, each-none, save-inside, return-inside, drop-inside}
-use Rattle.marks.proofs.Names.{has, name-short, own-name, one-name, free-name}
+use Rattle.marks.proofs.Placing.{each-none, save-inside, return-inside, drop-inside}
+use Rattle.marks.proofs.Names.{has, own-name, one-name, free-name}
 use Rattle.marks.proofs.First.{first-passes, first-before, first-put, first-stays}
 
 -- ---- Names in a set
@@ -214,7 +215,7 @@ module _ (marks : Marks) (sized : Sized marks) (g : Generator) (x : List ℕ) wh
   save-return h e =
       let (fits, good, at, is) = save-accepted marks g x e in
       let placed = saved-at (marks .labels) x (sized .labels-size) at in
-      rw is (stored-here marks sized _ at (labelOf x) g h x good (placed .early) (own-name x (name-short x good)))
+      rw is (stored-here marks sized _ at (labelOf x) g h x good (placed .early) (own-name x (name-length x good)))
 
   -- A save changes no other mark: returning to any other name gives what it gave,
   pub save-leaves : (h : Generator) (y : List ℕ) → (y ≡ x → ⊥)
@@ -222,7 +223,7 @@ module _ (marks : Marks) (sized : Sized marks) (g : Generator) (x : List ℕ) wh
   save-leaves h y other =
       save-either (λ next. returnedOf next h y ≡ returnedOf marks h y) refl
       (λ fits good at. stored-elsewhere marks sized _ (at .within) (labelOf x) g h y (at .others y other)
-      (one-name y x (labelOf x) other (own-name x (name-short x good))))
+      (one-name y x (labelOf x) other (own-name x (name-length x good))))
 
   -- and every other place is as it was.
   pub save-others : (j : ℕ) → (j ≡ savePlace (marks .labels) x → ⊥)

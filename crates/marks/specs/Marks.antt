@@ -11,14 +11,22 @@ use Rattle.streams.specs.Streams.{recordCode, openCode, firstCause, ifAccepted,
 use Rattle.text.specs.Limits.{nameLength}
 use Rattle.text.specs.Fields.{name, same}
 use Rattle.text.specs.Buffer.{written}
-use Rattle.marks.specs.declared.Label.{Label}
-use Rattle.marks.specs.declared.Marks.{Marks}
-use Rattle.marks.specs.declared.SetAnswer.{SetAnswer}
-use Rattle.marks.specs.declared.Placed.{Placed}
+use Rattle.marks.specs.declared.label.Label.{Label}
+use Rattle.marks.specs.declared.call.Placed.{Placed}
 
 -- "A set has 16 places"
 abbrev pub places : ℕ
 places = 16
+
+-- The labels and the records of the places.
+pub record Marks : Type 0 where
+  pub labels : List Label
+  pub records : List Generator
+
+-- A refusal code, and the set that a call leaves.
+pub record SetAnswer : Type 0 where
+  pub code : ℕ
+  pub next : Marks
 
 -- ---- Labels
 
@@ -63,7 +71,7 @@ placeOf labels bytes = firstPlace (hasName bytes) labels
 unfoldable pub savePlace : List Label → List ℕ → ℕ
 savePlace labels bytes = cond (ltb (placeOf labels bytes) places) (placeOf labels bytes) (firstPlace isFree labels)
 
--- ---- Numbers
+-- ---- Refusal codes
 
 -- "Saving and returning wait until no request is open; 11 and 12 apply to the record passed in .. before 14"
 unfoldable pub idleCode : Generator → ℕ
@@ -73,32 +81,25 @@ idleCode g = firstCause (recordCode g ∷ openCode g ∷ [])
 unfoldable pub nameCode : List ℕ → ℕ
 nameCode bytes = cond (name bytes) 0 18
 
--- that number where the set has no such place
+-- that code where the set has no such place
 unfoldable pub placeCode : ℕ → ℕ → ℕ
 placeCode place code = cond (ltb place places) 0 code
 
+-- the place with the first cause to refuse it: the record, the name, or, with that code, that the set has no such place
+abbrev pub placedOf : ℕ → ℕ → ℕ → ℕ → Placed
+placedOf place busy malformed code = record { code = firstCause (busy ∷ malformed ∷ placeCode place code ∷ []); place = place }
+
 -- "20: 16 held and the name is new"
 unfoldable pub placeToSave : List Label → Generator → List ℕ → Placed
-placeToSave labels g bytes =
-    record {
-      code = firstCause (idleCode g ∷ nameCode bytes ∷ placeCode (savePlace labels bytes) 20 ∷ []);
-      place = savePlace labels bytes;
-    }
+placeToSave labels g bytes = placedOf (savePlace labels bytes) (idleCode g) (nameCode bytes) 20
 
 -- "19: name not held, on return or drop"
 unfoldable pub placeToReturn : List Label → Generator → List ℕ → Placed
-placeToReturn labels g bytes =
-    record {
-      code = firstCause (idleCode g ∷ nameCode bytes ∷ placeCode (placeOf labels bytes) 19 ∷ []);
-      place = placeOf labels bytes;
-    }
+placeToReturn labels g bytes = placedOf (placeOf labels bytes) (idleCode g) (nameCode bytes) 19
 
 unfoldable pub placeToDrop : List Label → List ℕ → Placed
 placeToDrop labels bytes =
-    record {
-      code = firstCause (nameCode bytes ∷ placeCode (placeOf labels bytes) 19 ∷ []);
-      place = placeOf labels bytes;
-    }
+    record { code = firstCause (nameCode bytes ∷ placeCode (placeOf labels bytes) 19 ∷ []); place = placeOf labels bytes }
 
 -- ---- The calls: "refused, all comes back as passed"
 

@@ -6,7 +6,7 @@ use lib.ListN.{getD}
 use Rattle.streams.specs.declared.Generator.{Generator}
 use Rattle.streams.specs.Streams.{Call, ifAccepted}
 use Rattle.noise.specs.Runs.{returned, handed}
-use Rattle.marks.specs.declared.Marks.{Marks}
+use Rattle.marks.specs.Marks.{Marks}
 use Rattle.marks.specs.Marks.{noRecord, placeOf, savedOf, returnedOf, droppedOf}
 
 -- What a maker keeps.

@@ -1,6 +1,6 @@
 pub mod Laws
 pub mod Notes
-mod StretchLaws
+mod ChunkLaws
 mod TakeLaws
 pub mod Requests
 pub mod Runs

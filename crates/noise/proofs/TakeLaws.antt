@@ -1,4 +1,4 @@
--- What an accepted take asks of the stretches, and what they then give, over f.
+-- What an accepted take asks of the chunks, and what they then give, over f.
 use mathlib.Core.Path.{_≡_}
 use mathlib.Core.List.{List}
 use Prim.Native.Nat.{ℕ, _/_, _%_}
@@ -19,7 +19,7 @@ asks g free n is e =
     let (_, _, _, just, _) = take-accepted g n .0 e in
     (rw (is, half g n e) (taken-pairs g n e), omega (arith, just))
 
--- what the stretches give is then what was asked for
+-- what the chunks give is then what was asked for
 pub taken : (f : ℕ) (g : Generator) (n : ℕ) {free next : Generator} {out : List ℤ} → free ≡ cleared g → codeOf (a-take n) g ≡ 0 → PairsDrawn f (n / 2) free next out
     → PairsDrawn f (g .asked) (cleared g) next out
 taken f g n free e drawn = rw (← free, ← half g n e) drawn

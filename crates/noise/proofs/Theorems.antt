@@ -18,13 +18,14 @@ use Rattle.streams.proofs.Theorems.{sound-accepted, pairs-accepted, moved-sound
 use Rattle.streams.proofs.Skip.{skip-accepted, skip-moves}
 use Rattle.streams.proofs.Theorems.{readings as draw-readings}
 use Rattle.radius.specs.Steps.{inverse}
-use Rattle.sample.specs.Steps.{fractionBits, fractionBits18}
-use Rattle.sample.specs.Sample.{samplesOf}
-use Rattle.sample.specs.Theorems.{largest}
-use Rattle.sample.specs.Readings.{Reading, readings, readings-hold}
-use Rattle.sample.specs.declared.Samples.{Samples}
-use Rattle.sample.proofs.Closeness.{Room, samples-close}
-use Rattle.sample.proofs.Theorems.{theorems}
+use Rattle.box_muller.specs.Steps.{fractionBits, fractionBits18}
+use Rattle.box_muller.specs.Sample.{samplesOf}
+use Rattle.box_muller.specs.Theorems.{largest}
+use Rattle.box_muller.specs.Readings.{Reading, readings}
+use Rattle.box_muller.proofs.Readings.{the-readings}
+use Rattle.box_muller.specs.declared.Samples.{Samples}
+use Rattle.box_muller.proofs.Closeness.{Room, samples-close}
+use Rattle.box_muller.proofs.Theorems.{theorems}
 use Rattle.noise.specs.Noise.{pairOf, samples, blockCode, blockOf, blockHolds}
 use Rattle.noise.specs.Readings.{Check, of-samples, of-draw, AllHold, twelve}
 use Rattle.noise.proofs.Laws.{block-accepted, pair-code, pair-is, samples-add, length-samples}
@@ -183,4 +184,4 @@ each-holds (r ∷ l) e rest h =
 pub twelve-readings : AllHold twelve
 unfolding twelve
 twelve-readings =
-    each-holds readings readings-hold (of-draw 1 0x00202080 ∷ of-draw 2 0x02002C80 ∷ []) (draw-readings .0, (draw-readings .1, tt))
+    each-holds readings (the-readings .hold) (of-draw 1 0x00202080 ∷ of-draw 2 0x02002C80 ∷ []) (draw-readings .0, (draw-readings .1, tt))

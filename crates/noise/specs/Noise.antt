@@ -9,8 +9,8 @@ use Rattle.streams.specs.declared.Uniforms.{Uniforms}
 use Rattle.streams.specs.declared.RecordAnswer.{RecordAnswer}
 use Rattle.streams.specs.Streams.{cleared, codeOf, ifAccepted, uniformsOf, after}
 use Rattle.streams.specs.Streams.Call.{a-block, a-take}
-use Rattle.sample.specs.declared.Samples.{Samples}
-use Rattle.sample.specs.Sample.{samplesOf}
+use Rattle.box_muller.specs.declared.Samples.{Samples}
+use Rattle.box_muller.specs.Sample.{samplesOf}
 use Rattle.noise.specs.declared.PairAnswer.{PairAnswer}
 use Rattle.noise.specs.declared.PairAnswer18.{PairAnswer18}
 
@@ -25,9 +25,9 @@ sampledOf f drawn =
       next = drawn .next;
     }
 
--- The same answer in the struct of the wide samples.
-abbrev pub widePair : PairAnswer → PairAnswer18
-widePair p = record { code = p .code; first = p .first; second = p .second; next = p .next }
+-- The same answer in the struct of the samples of 18 bits.
+abbrev pub pairAs18 : PairAnswer → PairAnswer18
+pairAs18 p = record { code = p .code; first = p .first; second = p .second; next = p .next }
 
 -- A pair: two numbers drawn, and their samples.
 unfoldable pub pairOf : ℕ → Generator → PairAnswer
@@ -38,7 +38,7 @@ unfoldable pub samples : (f n : ℕ) → Generator → List ℤ
 samples f zero g = []
 samples f (suc n) g = pairOf f g .first ∷ pairOf f g .second ∷ samples f n (pairOf f g .next)
 
--- The number of a block of n elements.
+-- The refusal code of a block of n elements.
 abbrev pub blockCode : Generator → ℕ → ℕ
 blockCode g n = codeOf (a-block n) g
 
@@ -46,7 +46,7 @@ blockCode g n = codeOf (a-block n) g
 unfoldable pub blockOf : Generator → ℕ → RecordAnswer
 blockOf g n = record { code = blockCode g n; next = ifAccepted (blockCode g n) (after (n / 2) g) g }
 
--- What the lent block then holds: the samples of those pairs; refused, what it held.
+-- What the caller's block then holds: the samples of those pairs; refused, what it held.
 unfoldable pub blockHolds : ℕ → Generator → List ℤ → List ℤ
 blockHolds f g old = ifAccepted (blockCode g (length old)) (samples f (length old / 2) g) old
 
@@ -54,7 +54,7 @@ blockHolds f g old = ifAccepted (blockCode g (length old)) (samples f (length ol
 unfoldable pub lookOf : Generator → ℕ → RecordAnswer
 lookOf g n = record { code = blockOf (cleared g) n .code; next = g }
 
--- What the lent block then holds: what "a real block call on a copy of the record would give", with no request open.
+-- What the caller's block then holds: what "a real block call on a copy of the record would give", with no request open.
 unfoldable pub lookHolds : ℕ → Generator → List ℤ → List ℤ
 lookHolds f g old = blockHolds f (cleared g) old
 
@@ -63,6 +63,6 @@ unfoldable pub takeOf : Generator → ℕ → RecordAnswer
 takeOf g n =
     record { code = codeOf (a-take n) g; next = ifAccepted (codeOf (a-take n) g) (after (g .asked) (cleared g)) g }
 
--- What the lent block then holds: the samples of those pairs; refused, what it held.
+-- What the caller's block then holds: the samples of those pairs; refused, what it held.
 unfoldable pub takeHolds : ℕ → Generator → List ℤ → List ℤ
 takeHolds f g old = ifAccepted (codeOf (a-take (length old)) g) (samples f (g .asked) (cleared g)) old

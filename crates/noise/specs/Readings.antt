@@ -3,9 +3,9 @@ use mathlib.Core.Path.{_≡_}
 use mathlib.Core.List.{List, [], _∷_, _++_, map}
 use Prim.Native.Nat.{ℕ}
 use Rattle.streams.specs.Recurrence.{drawAt}
-use Rattle.sample.specs.Steps.{fractionBits}
-use Rattle.sample.specs.Sample.{samplesOf}
-use Rattle.sample.specs.Readings.{Reading, readings}
+use Rattle.box_muller.specs.Steps.{fractionBits}
+use Rattle.box_muller.specs.Sample.{samplesOf}
+use Rattle.box_muller.specs.Readings.{Reading, readings}
 
 pub data Check : Type 0 where
   of-samples : Reading → Check

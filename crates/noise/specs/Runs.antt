@@ -5,10 +5,10 @@ use Rattle.streams.specs.declared.Generator.{Generator}
 use Rattle.streams.specs.declared.RecordAnswer.{RecordAnswer}
 use Rattle.streams.specs.Streams.{Call, codeOf, ifAccepted, uniformsOf, skipOf, askOf, giveUpOf}
 use Rattle.streams.specs.Streams.Call.{numbers, a-pair, a-skip, a-block, a-look, an-ask, a-take, give-up}
-use Rattle.sample.specs.Steps.{fractionBits}
+use Rattle.box_muller.specs.Steps.{fractionBits}
 use Rattle.noise.specs.Noise.{pairOf, blockOf, lookOf, takeOf}
 
--- The number and the record that a call returns. Neither depends on the width of the samples: block and block18 are both `a-block`, and so for pairs,
+-- The refusal code and the record that a call returns. Neither depends on the width of the samples: block and block18 are both `a-block`, and so for pairs,
 -- looks and takes (`either-width`).
 unfoldable pub returned : Call → Generator → RecordAnswer
 returned numbers g = record { code = uniformsOf g .code; next = uniformsOf g .next }

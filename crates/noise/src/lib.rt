@@ -1,20 +1,23 @@
-// A pair of samples, a block of them in lent memory, a look at a block, and the block that was asked for, from a generator record; samples are of 16
-// bits, or of 18 in the calls whose names end so.
-ghost use mathlib.Core.Path.{_≡_};
-ghost use Prim.Native.Nat.{_+_, _*_, _/_, _%_, _≤_, min};
-ghost use lib.ListN.{length};
-ghost use Rattle.streams.specs.Streams.{lengthCode, takenCode, codeOf, pairsCode, after};
-ghost use Rattle.streams.specs.Streams.Call.{a-take};
-ghost use Rattle.sample.specs.Steps.{fractionBits, fractionBits18};
-ghost use Rattle.noise.specs.Noise.{sampledOf, widePair, pairOf, blockCode, blockOf, blockHolds, lookOf, lookHolds, takeOf, takeHolds};
-ghost use Rattle.noise.specs.Private.{stretchLength, numbers, PairsDrawn};
+// A pair of samples, a block of them in the caller's memory, a look at a block, and the block that was asked for, from a generator record; samples are
+// of 16 bits, or of 18 in the calls whose names end so.
+mod bits18;
+
+pub use bits18::block18;
+pub use bits18::look18;
+pub use bits18::sampled18;
+pub use bits18::take18;
 use lanes::Both;
 use lanes::draw_pairs;
 use streams::Generator;
 use streams::RecordAnswer;
 use streams::Uniforms;
-use streams::asked_code;
-use streams::first_cause;
+ghost use mathlib.Core.Path.{_≡_};
+ghost use Prim.Native.Nat.{_+_, _*_, _/_, _%_, _≤_, min};
+ghost use lib.ListN.{length};
+ghost use Rattle.streams.specs.Streams.{cleared, pairsCode, after};
+ghost use Rattle.box_muller.specs.Steps.{fractionBits, bitsOf};
+ghost use Rattle.noise.specs.Noise.{sampledOf, pairOf, blockOf, blockHolds, lookOf, lookHolds, takeOf, takeHolds};
+ghost use Rattle.noise.specs.Private.{chunkSamples, pairWords, PairsDrawn, Small};
 
 pub struct PairAnswer {
     pub code: u32,
@@ -52,28 +55,6 @@ pub fn sampled(drawn: Uniforms) -> PairAnswer
     }
 }
 
-// The same in 18 bits.
-pub fn sampled18(drawn: Uniforms) -> PairAnswer18
-    ensures { λ r. ⌜ r ≡ widePair (sampledOf fractionBits18 drawn) ⌝ }
-{
-    let next = drawn.next;
-    if drawn.code != 0 {
-        return PairAnswer18 {
-            code: drawn.code,
-            first: 0,
-            second: 0,
-            next,
-        };
-    }
-    let wide = sample::sample18(drawn.k, drawn.v);
-    PairAnswer18 {
-        code: 0,
-        first: wide.first,
-        second: wide.second,
-        next,
-    }
-}
-
 // The next pair of samples.
 pub fn pair(g: Generator) -> PairAnswer
     ensures { λ r. ⌜ r ≡ pairOf fractionBits g ⌝ }
@@ -82,18 +63,10 @@ pub fn pair(g: Generator) -> PairAnswer
     sampled(drawn)
 }
 
-// The next pair of samples in 18 bits.
-pub fn pair18(g: Generator) -> PairAnswer18
-    ensures { λ r. ⌜ r ≡ widePair (pairOf fractionBits18 g) ⌝ }
-{
-    let drawn = g.uniforms();
-    sampled18(drawn)
-}
-
-// The numbers 65536 k + v of as many pairs as z has elements, and the record after them: both streams are drawn side by side.
-fn draw_numbers(g: Generator, z: &mut [u64]) -> Generator
+// The words 65536 k + v of as many pairs as z has elements, and the record after them: both streams are drawn side by side.
+fn draw_words(g: Generator, z: &mut [u64]) -> Generator
     requires { ⌜ pairsCode g (length (now z)) ≡ 0 ⌝ }
-    ensures { λ r. ⌜ (r ≡ after (length (now (z .entry))) g) × (now (z .exit) ≡ numbers (length (now (z .entry))) g) ⌝ }
+    ensures { λ r. ⌜ (r ≡ after (length (now (z .entry))) g) × (now (z .exit) ≡ pairWords (length (now (z .entry))) g) ⌝ }
 {
     let a = g.a;
     let b = g.b;
@@ -101,62 +74,75 @@ fn draw_numbers(g: Generator, z: &mut [u64]) -> Generator
     let drawn = draw_pairs(Both { a, b }, z);
     let after_a = drawn.a;
     let after_b = drawn.b;
-    g.onward(after_a, after_b, n)
-}
-
-// The samples of as many pairs as z has elements, by way of their numbers in z.
-fn draw_samples(g: Generator, z: &mut [u64], out: &mut [i16]) -> Generator
-    requires { ⌜ (pairsCode g (length (now z)) ≡ 0) × (length (now out) ≡ 2 * length (now z)) ⌝ }
-    ensures { λ r. ⌜ PairsDrawn fractionBits (length (now (z .entry))) g r (now (out .exit)) ⌝ }
-{
-    let next = draw_numbers(g, z);
-    sample::fill(z, out);
+    let mut next = g;
+    next.a = after_a;
+    next.b = after_b;
+    next.count = g.count + n;
     next
 }
 
-// The same in 18 bits.
-fn draw_samples18(g: Generator, z: &mut [u64], out: &mut [i32]) -> Generator
-    requires { ⌜ (pairsCode g (length (now z)) ≡ 0) × (length (now out) ≡ 2 * length (now z)) ⌝ }
-    ensures { λ r. ⌜ PairsDrawn fractionBits18 (length (now (z .entry))) g r (now (out .exit)) ⌝ }
+// The samples of as many pairs as z has elements, by way of their words in z.
+fn draw_samples(g: Generator, in18: bool, z: &mut [u64], out: &mut [i32]) -> Generator
+    requires { ⌜ (pairsCode g (length (now z)) ≡ 0) × (length (now out) ≡ 2 * length (now z)) × (length (now out) ≤ chunkSamples) ⌝ }
+    ensures { λ r. ⌜ PairsDrawn (bitsOf in18) (length (now (z .entry))) g r (now (out .exit)) ⌝ }
 {
-    let next = draw_numbers(g, z);
-    sample::fill18(z, out);
+    let next = draw_words(g, z);
+    sample::chunk(in18, z, out);
     next
 }
 
-// The most samples in a stretch.
-const STRETCH: usize = 64;
+// The most samples in a chunk.
+const CHUNK_SAMPLES: usize = 2 * sample::CHUNK;
 
-// A stretch: its numbers stand in a local array, which is no longer than that, since it is zeroed at each call.
-fn stretch(g: Generator, out: &mut [i16]) -> Generator
-    requires { ⌜ (pairsCode g (length (now out) / 2) ≡ 0) × (length (now out) % 2 ≡ 0) × (length (now out) ≤ stretchLength) ⌝ }
+// A chunk: its words stand in a local array, which is no longer than that, since it is zeroed at each call.
+fn chunk(g: Generator, in18: bool, out: &mut [i32]) -> Generator
+    requires { ⌜ (pairsCode g (length (now out) / 2) ≡ 0) × (length (now out) % 2 ≡ 0) × (length (now out) ≤ chunkSamples) ⌝ }
+    ensures { λ r. ⌜ PairsDrawn (bitsOf in18) (length (now (out .entry)) / 2) g r (now (out .exit)) ⌝ }
+{
+    let mut z = [0u64; sample::CHUNK];
+    let n = out.len() / 2;
+    draw_samples(g, in18, &mut z[0..n], out)
+}
+
+// The samples of 16 bits among numbers of 32.
+fn narrowed(samples: &[i32], out: &mut [i16])
+    requires { ⌜ (length (now samples) ≡ length (now out)) × Small (now samples) ⌝ }
+    ensures { λ r. ⌜ now (out .exit) ≡ now (samples .entry) ⌝ }
+{
+    let mut i = 0;
+    while i < out.len() {
+        let sample = samples[i] as i16;
+        out[i] = sample;
+        i += 1;
+    }
+}
+
+// A chunk of samples of 16 bits.
+fn chunk16(g: Generator, out: &mut [i16]) -> Generator
+    requires { ⌜ (pairsCode g (length (now out) / 2) ≡ 0) × (length (now out) % 2 ≡ 0) × (length (now out) ≤ chunkSamples) ⌝ }
     ensures { λ r. ⌜ PairsDrawn fractionBits (length (now (out .entry)) / 2) g r (now (out .exit)) ⌝ }
 {
-    let mut z = [0u64; STRETCH / 2];
-    let count = out.len() / 2;
-    draw_samples(g, &mut z[0..count], out)
+    let mut samples = [0i32; CHUNK_SAMPLES];
+    let n = out.len();
+    let next = chunk(g, false, &mut samples[0..n]);
+    narrowed(&samples[0..n], out);
+    next
 }
 
-// The same in 18 bits.
-fn stretch18(g: Generator, out: &mut [i32]) -> Generator
-    requires { ⌜ (pairsCode g (length (now out) / 2) ≡ 0) × (length (now out) % 2 ≡ 0) × (length (now out) ≤ stretchLength) ⌝ }
-    ensures { λ r. ⌜ PairsDrawn fractionBits18 (length (now (out .entry)) / 2) g r (now (out .exit)) ⌝ }
-{
-    let mut z = [0u64; STRETCH / 2];
-    let pairs = out.len() / 2;
-    draw_samples18(g, &mut z[0..pairs], out)
-}
-
-// Where the stretch that begins at a place of n ends.
-fn stretch_end(at: usize, n: usize) -> usize
+// Where the chunk that begins at a place of n ends.
+fn chunk_end(at: usize, n: usize) -> usize
     requires { ⌜ at ≤ n ⌝ }
-    ensures { λ r. ⌜ r ≡ min n (at + stretchLength) ⌝ }
+    ensures { λ r. ⌜ r ≡ min n (at + chunkSamples) ⌝ }
 {
-    if n - at < STRETCH { n } else { at + STRETCH }
+    if n - at < CHUNK_SAMPLES {
+        n
+    } else {
+        at + CHUNK_SAMPLES
+    }
 }
 
-// A block of even length on an accepted record, stretch by stretch.
-fn stretches(g: Generator, out: &mut [i16]) -> Generator
+// A block of even length on an accepted record, chunk by chunk.
+fn chunks(g: Generator, out: &mut [i16]) -> Generator
     requires { ⌜ (pairsCode g (length (now out) / 2) ≡ 0) × (length (now out) % 2 ≡ 0) ⌝ }
     ensures { λ r. ⌜ PairsDrawn fractionBits (length (now (out .entry)) / 2) g r (now (out .exit)) ⌝ }
 {
@@ -164,49 +150,21 @@ fn stretches(g: Generator, out: &mut [i16]) -> Generator
     let mut at = 0;
     let n = out.len();
     while at < n {
-        let end = stretch_end(at, n);
-        state = stretch(state, &mut out[at..end]);
+        let end = chunk_end(at, n);
+        state = chunk16(state, &mut out[at..end]);
         at = end;
     }
     state
 }
 
-// The same in 18 bits.
-fn stretches18(g: Generator, out: &mut [i32]) -> Generator
-    requires { ⌜ (pairsCode g (length (now out) / 2) ≡ 0) × (length (now out) % 2 ≡ 0) ⌝ }
-    ensures { λ r. ⌜ PairsDrawn fractionBits18 (length (now (out .entry)) / 2) g r (now (out .exit)) ⌝ }
+// The record with no request noted.
+fn without_note(g: Generator) -> Generator
+    ensures { λ r. ⌜ r ≡ cleared g ⌝ }
 {
-    let mut state = g;
-    let mut done = 0;
-    let n = out.len();
-    while done < n {
-        let end = stretch_end(done, n);
-        state = stretch18(state, &mut out[done..end]);
-        done = end;
-    }
-    state
-}
-
-// 4 for an odd length.
-fn length_code(n: usize) -> u32
-    ensures { λ r. ⌜ r ≡ lengthCode n ⌝ }
-{
-    if n % 2 != 0 {
-        return 4;
-    }
-    0
-}
-
-// The number of a block of n elements.
-fn block_code(g: Generator, n: usize) -> u32
-    ensures { λ r. ⌜ r ≡ blockCode g n ⌝ }
-{
-    let unfit = g.record_code();
-    let open = g.open_code();
-    let odd = length_code(n);
-    let full = g.count_code((n / 2) as u64);
-    let causes = [unfit, open, odd, full];
-    first_cause(&causes)
+    let mut free = g;
+    free.waiting = 0;
+    free.asked = 0;
+    free
 }
 
 // A block of samples, first and second of each pair alternating.
@@ -214,25 +172,12 @@ pub fn block(g: Generator, out: &mut [i16]) -> RecordAnswer
     ensures { λ r. ⌜ r ≡ blockOf g (length (now (out .entry))) ⌝ }
     ensures { λ r. ⌜ now (out .exit) ≡ blockHolds fractionBits g (now (out .entry)) ⌝ }
 {
-    let code = block_code(g, out.len());
+    let code = requests::block_code(g, out.len());
     if code != 0 {
         return RecordAnswer { code, next: g };
     }
-    let next = stretches(g, out);
+    let next = chunks(g, out);
     RecordAnswer { code, next }
-}
-
-// A block of samples of 18 bits.
-pub fn block18(g: Generator, out: &mut [i32]) -> RecordAnswer
-    ensures { λ r. ⌜ r ≡ blockOf g (length (now (out .entry))) ⌝ }
-    ensures { λ r. ⌜ now (out .exit) ≡ blockHolds fractionBits18 g (now (out .entry)) ⌝ }
-{
-    let code = block_code(g, out.len());
-    if code != 0 {
-        return RecordAnswer { code, next: g };
-    }
-    let moved = stretches18(g, out);
-    RecordAnswer { code, next: moved }
 }
 
 // A look at the block that would come next, as if no request were open: its samples, and the record as it is.
@@ -240,7 +185,7 @@ pub fn look(g: Generator, out: &mut [i16]) -> RecordAnswer
     ensures { λ r. ⌜ r ≡ lookOf g (length (now (out .entry))) ⌝ }
     ensures { λ r. ⌜ now (out .exit) ≡ lookHolds fractionBits g (now (out .entry)) ⌝ }
 {
-    let free = g.without_note();
+    let free = without_note(g);
     let shown = block(free, out);
     RecordAnswer {
         code: shown.code,
@@ -248,75 +193,16 @@ pub fn look(g: Generator, out: &mut [i16]) -> RecordAnswer
     }
 }
 
-// A look at a block of samples of 18 bits.
-pub fn look18(g: Generator, out: &mut [i32]) -> RecordAnswer
-    ensures { λ r. ⌜ r ≡ lookOf g (length (now (out .entry))) ⌝ }
-    ensures { λ r. ⌜ now (out .exit) ≡ lookHolds fractionBits18 g (now (out .entry)) ⌝ }
-{
-    let free = g.without_note();
-    let shown = block18(free, out);
-    RecordAnswer {
-        code: shown.code,
-        next: g,
-    }
-}
-
-// 16 where more pairs are noted than a request may ask for, or n is not two for each of them.
-fn taken_code(g: Generator, n: usize) -> u32
-    ensures { λ r. ⌜ r ≡ takenCode g n ⌝ }
-{
-    let many = asked_code(g.asked);
-    if many != 0 {
-        return 16;
-    }
-    if n != 2 * g.asked as usize {
-        return 16;
-    }
-    0
-}
-
-// The number of taking into a block of n elements.
-fn take_code(g: Generator, n: usize) -> u32
-    ensures { λ r. ⌜ r ≡ codeOf (a-take n) g ⌝ }
-{
-    let unfit = g.record_code();
-    let none = g.none_open_code();
-    let other = taken_code(g, n);
-    let full = g.count_code(g.asked as u64);
-    let causes = [unfit, none, other, full];
-    first_cause(&causes)
-}
-
 // The samples that were asked for; the request is closed.
 pub fn take(g: Generator, out: &mut [i16]) -> RecordAnswer
     ensures { λ r. ⌜ r ≡ takeOf g (length (now (out .entry))) ⌝ }
     ensures { λ r. ⌜ now (out .exit) ≡ takeHolds fractionBits g (now (out .entry)) ⌝ }
 {
-    let code = take_code(g, out.len());
+    let code = requests::take_code(g, out.len());
     if code != 0 {
         return RecordAnswer { code, next: g };
     }
-    let free = g.without_note();
-    let taken = stretches(free, out);
-    RecordAnswer { code, next: taken }
-}
-
-// The samples that were asked for, in 18 bits.
-pub fn take18(g: Generator, out: &mut [i32]) -> RecordAnswer
-    ensures { λ r. ⌜ r ≡ takeOf g (length (now (out .entry))) ⌝ }
-    ensures { λ r. ⌜ now (out .exit) ≡ takeHolds fractionBits18 g (now (out .entry)) ⌝ }
-{
-    let refusal = take_code(g, out.len());
-    if refusal != 0 {
-        return RecordAnswer {
-            code: refusal,
-            next: g,
-        };
-    }
-    let free = g.without_note();
-    let next = stretches18(free, out);
-    RecordAnswer {
-        code: refusal,
-        next,
-    }
+    let free = without_note(g);
+    let next = chunks(free, out);
+    RecordAnswer { code, next }
 }

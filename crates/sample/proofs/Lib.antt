@@ -1,10 +1,4 @@
--- Laws of the rounding and of a filled slice, demand 3, and the theorems.
-pub mod RoundingLaws
-mod RoundingMargin
-pub mod FillLaws
-mod FillLoop
+-- Laws of the scale, of a chunk in the caller's memory, and of its last pass.
+mod ScaleLaws
+pub mod ChunkLaws
 mod PassLaws
-pub mod Closeness
-pub mod DataSheet
-pub mod Theorems
-pub mod Sizes

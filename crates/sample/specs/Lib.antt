@@ -1,7 +1,3 @@
--- The rounding of a sample, and what the calls return.
-pub mod Steps
-pub mod Sample
-pub mod DataSheet
+-- What a chunk leaves in the caller's memory.
+pub mod Chunk
 pub mod Private
-pub mod Readings
-pub mod Theorems

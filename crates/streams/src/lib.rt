@@ -1,7 +1,7 @@
-// The two Tausworthe streams of L'Ecuyer (1996): seeding, the two numbers of a pair, a skip of many pairs, and a request for
-// some that is noted and taken later or given up.
-// A generator record goes in by value and comes back as it then is, beside the call's number, 0 where it is accepted.
+// The two Tausworthe streams of L'Ecuyer (1996): seeding, the two numbers of a pair, and a skip of many pairs.
+// A generator record goes in by value and comes back as it then is, beside the call's refusal code, 0 where it is accepted.
 ghost use mathlib.Core.Path.{_≡_};
+ghost use mathlib.Core.List.{[], _∷_};
 ghost use Rattle.bit_matrix.specs.Squares.{squareOf};
 ghost use Rattle.streams.specs.Streams.{
   step,
@@ -10,24 +10,18 @@ ghost use Rattle.streams.specs.Streams.{
   fit,
   fresh,
   onward,
-  noted,
   cleared,
   recordCode,
   openCode,
   noneOpenCode,
-  askedCode,
   countCode,
   firstCause,
-  codeOf,
   ifAccepted,
   pairsCode,
   seedOf,
   uniformsOf,
   skipOf,
-  askOf,
-  giveUpOf,
 };
-ghost use Rattle.streams.specs.Streams.Call.{an-ask, give-up};
 ghost use Rattle.streams.specs.Recurrence.{moved};
 
 pub struct Stream {
@@ -127,34 +121,22 @@ fn step_squares() -> StepSquares
     StepSquares { s0, s1, s2 }
 }
 
-// The first of the causes that is not 0, or 0: the number of a call that is tested for them in that order.
-pub fn first_cause(causes: &[u32]) -> u32
-    ensures { λ r. ⌜ r ≡ firstCause (now (causes .entry)) ⌝ }
-{
-    let mut i: usize = 0;
-    while i < causes.len() {
-        let cause = causes[i];
-        if cause != 0 {
-            return cause;
-        }
-        i += 1;
-    }
-    0
-}
-
 const MOST_COUNT: u64 = 0xffff_ffff_ffff_ffff;
 
-// The most pairs that a request may ask for.
-const MOST_ASKED: u32 = 1_000_000;
-
-// 16 for a request for more pairs than that.
-pub fn asked_code(n: u32) -> u32
-    ensures { λ r. ⌜ r ≡ askedCode n ⌝ }
+// The first of a call's four causes that is not 0, or 0: the record's, the note's, that of its own arguments, and the count's.
+pub fn first_of(unfit: u32, note: u32, own: u32, room: u32) -> u32
+    ensures { λ r. ⌜ r ≡ firstCause (unfit ∷ note ∷ own ∷ room ∷ []) ⌝ }
 {
-    if MOST_ASKED < n {
-        return 16;
+    if unfit != 0 {
+        return unfit;
     }
-    0
+    if note != 0 {
+        return note;
+    }
+    if own != 0 {
+        return own;
+    }
+    room
 }
 
 impl Generator {
@@ -259,19 +241,21 @@ impl Generator {
         15
     }
 
-    // The number of a call for n pairs.
+    // The refusal code of a call for that many pairs, by the causes in the order that they are tested.
+    pub fn call_code(self, note: u32, own: u32, pairs: u64) -> u32
+        ensures { λ r. ⌜ r ≡ firstCause (recordCode self ∷ note ∷ own ∷ countCode self pairs ∷ []) ⌝ }
+    {
+        let unfit = self.record_code();
+        let full = self.count_code(pairs);
+        first_of(unfit, note, own, full)
+    }
+
+    // The refusal code of a call for n pairs that has no arguments of its own to test.
     pub fn pairs_code(self, n: u64) -> u32
         ensures { λ r. ⌜ r ≡ pairsCode self n ⌝ }
     {
-        let unfit = self.record_code();
-        if unfit != 0 {
-            return unfit;
-        }
         let open = self.open_code();
-        if open != 0 {
-            return open;
-        }
-        self.count_code(n)
+        self.call_code(open, 0, n)
     }
 
     // The two numbers of a pair: a draw from a, then one from b, as 48 and 16 bits.
@@ -338,66 +322,13 @@ impl Generator {
         RecordAnswer { code, next }
     }
 
-    // The same record with another note.
-    fn with_note(self, waiting: u32, asked: u32) -> Generator
-        ensures { λ r. ⌜ r ≡ noted self waiting asked ⌝ }
-    {
-        let mut noted = self;
-        noted.waiting = waiting;
-        noted.asked = asked;
-        noted
-    }
-
     // The same record with no request open.
     pub fn without_note(self) -> Generator
         ensures { λ r. ⌜ r ≡ cleared self ⌝ }
     {
-        self.with_note(0, 0)
-    }
-
-    // The number of asking for n pairs.
-    fn ask_code(self, n: u32) -> u32
-        ensures { λ r. ⌜ r ≡ codeOf (an-ask n) self ⌝ }
-    {
-        let unfit = self.record_code();
-        let open = self.open_code();
-        let many = asked_code(n);
-        let full = self.count_code(n as u64);
-        let causes = [unfit, open, many, full];
-        first_cause(&causes)
-    }
-
-    // Notes a request for n pairs.
-    pub fn ask(self, n: u32) -> RecordAnswer
-        ensures { λ r. ⌜ r ≡ askOf self n ⌝ }
-    {
-        let code = self.ask_code(n);
-        if code != 0 {
-            return RecordAnswer { code, next: self };
-        }
-        let next = self.with_note(1, n);
-        RecordAnswer { code, next }
-    }
-
-    // The number of giving up.
-    fn give_up_code(self) -> u32
-        ensures { λ r. ⌜ r ≡ codeOf give-up self ⌝ }
-    {
-        let unfit = self.record_code();
-        let none = self.none_open_code();
-        let causes = [unfit, none];
-        first_cause(&causes)
-    }
-
-    // Clears the request.
-    pub fn give_up(self) -> RecordAnswer
-        ensures { λ r. ⌜ r ≡ giveUpOf self ⌝ }
-    {
-        let code = self.give_up_code();
-        if code != 0 {
-            return RecordAnswer { code, next: self };
-        }
-        let next = self.without_note();
-        RecordAnswer { code, next }
+        let mut free = self;
+        free.waiting = 0;
+        free.asked = 0;
+        free
     }
 }

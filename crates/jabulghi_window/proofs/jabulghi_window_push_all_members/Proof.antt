@@ -1,13 +1,9 @@
--- `jabulghi_window_push_all_members` meets its contract: `run` on the lent places, with the members read and written.
+-- `jabulghi_window_push_all_members` meets its contract: `run` on the caller's places, with the members read and written.
 use mathlib.Core.Path.{refl}
 use mir.Syntax.{w64}
-use borrow.Author.Needs.{needs}
 use Rattle.drift.proofs.Signed.{back}
 use Rattle.jabulghi_window.proofs.jabulghi_window_push_all_members.Statement.{statement}
 use Rattle.jabulghi_window.proofs.jabulghi_window_push_all_members.Tie as tie
-
-run-requires : tie.Need-run-requires
-run-requires c κs = search needs
 
 returns : tie.Need-returns
 returns c =
@@ -22,4 +18,4 @@ returns c =
     rw (g, h, is .0, is .1) (refl, refl)
 
 pub jabulghi-window-push-all-members-spec : {M : Type 1} → statement M
-jabulghi-window-push-all-members-spec = tie.close (tie.spec run-requires returns)
+jabulghi-window-push-all-members-spec = tie.close (tie.spec (λ c κs. tt) returns)

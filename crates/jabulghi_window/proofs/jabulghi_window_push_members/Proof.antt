@@ -1,14 +1,10 @@
--- `jabulghi_window_push_members` meets its contract: `step` on the lent places, with the members read and written.
+-- `jabulghi_window_push_members` meets its contract: `step` on the caller's places, with the members read and written.
 use mathlib.Core.Path.{refl}
 use mir.Facts.{toZ-ofZ}
 use mir.Syntax.{w64}
-use borrow.Author.Needs.{needs}
 use Rattle.drift.proofs.Signed.{back}
 use Rattle.jabulghi_window.proofs.jabulghi_window_push_members.Statement.{statement}
 use Rattle.jabulghi_window.proofs.jabulghi_window_push_members.Tie as tie
-
-step-requires : tie.Need-step-requires
-step-requires c κs = search needs
 
 returns : tie.Need-returns
 returns c =
@@ -23,4 +19,4 @@ returns c =
     rw (g, h, is .0, is .1) (refl, refl)
 
 pub jabulghi-window-push-members-spec : {M : Type 1} → statement M
-jabulghi-window-push-members-spec = tie.close (tie.spec step-requires returns)
+jabulghi-window-push-members-spec = tie.close (tie.spec (λ c κs. tt) returns)

@@ -1,4 +1,4 @@
--- `block` is `blockOf`, and leaves `blockHolds`: each return rewrites with the block's number.
+-- `block` is `blockOf`, and leaves `blockHolds`: each return rewrites with the block's refusal code.
 use borrow.Author.Needs.{needs}
 use mathlib.Core.Path.{sym, _∙_}
 use borrow.Author.Tests.{ne-eqb}
@@ -16,8 +16,8 @@ returns c =
     let code-is = c .before .block-code .ensures in
     (rw (← code-is, ne-eqb _ _ (c .if1 .taken)), rw (← code-is, ne-eqb _ _ (c .if1 .taken)))
 
-stretches-requires : tie.Need-stretches-requires
-stretches-requires c κs = block-accepted _ _ .0 (sym (c .before .before .block-code .ensures) ∙ c .before .if1 .left)
+chunks-requires : tie.Need-chunks-requires
+chunks-requires c κs = block-accepted _ _ .0 (sym (c .before .before .block-code .ensures) ∙ c .before .if1 .left)
 
 same-length : tie.Need-same-length
 same-length c = search needs
@@ -27,8 +27,8 @@ unfolding blockOf blockHolds
 returns-2 c =
     let code-is = c .before .before .before .before .block-code .ensures in
     let accepted = c .before .before .before .if1 .left in
-    (rw (c .before .stretches .ensures .0, ← code-is, accepted), rw (← code-is, accepted) (c .before .stretches .ensures .1))
+    (rw (c .before .chunks .ensures .0, ← code-is, accepted), rw (← code-is, accepted) (c .before .chunks .ensures .1))
 
 pub block-spec : {M : Type 1} → statement M
 block-spec =
-    tie.close (tie.spec block-code-requires returns stretches-requires same-length returns-2)
+    tie.close (tie.spec block-code-requires returns chunks-requires same-length returns-2)

@@ -1,4 +1,4 @@
--- `sampled` is `sampledOf`: each return rewrites with the number of the two draws.
+-- `sampled` is `sampledOf`: each return rewrites with the refusal code of the two draws.
 use borrow.Author.Needs.{needs}
 use borrow.Author.Tests.{ne-eqb}
 use mir.Facts.{toZ-ofZ}

@@ -1,8 +1,8 @@
--- `take` is `takeOf`, and leaves `takeHolds`: each return rewrites with the take's number.
+-- `take` is `takeOf`, and leaves `takeHolds`: each return rewrites with the take's refusal code.
 use mathlib.Core.Path.{sym, _∙_}
 use borrow.Author.Needs.{needs}
 use borrow.Author.Tests.{ne-eqb}
-use Rattle.sample.specs.Steps.{fractionBits}
+use Rattle.box_muller.specs.Steps.{fractionBits}
 use Rattle.noise.specs.Noise.{takeOf, takeHolds}
 use Rattle.noise.proofs.TakeLaws.{asks, taken}
 use Rattle.noise.proofs.take.Statement.{statement}
@@ -20,8 +20,8 @@ returns c =
 without-note-requires : tie.Need-without-note-requires
 without-note-requires c κs = search needs
 
-stretches-requires : tie.Need-stretches-requires
-stretches-requires c κs =
+chunks-requires : tie.Need-chunks-requires
+chunks-requires c κs =
     asks _ _ _ (c .before .without-note .ensures) (sym (c .before .before .before .take-code .ensures) ∙ c .before .before .if1 .left)
 
 same-length : tie.Need-same-length
@@ -32,7 +32,7 @@ unfolding takeOf takeHolds
 returns-2 c =
     let code-is = c .before .before .before .before .before .take-code .ensures in
     let accepted = c .before .before .before .before .if1 .left in
-    let drawn = taken fractionBits _ _ (c .before .before .before .without-note .ensures) (sym code-is ∙ accepted) (c .before .stretches .ensures) in
+    let drawn = taken fractionBits _ _ (c .before .before .before .without-note .ensures) (sym code-is ∙ accepted) (c .before .chunks .ensures) in
     (rw (drawn .0, ← code-is, accepted), rw (← code-is, accepted) (drawn .1))
 
 pub take-spec : {M : Type 1} → statement M
@@ -42,6 +42,6 @@ take-spec =
     take-code-requires
     returns
     without-note-requires
-    stretches-requires
+    chunks-requires
     same-length
     returns-2)

@@ -10,11 +10,10 @@ use Rattle.exact.specs.Pair.{turn}
 use Rattle.radius.specs.Steps.{radiusLimit}
 use Rattle.angle.specs.Steps.{quarter, inQuarter, sineAt, cosineAt, signedOf}
 use Rattle.angle.proofs.Ranges.{sine-range, cosine-range, signed-range}
-use Rattle.sample.specs.Steps.{size, rounded}
-use Rattle.sample.specs.Private.{bitsAt}
-use Rattle.sample.specs.Theorems.{largest}
-use Rattle.sample.proofs.RoundingLaws.{turned-rounded, rounded-small, few-bits, largest-range}
-use Rattle.sample.proofs.Sizes.{cast-fits, cast-reads}
+use Rattle.box_muller.specs.Steps.{bitsOf, size, rounded}
+use Rattle.box_muller.specs.Theorems.{largest}
+use Rattle.box_muller.proofs.RoundingLaws.{turned-rounded, rounded-small, few-bits, largest-range}
+use Rattle.signs.proofs.Sizes.{cast-fits, cast-reads}
 use Rattle.sample.proofs.pair_of.Statement.{statement}
 use Rattle.sample.proofs.pair_of.Tie as tie
 
@@ -22,10 +21,10 @@ angle-of-requires : tie.Need-angle-of-requires
 angle-of-requires c κs = search needs
 
 units-requires : tie.Need-units-requires
-units-requires c κs = (c .before .pre .0, c .before .pre .1, rw (c .angle-of .ensures .0) (sine-range _))
+units-requires c κs = (c .before .pre, rw (c .angle-of .ensures .0) (sine-range _))
 
 units-requires-2 : tie.Need-units-requires-2
-units-requires-2 c κs = (c .before .before .pre .0, c .before .before .pre .1, rw (c .before .angle-of .ensures .1) (cosine-range _))
+units-requires-2 c κs = (c .before .before .pre, rw (c .before .angle-of .ensures .1) (cosine-range _))
 
 turn-requires : tie.Need-turn-requires
 turn-requires c κs = search needs
@@ -53,12 +52,13 @@ of-turn {f} {F} {v} {s} {c} {first} {second} few small h es ec e =
     }
 
 turned : (c : tie.After-turn)
-    → Turned (bitsAt (c .before .before .before .before .args .scale)) (c .before .before .before .before .args .f)
+    → Turned (bitsOf (c .before .before .before .before .args .in18)) (c .before .before .before .before .args .f)
     (c .before .before .before .before .args .v) (c .turn .result .first) (c .turn .result .second)
 turned c =
     let angle = c .before .before .before .angle-of .ensures in
-    let (scale, below) = c .before .before .before .before .pre in
-    of-turn (le-trans (few-bits _ scale) (omega arith)) (lt-of-le-of-lt (largest-range _ scale) (omega arith)) below
+    let start = c .before .before .before .before in
+    let in18 = start .args .in18 in
+    of-turn (le-trans (few-bits in18) (omega arith)) (lt-of-le-of-lt (largest-range in18) (omega arith)) (start .pre)
     (rw (← angle .0) (c .before .before .units .ensures)) (rw (← angle .1) (c .before .units2 .ensures)) (c .turn .ensures)
 
 cast-t9 : tie.Need-cast-t9

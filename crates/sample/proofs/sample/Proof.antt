@@ -1,22 +1,20 @@
--- `sample::sample` meets its contract: the two refusals, then the samples of the one z = 65536 k + v.
-use mathlib.Core.Path.{_≡_, refl, ap₂, _∙_}
-use Prim.Native.Nat.{ℕ, _+_, _*_, _/_, _%_, _^_, _≤_, _<_}
+-- `sample::sample` meets its contract: the answer in 16 bits, whose samples fit 16 bits.
+use mathlib.Core.Path.{_≡_, refl}
+use Prim.Native.Nat.{ℕ, _^_, _<_}
 use native.Mathlib.Omega.{arith}
 use borrow.Author.Needs.{needs}
-use borrow.Author.Tests.{le-leb, lt-leb, lt-ltb, le-ltb}
-use lib.IntN.{ℤ}
-use mir.Syntax.{w16}
-use mir.Facts.{toZ-ofZ}
+use lib.IntN.{natAbs}
+use mir.Syntax.{w16, w32}
 use Rattle.exact.specs.Fraction.{Fraction}
 use Rattle.exact.specs.Pair.{Close}
 use Rattle.radius.specs.Steps.{numberBits, inverse}
-use Rattle.angle.proofs.Signs.{size-fits}
-use Rattle.sample.specs.Steps.{fractionBits}
-use Rattle.sample.specs.Sample.{firstOf, secondOf, samplesOf, samplesAt, nineSixteenths}
-use Rattle.sample.specs.DataSheet.{thirtyThreeSixtyFourths}
-use Rattle.sample.specs.declared.Samples.{Samples}
-use Rattle.sample.proofs.RoundingLaws.{first-small, second-small}
-use Rattle.sample.proofs.Closeness.{room, closer-room, answer-close}
+use Rattle.box_muller.specs.Steps.{fractionBits}
+use Rattle.box_muller.specs.Sample.{samplesOf, nineSixteenths}
+use Rattle.box_muller.specs.DataSheet.{thirtyThreeSixtyFourths}
+use Rattle.box_muller.specs.declared.Samples.{Samples}
+use Rattle.box_muller.proofs.Theorems.{theorems}
+use Rattle.signs.proofs.Sizes.{cast-fits, cast-reads}
+use Rattle.box_muller.proofs.Closeness.{room, closer-room, answer-close}
 use Rattle.sample.proofs.sample.Statement.{statement}
 use Rattle.sample.proofs.sample.Tie as tie
 
@@ -29,66 +27,26 @@ closely : {k v : ℕ} {r : Samples} → r ≡ samplesOf fractionBits k v
 closely e =
     (e, (answer-close nineSixteenths fractionBits _ _ room _ e, answer-close thirtyThreeSixtyFourths fractionBits _ _ closer-room _ e))
 
+answer-requires : tie.Need-answer-requires
+answer-requires c κs = search needs
+
+small : (c : tie.After-answer) → (natAbs (c .answer .result .first) < 2 ^ 15) × (natAbs (c .answer .result .second) < 2 ^ 15)
+small c =
+    let (first, second) = theorems .sizes fractionBits (c .before .args .k) (c .before .args .v) in
+    rw (c .answer .ensures) (omega (arith, first), omega (arith, second))
+
+cast-first : tie.Need-cast-first
+cast-first c = cast-fits w32 w16 (c .before .before .answer .result .first) (omega arith) (small (c .before .before) .0)
+
+cast-second : tie.Need-cast-second
+cast-second c = cast-fits w32 w16 (c .before .before .before .before .answer .result .second) (omega arith) (small (c .before .before .before .before) .1)
+
 returns : tie.Need-returns
-unfolding samplesOf
-returns c = closely (rw (le-leb (2 ^ numberBits) (c .before .args .k) (omega arith)) refl)
-
-returns-2 : tie.Need-returns-2
-unfolding samplesOf
-returns-2 c =
-    closely
-    (rw (lt-leb (2 ^ numberBits) (c .before .before .args .k) (omega arith), lt-ltb 65535 (c .before .before .args .v) (omega arith)) refl)
-
-mul-t6 : tie.Need-mul-t6
-mul-t6 c = search needs
-
-add-t8 : tie.Need-add-t8
-add-t8 c = search needs
-
-slice-aggregate-part : tie.Need-slice-aggregate-part
-slice-aggregate-part c = search needs
-
-slice-aggregate-part-2 : tie.Need-slice-aggregate-part-2
-slice-aggregate-part-2 c = search needs
-
-part-requires : tie.Need-part-requires
-part-requires c κs = search needs
-
-array-copy-out-t16 : tie.Need-array-copy-out-t16
-array-copy-out-t16 c = search needs
-
-array-copy-out-t19 : tie.Need-array-copy-out-t19
-array-copy-out-t19 c = search needs
-
--- k and v from z
-apart : (k v : ℕ) → v ≤ 65535 → ((k * 65536 + v) / 65536 ≡ k) × ((k * 65536 + v) % 65536 ≡ v)
-apart k v h = (omega arith, omega arith)
-
-returns-3 : tie.Need-returns-3
-unfolding samplesOf samplesAt
-returns-3 c =
-    let tested = c .before .before .before .before .before .before in
-    let k = tested .before .before .args .k in
-    let v = tested .before .before .args .v in
-    let a = apart k v (tested .if2 .left) in
-    let z = k * 65536 + v in
-    closely
-    (rw (c .before .before .before .part .ensures, lt-leb (2 ^ numberBits) k (tested .before .if1 .left), le-ltb 65535 v (tested .if2 .left))
-    (ap₂ (λ (x y : ℤ). record { code = 0; first = x; second = y })
-    (toZ-ofZ {w = w16} (size-fits w16 _ (omega (arith, first-small fractionBits (z / 65536) (z % 65536)))) ∙ ap₂ (firstOf fractionBits) (a .0) (a .1))
-    (toZ-ofZ {w = w16} (size-fits w16 _ (omega (arith, second-small fractionBits (z / 65536) (z % 65536)))) ∙ ap₂ (secondOf fractionBits) (a .0) (a .1))))
+returns c =
+    let called = c .before .before .before .before in
+    let first = cast-reads w32 w16 (called .answer .result .first) (omega arith) (small called .0) in
+    let second = cast-reads w32 w16 (called .answer .result .second) (omega arith) (small called .1) in
+    closely (rw (first, second, called .answer .ensures) refl)
 
 pub sample-spec : {M : Type 1} → statement M
-sample-spec =
-    tie.close
-    (tie.spec
-    returns
-    returns-2
-    mul-t6
-    add-t8
-    slice-aggregate-part
-    slice-aggregate-part-2
-    part-requires
-    array-copy-out-t16
-    array-copy-out-t19
-    returns-3)
+sample-spec = tie.close (tie.spec answer-requires cast-first cast-second returns)

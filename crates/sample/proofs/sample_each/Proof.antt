@@ -1,32 +1,31 @@
 -- `sample::sample_each` meets its contract. The invariant of its loop: the slice is filled for the first i of the z. The measure is
 -- what is left of it.
 use mathlib.Core.Path.{_≡_, refl, ap, _∙_}
-use mathlib.Core.Logic.{inl}
-use Prim.Native.Nat.{ℕ, _+_, _*_, _-_, _/_, _%_, _^_, _<_}
+use mathlib.Core.List.{List}
+use Prim.Native.Nat.{ℕ, _+_, _*_, _-_, _/_, _%_, _<_}
 use native.Mathlib.Omega.{arith}
-use lib.IntN.{natAbs}
 use lib.ListN.{length, length-map, getD, length-set}
+use lib.Seq.{take-all}
 use borrow.Author.Needs.{needs}
-use mir.Syntax.{w16, w32}
-use Rattle.radius.specs.Steps.{radiusOf, radiusLimit}
+use mir.Syntax.{w32}
+use mir.Facts.{toZ-ofZ}
+use Rattle.radius.specs.Steps.{radiusOf}
 use Rattle.radius.proofs.Ranges.{radius-of-range}
 use Rattle.angle.specs.Steps.{signedOf}
-use Rattle.sample.specs.Steps.{fractionBits, rounded}
-use Rattle.sample.specs.Sample.{firstOf, secondOf, filled}
+use Rattle.box_muller.specs.Steps.{bitsOf, rounded}
+use Rattle.box_muller.specs.Sample.{firstOf, secondOf}
+use Rattle.sample.specs.Chunk.{filled}
 use Rattle.sample.specs.Private.{underRootAt}
-use Rattle.angle.proofs.Ranges.{signed-range}
-use Rattle.sample.proofs.RoundingLaws.{rounded-small}
-use Rattle.sample.proofs.Sizes.{cast-fits, cast-reads}
-use Rattle.sample.proofs.FillLaws.{filled-all, filled-whole, filled-next}
+use Rattle.sample.proofs.ChunkLaws.{filled-whole, filled-next}
 use Rattle.sample.proofs.PassLaws.{Reached, radius-is}
 use Rattle.sample.proofs.sample_each.Statement.{statement}
 use Rattle.sample.proofs.sample_each.Tie as tie
 
 abbrev Inv-loop : tie.InvT-loop
-Inv-loop z x g out₀ i₀ out i = Reached fractionBits z out₀ out i
+Inv-loop in18 z x g out₀ i₀ out i = Reached (bitsOf in18) z out₀ out i
 
 abbrev μ-loop : tie.MeasureT-loop
-μ-loop z x g out₀ i₀ out i = length z - i
+μ-loop in18 z x g out₀ i₀ out i = length z - i
 
 -- i is the place of a z
 inside : (c : tie.In-loop Inv-loop μ-loop) → c .before .loop .i < length (c .before .before .before .before .before .args .z .now)
@@ -76,24 +75,7 @@ shared-slice-read-pair-of c = omega (arith, inside (c .before .before .before .b
 
 pair-of-requires : tie.Need-pair-of-requires Inv-loop μ-loop
 pair-of-requires c κs =
-    (inl refl, rw (root-is (c .before)) (radius-of-range _))
-
--- its samples fit 16 bits
-small : (c : tie.After-pair-of Inv-loop μ-loop) → (natAbs (c .pair-of .result .first) < 2 ^ 15) × (natAbs (c .pair-of .result .second) < 2 ^ 15)
-small c =
-    let F = c .before .before .root .result in
-    let below : F < radiusLimit = rw (root-is (c .before .before)) (radius-of-range _) in
-    let start = c .before .before .before .before .before .before .before .before .before .before in
-    let v = getD (start .args .z .now) (c .before .before .before .before .before .before .loop .i) 0 % 65536 in
-    let first = rounded-small fractionBits F (signedOf v .0) below (signed-range v .0) in
-    let second = rounded-small fractionBits F (signedOf v .1) below (signed-range v .1) in
-    (rw (c .pair-of .ensures .0) (omega (arith, first)), rw (c .pair-of .ensures .1) (omega (arith, second)))
-
-cast-first : tie.Need-cast-first Inv-loop μ-loop
-cast-first c = cast-fits w32 w16 (c .before .before .pair-of .result .first) (omega arith) (small (c .before .before) .0)
-
-cast-second : tie.Need-cast-second Inv-loop μ-loop
-cast-second c = cast-fits w32 w16 (c .before .before .before .before .pair-of .result .second) (omega arith) (small (c .before .before .before .before) .1)
+    rw (root-is (c .before)) (radius-of-range _)
 
 mul-first : tie.Need-mul-first Inv-loop μ-loop
 mul-first c = search needs
@@ -114,31 +96,30 @@ mul-second-2 : tie.Need-mul-second-2 Inv-loop μ-loop
 mul-second-2 c = search needs
 
 slice-set-from-second : tie.Need-slice-set-from-second Inv-loop μ-loop
-slice-set-from-second c = simp length-set (omega (arith, c .before .before .before .before .before .before .before .before .before .loop-test .taken))
+slice-set-from-second c = simp length-set (omega (arith, c .before .before .before .before .before .before .before .loop-test .taken))
 
 add-i : tie.Need-add-i Inv-loop μ-loop
 add-i c = search needs
 
 loop-less : tie.Need-loop-less Inv-loop μ-loop
-loop-less c = omega (arith, inside (c .before .before .before .before .before .before .before .before .before))
+loop-less c = omega (arith, inside (c .before .before .before .before .before .before .before))
 
 loop-again : tie.Need-loop-again Inv-loop μ-loop
 unfolding firstOf secondOf
 loop-again c =
-    let turn = c .before .before .before .before .before .before .before .before .before in
+    let turn = c .before .before .before .before .before .before .before in
     let head = turn .before in
     let start = head .before .before .before .before in
     let signed = signedOf (getD (start .args .z .now) (head .loop .i) 0 % 65536) in
-    let pair = c .before .before .before .before .pair-of in
-    let f = fractionBits in
-    let radius = root-is (c .before .before .before .before .before .before) in
-    let (small-first, small-second) = small (c .before .before .before .before) in
+    let pair = c .before .before .pair-of in
+    let f = bitsOf (start .args .in18) in
+    let radius = root-is (c .before .before .before .before) in
     let first =
-    cast-reads w32 w16 (pair .result .first) (omega arith) small-first ∙ pair .ensures .0
+    toZ-ofZ {w = w32} {z = pair .result .first} (record { sfits = c .before .struct-told .given .0 .1 }) ∙ pair .ensures .0
     ∙ ap (λ (F : ℕ). rounded f F (signed .0)) radius
     in
     let second =
-    cast-reads w32 w16 (pair .result .second) (omega arith) small-second ∙ pair .ensures .1
+    toZ-ofZ {w = w32} {z = pair .result .second} (record { sfits = c .struct-told2 .given .1 .0 .1 }) ∙ pair .ensures .1
     ∙ ap (λ (F : ℕ). rounded f F (signed .1)) radius
     in
     let room : 2 * head .loop .i + 1 < length (start .args .out .now) = omega (arith, turn .loop-test .taken, head .loop .inv .kept) in
@@ -157,10 +138,9 @@ returns c =
     let z = start .args .z .now in
     let out = start .args .out .now in
     let inv = c .before .loop .inv in
-    let f = fractionBits in
-    inv .done
-    ∙ filled-all f (c .before .loop .i) z out (omega (arith, c .loop-test .left, inv .kept, start .pre .2))
-    ∙ filled-whole f z out (start .pre .2)
+    let f = bitsOf (start .args .in18) in
+    let all = take-all (c .before .loop .i) z (omega (arith, c .loop-test .left, inv .kept, start .pre .2)) in
+    inv .done ∙ ap (λ (l : List ℕ). filled f l out) all ∙ filled-whole f z out (start .pre .2)
 
 pub sample-each-spec : {M : Type 1} → statement M
 sample-each-spec =
@@ -179,8 +159,6 @@ sample-each-spec =
     mul-pair-of
     shared-slice-read-pair-of
     pair-of-requires
-    cast-first
-    cast-second
     mul-first
     mul-first-2
     slice-set-from-first

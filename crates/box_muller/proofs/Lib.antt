@@ -1,0 +1,7 @@
+-- Laws of the rounding, demand 3, the readings, and the theorems.
+pub mod RoundingLaws
+mod RoundingMargin
+pub mod Closeness
+pub mod DataSheet
+pub mod Readings
+pub mod Theorems

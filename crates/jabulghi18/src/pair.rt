@@ -1,0 +1,39 @@
+// Two samples: from two numbers, and from a record.
+ghost use mathlib.Core.Path.{_≡_};
+ghost use Prim.Native.Nat.{_<_, _^_};
+ghost use mathlib.Core.List.{[], _∷_};
+ghost use Rattle.radius.specs.Steps.{numberBits, inverse};
+ghost use Rattle.sample.specs.Steps.{fractionBits18};
+ghost use Rattle.sample.specs.Sample.{samplesOf, threeQuarters};
+ghost use Rattle.exact.specs.Pair.{Close};
+ghost use Rattle.noise.specs.Noise.{pairOf};
+ghost use Rattle.jabulghi.specs.Words.{wordsOf, generatorOf, samplesIn};
+use jabulghi::words::packed;
+use jabulghi::words::unpacked;
+
+// The two samples of k and v.
+#[no_mangle]
+pub extern "C" fn jabulghi_sample18(k: u64, v: u32, samples: &mut [i32; 2]) -> u32
+    ensures { λ r. ⌜ r ≡ samplesOf fractionBits18 k v .code ⌝ }
+    ensures { λ _. ⌜ now (samples .exit) ≡ samplesOf fractionBits18 k v .first ∷ samplesOf fractionBits18 k v .second ∷ [] ⌝ }
+    ensures close { λ _. ⌜ (k < 2 ^ numberBits → v < 65536 → Close threeQuarters fractionBits18 (inverse k) v (samplesOf fractionBits18 k v .first) (samplesOf fractionBits18 k v .second)) ⌝ }
+{
+    let s = sample::sample18(k, v);
+    *samples = [s.first, s.second];
+    s.code
+}
+
+// One pair of samples from a record, written out as in `jabulghi_pair`.
+#[no_mangle]
+pub extern "C" fn jabulghi_pair18(words: &mut [u32; 10], samples: &mut [i32; 2]) -> u32
+    ensures { λ r. ⌜ r ≡ pairOf fractionBits18 (generatorOf (now (words .entry))) .code ⌝ }
+    ensures { λ _. ⌜ now (samples .exit) ≡ samplesIn (pairOf fractionBits18 (generatorOf (now (words .entry)))) ⌝ }
+    ensures { λ _. ⌜ now (words .exit) ≡ wordsOf (pairOf fractionBits18 (generatorOf (now (words .entry))) .next) ⌝ }
+{
+    let g = unpacked(*words);
+    let drawn = g.uniforms();
+    let pair = noise::sampled18(drawn);
+    *samples = [pair.first, pair.second];
+    *words = packed(pair.next);
+    pair.code
+}

@@ -1,2 +1,0 @@
--- What is read back from lent memory.
-mod Stored

@@ -1,0 +1,2 @@
+-- What is read back from the caller's memory.
+mod Stored
