@@ -1,5 +1,5 @@
 -- What an accepted line keeps within bounds: the lines, the sigmas and the listing's length.
-use Prim.Native.Nat.{ℕ, _+_, _≤_, _<_}
+use Prim.Native.Nat.{ℕ, _+_, _*_, _/_, _≤_, _<_}
 use native.Mathlib.Omega.{arith}
 use native.Mathlib.Nat.{mul-le-mul}
 use mathlib.Core.Path.{_≡_, refl}
@@ -10,7 +10,7 @@ use lib.ListN.{length}
 use borrow.Author.Tests.{ltb-false}
 use Rattle.streams.specs.declared.Generator.{Generator}
 use Rattle.noise.proofs.Theorems.{pair-sizes}
-use Rattle.sample.specs.Steps.{fractionBits}
+use Rattle.box_muller.specs.Steps.{fractionBits}
 use Rattle.noise.specs.Noise.{pairOf}
 use Rattle.noise.specs.declared.PairAnswer.{PairAnswer}
 use Rattle.job_refusals.specs.Limits.{lastLine, mostSigma, mostDistance, mostBearing}
@@ -19,13 +19,20 @@ use Rattle.listing_writer.specs.Rounding.{noiseSize, noisyDistance, noisyBearin
 use Rattle.listing_writer.specs.Listing.{shotRow, noisyRow}
 use Rattle.text.specs.Limits.{nameLength}
 use Rattle.text.proofs.Decimal.{decimal-length}
-use Rattle.job.specs.Private.{Steady, rowLength, mostSize, mostNoise}
+use Rattle.job.specs.Private.{Steady, rowLength}
 use Rattle.job_refusals.specs.Refusals.{formless, misplaced, refusal}
 use Rattle.job.specs.Job.{settingAfter, printed}
 use Rattle.job.specs.declared.state.Setting.{Setting}
 use Rattle.job_refusals.proofs.Accepted.{accepted-line, line-few, sigma-within, shot-within}
 use Rattle.listing_writer.proofs.Rows.{row-length}
 use Rattle.job.proofs.Names.{names-short}
+
+-- the most that 16 bits hold in size, and the noise that they give
+abbrev mostSize : ℕ
+mostSize = 32768
+
+abbrev mostNoise : ℕ
+mostNoise = (mostSigma * mostSize + 1024) / 2048
 
 -- the samples of a pair have 16 bits
 abbrev Small : PairAnswer → Type 0

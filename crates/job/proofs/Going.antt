@@ -64,7 +64,7 @@ module _ (text out : List ℕ) (s : State) (at : ℕ) (g : Going text out s at) 
         rw (taken-yes e, e, place-fits out (s .used) (printed x (s .setting)) r)
         (record {
           code = refl;
-          place = end-within text at h .1;
+          within = end-within text at h .1;
           room = written-length out (s .used) (printed x (s .setting)) ∙ g .room;
           line = omega (arith, t .line);
           steady = t .steady;
@@ -111,17 +111,17 @@ module _ (text out : List ℕ) (s : State) (at end : ℕ) (r : State) (out′ : 
     (g : Going text out s at) (h : at < length text) (e : end ≡ at + length (firstLine (drop at text)))
     (er : r ≡ takenOf s (readLine (take (end - at) (drop at text))) out)
     (eo : out′ ≡ bufferOf s (readLine (take (end - at) (drop at text))) out) where
-  whole-line : take (end - at) (drop at text) ≡ firstLine (drop at text)
-  whole-line = rw e (part-line text at h)
+  line-part : take (end - at) (drop at text) ≡ firstLine (drop at text)
+  line-part = rw e (part-line text at h)
 
   code : r .code ≡ refusal (s .line) (readLine (firstLine (drop at text)))
-  code = ap (λ (t : State). t .code) er ∙ taken-code s _ out ∙ ap (λ (l : List ℕ). refusal (s .line) (readLine l)) whole-line
+  code = ap (λ (t : State). t .code) er ∙ taken-code s _ out ∙ ap (λ (l : List ℕ). refusal (s .line) (readLine l)) line-part
 
   line : (r .code ≡ 0 → ⊥) → r .line ≡ s .line
   line z = ap (λ (t : State). t .line) er ∙ taken-line s _ out (λ u. z (ap (λ (t : State). t .code) er ∙ taken-code s _ out ∙ u))
 
   pub line-on : r .code ≡ 0 → Going text out′ r end
-  line-on z = rw (er, eo, whole-line, e) (going-on text out s at g h (sym code ∙ z))
+  line-on z = rw (er, eo, line-part, e) (going-on text out s at g h (sym code ∙ z))
 
   pub line-off : (r .code ≡ 0 → ⊥) → Ended text out′ r
   line-off z =
@@ -132,7 +132,7 @@ module _ (text out : List ℕ) (s : State) (at end : ℕ) (r : State) (out′ : 
 
 pub all-taken : (text out : List ℕ) (s : State) (at : ℕ) → Going text out s at → length text ≤ at → Ended text out s
 all-taken text out s at g h =
-    let e : at ≡ length text = omega (arith, g .place) in
+    let e : at ≡ length text = omega (arith, g .within) in
     record { yes = λ t. subst (λ (n : ℕ). Going text out s n) e g; no = λ t. absurd (t (g .code)) }
 
 -- the start: the header is in the buffer
@@ -147,7 +147,7 @@ going-start text out out′ s used room e u f =
     rw (e, f)
     (record {
       code = refl;
-      place = omega arith;
+      within = omega arith;
       room = written-length out 0 header ∙ room;
       line = omega arith;
       steady = record { sigma-distance = omega arith; sigma-bearing = omega arith };

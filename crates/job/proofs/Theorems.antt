@@ -100,7 +100,7 @@ longest text bytes e = listing-short text bytes (short-job text bytes e)
 fits : (text bytes : List ℕ) → jobOf text ≡ listed bytes → length bytes ≤ listingRoom
 fits text bytes e = omega (arith, longest text bytes e)
 
--- ---- no line and no record has the number 10
+-- ---- no line and no record has the code 10
 
 refusal-not-10 : (k : ℕ) (x : Form) → refusal k x ≡ 10 → ⊥
 unfolding refusal

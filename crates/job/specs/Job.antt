@@ -5,7 +5,7 @@ use mathlib.Core.List.{List, [], _∷_, _++_}
 use lib.Dec.{leb, ltb, eqb}
 use lib.ListN.{length, drop}
 use Rattle.streams.specs.Streams.{seedOf}
-use Rattle.sample.specs.Steps.{fractionBits}
+use Rattle.box_muller.specs.Steps.{fractionBits}
 use Rattle.noise.specs.Noise.{pairOf}
 use Rattle.text.specs.Scan.{lines}
 use Rattle.job_refusals.specs.Limits.{mostBytes}
@@ -32,7 +32,7 @@ printed (shot from to d b) s =
     noisyRow (s .distance) (s .bearing) from to d b (pairOf fractionBits (s .generator) .first) (pairOf fractionBits (s .generator) .second)
 printed noForm s = []
 
--- A job is refused with a number and a line, or listed
+-- A job is refused with a code and a line, or listed
 pub data Outcome : Type 0 where
   refused : ℕ → ℕ → Outcome
   listed : List ℕ → Outcome

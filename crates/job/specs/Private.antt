@@ -1,5 +1,5 @@
 -- For private functions; no public contract cites these.
-use Prim.Native.Nat.{ℕ, _+_, _*_, _/_, _≤_, _<_}
+use Prim.Native.Nat.{ℕ, _+_, _*_, _≤_, _<_}
 use mathlib.Core.Path.{_≡_}
 use mathlib.Core.Bool.{cond}
 use mathlib.Core.List.{List}
@@ -31,13 +31,6 @@ pub record Steady (distance bearing : ℕ) : Type 0 where
 pub record Ranged (x : ShotFields) : Type 0 where
   pub distance : x .distance ≤ mostDistance
   pub bearing : x .bearing ≤ mostBearing
-
--- the most that 16 bits hold in size, and the noise that they give
-abbrev pub mostSize : ℕ
-mostSize = 32768
-
-abbrev pub mostNoise : ℕ
-mostNoise = (mostSigma * mostSize + 1024) / 2048
 
 -- the row of a shot of a line, with its noise
 abbrev pub rowOf : List ℕ → ShotFields → ℕ → ℕ → PairAnswer → List ℕ
@@ -75,7 +68,7 @@ rowLength = 2 * nameLength + 7 + 5 + 4
 -- the lines before `at` are accepted: what they left in the state and in the buffer, and what the lines ahead add to it
 pub record Going (text out : List ℕ) (s : State) (at : ℕ) : Type 0 where
   pub code : s .code ≡ 0
-  pub place : at ≤ length text
+  pub within : at ≤ length text
   pub room : length out ≡ listingRoom
   pub line : s .line ≤ lastLine + 1
   pub steady : Steady (s .setting .distance) (s .setting .bearing)

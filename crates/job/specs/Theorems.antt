@@ -45,7 +45,7 @@ pub record Theorems : Type 0 where
   pub job-listed : (text bytes : List ℕ) → jobOf text ≡ listed bytes
       → (xs : List Form) × Accepts 1 xs × (2 ≤ length xs) × (textOf xs ≡ text) ×
       (bytes ≡ header ++ (rows start xs ++ endRow (shots xs)))
-  -- the first line that is not accepted gives number and line; a text of accepted lines that ends before line 2 lacks the next
+  -- the first line that is not accepted gives code and line; a text of accepted lines that ends before line 2 lacks the next
   pub first-bad : (text l : List ℕ) (xs : List Form) (ls : List (List ℕ)) → length text ≤ mostBytes → Accepts 1 xs
       → lines text ≡ map printLine xs ++ (l ∷ ls) → (refusal (1 + length xs) (readLine l) ≡ 0 → ⊥)
       → jobOf text ≡ refused (refusal (1 + length xs) (readLine l)) (1 + length xs)

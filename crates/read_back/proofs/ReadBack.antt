@@ -15,7 +15,7 @@ use Rattle.job_lines.specs.Forms.{Form, seeds, sigma, shot, noForm, readLine, P
 use Rattle.job_lines.proofs.RoundTrip.{printed-read, shot-not-none}
 use Rattle.listing_writer.specs.Rounding.{noiseSize, noisyDistance, noisyBearing}
 use Rattle.listing_writer.specs.Listing.{header, endRow, noisyRow}
-use Rattle.sample.specs.Steps.{fractionBits}
+use Rattle.box_muller.specs.Steps.{fractionBits}
 use Rattle.noise.specs.Noise.{pairOf}
 use Rattle.noise.proofs.Theorems.{pair-sizes}
 use Rattle.job_refusals.specs.Limits as limits
