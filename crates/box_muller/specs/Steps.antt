@@ -1,4 +1,4 @@
--- The last whole-code step (document 01, 'Angle and sample'): from F and a signed sine or cosine G to a sample, over a number f of
+-- The last whole-number step (document 01, 'Angle and sample'): from F and a signed sine or cosine G to a sample, over a number f of
 -- fraction bits.
 use mathlib.Core.Bool.{Bool, cond}
 use Prim.Native.Nat.{ℕ, _+_, _-_, _*_, _/_, _^_}

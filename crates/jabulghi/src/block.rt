@@ -1,7 +1,7 @@
 // Blocks of samples from a record.
 ghost use mathlib.Core.Path.{_≡_};
 ghost use lib.ListN.{length};
-ghost use Rattle.sample.specs.Steps.{fractionBits};
+ghost use Rattle.box_muller.specs.Steps.{fractionBits};
 ghost use Rattle.noise.specs.Noise.{blockOf, blockHolds, lookOf, lookHolds, takeOf, takeHolds};
 ghost use Rattle.jabulghi.specs.Words.{wordsOf, generatorOf};
 use crate::words::packed;

@@ -55,13 +55,26 @@ pub record Reached (f : ℕ) (out₀ : List ℤ) (g : Generator) (out : List ℤ
   pub done : take place out ≡ samples f (place / 2) g
 
 -- the count has room for a part of the pairs
-pub pairs-of-part : (m n : ℕ) (g : Generator) → Sound g → g .waiting ≡ 0 → g .count + (m + n) ≤ mostCount → pairsCode (after m g) n ≡ 0
+pairs-of-part : (m n : ℕ) (g : Generator) → Sound g → g .waiting ≡ 0 → g .count + (m + n) ≤ mostCount → pairsCode (after m g) n ≡ 0
 pairs-of-part m n g h none room =
     rw (after-moved m g h none (omega arith)) (pairs-accepted _ n .1 (sound-accepted _ (moved-sound m g h), omega arith, none))
 
 -- a part that is passed on
-pub part-size : (place end : ℕ) (out : List ℤ) → end ≤ length out → length (take (end - place) (drop place out)) ≡ end - place
+part-size : (place end : ℕ) (out : List ℤ) → end ≤ length out → length (take (end - place) (drop place out)) ≡ end - place
 part-size place end out h = simp (length-take, length-drop) (omega arith)
+
+-- what is asked of the next chunk
+pub asked-part : {f : ℕ} {out₀ out : List ℤ} {g state : Generator} {place end : ℕ} → Sound g → pairsCode g (length out₀ / 2) ≡ 0 → length out₀ % 2 ≡ 0
+    → Reached f out₀ g out state place → place < length out₀ → end ≡ min (length out₀) (place + chunkSamples)
+    → (pairsCode state (length (take (end - place) (drop place out)) / 2) ≡ 0) × (length (take (end - place) (drop place out)) % 2 ≡ 0)
+    × (length (take (end - place) (drop place out)) ≤ chunkSamples)
+asked-part {f} {out₀} {out} {g} {state} {place} {end} h accepted even₀ r more e =
+    let (_, room, none) = pairs-accepted _ _ .0 accepted in
+    let size = part-size place end out (omega (arith, r .kept)) in (
+      rw (r .now-at, size) (pairs-of-part (place / 2) _ g h none (omega (arith, r .even))),
+      rw size (omega (arith, r .even)),
+      rw size (omega arith),
+    )
 
 -- one chunk more
 module _ {f : ℕ} {out₀ out new : List ℤ} {g state result : Generator} {place end : ℕ}

@@ -118,7 +118,7 @@ unfolding pairWords
 length-pair-words zero g = refl
 length-pair-words (suc n) g = ap suc (length-pair-words n (uniformsOf g .next))
 
--- The call from k and v accepts the numbers of a pair, so the pair's samples are those of the whole-code steps.
+-- The call from k and v accepts the numbers of a pair, so the pair's samples are those of the whole-number steps.
 pub pair-is : (f : ℕ) (g : Generator) → Sound g → pairsCode g 1 ≡ 0
     → pairOf f g
     ≡ record {

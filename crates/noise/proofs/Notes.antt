@@ -1,4 +1,4 @@
--- What a call's note decides: number, samples, registers and count depend on it only by 14, 15 and 16.
+-- What a call's note decides: refusal code, samples, registers and count depend on it only by 14, 15 and 16.
 use mathlib.Core.Path.{_≡_, refl, sym, ap, _∙_}
 use mathlib.Core.Bool.{Bool, true, false, cond}
 use mathlib.Core.List.{List, [], _∷_}
@@ -26,7 +26,7 @@ use Rattle.noise.proofs.Theorems.{block-holds}
 abbrev pub ByNote : ℕ → Type 0
 ByNote code = (code ≡ 14) ⊎ ((code ≡ 15) ⊎ (code ≡ 16))
 
--- Two numbers differ for the note alone.
+-- Two refusal codes differ for the note alone.
 abbrev pub Alike : ℕ → ℕ → Type 0
 Alike m n = ByNote m ⊎ (ByNote n ⊎ (m ≡ n))
 
@@ -93,7 +93,7 @@ take-alike g waiting asked n = by-cases (taken-or-not g n) (taken-or-not (noted 
     by-cases (inl e) (inr f) = rw f (inr (inl (inr (inr refl))))
     by-cases (inl e) (inl f) = rw (e, f, as-many g waiting asked n e f) (inr (inr refl))
 
--- The number of a call on two records that differ in their notes is the same, or is 14, 15 or 16 for one of them.
+-- The refusal code of a call on two records that differ in their notes is the same, or is 14, 15 or 16 for one of them.
 pub note-numbers : (c : Call) (g : Generator) (waiting asked : ℕ) → Alike (codeOf c g) (codeOf c (noted g waiting asked))
 unfolding codeOf noteCode ownCode roomCode recordCode countCode
 note-numbers c g waiting asked = by-call c

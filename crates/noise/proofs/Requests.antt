@@ -21,7 +21,7 @@ use Rattle.noise.proofs.Theorems.{block-holds, block-moves}
 
 -- ---- Looks
 
--- A look has the number of a block call on the record with its note cleared, and leaves the same memory; record and note come back as passed.
+-- A look has the refusal code of a block call on the record with its note cleared, and leaves the same memory; record and note come back as passed.
 pub look-is : (f : ℕ) (g : Generator) (old : List ℤ)
     → (lookOf g (length old) .code ≡ blockOf (cleared g) (length old) .code)
     × (lookHolds f g old ≡ blockHolds f (cleared g) old)
@@ -29,7 +29,7 @@ pub look-is : (f : ℕ) (g : Generator) (old : List ℤ)
 unfolding lookOf lookHolds
 look-is f g old = (refl, refl, refl)
 
--- Where none is open, the note decides nothing of a block's number.
+-- Where none is open, the note decides nothing of a block's refusal code.
 same-code : (g : Generator) → g .waiting ≡ 0 → (n : ℕ) → blockCode g n ≡ blockCode (cleared g) n
 unfolding codeOf noteCode ownCode roomCode recordCode openCode countCode
 same-code g none n = rw none refl

@@ -24,7 +24,7 @@ use Rattle.noise.specs.Runs.{returned, run, sumOver, pairsOut, handed}
 
 -- ---- One call
 
--- Every call returns the number of the one chain of tests.
+-- Every call returns the refusal code of the one chain of tests.
 pub returned-code : (c : Call) (g : Generator) → returned c g .code ≡ codeOf c g
 unfolding returned uniformsOf pairOf skipOf blockOf lookOf askOf takeOf giveUpOf codeOf noteCode ownCode roomCode recordCode openCode countCode
 returned-code numbers g = refl
@@ -114,7 +114,7 @@ pub call-sound : (c : Call) (g : Generator) → Sound g → Sound (returned c g 
 call-sound c g h =
     sound-cleared _ .1 (rw (call-moves c g h) (moved-sound (handed c g) (cleared g) (sound-cleared g .0 h)))
 
--- A call on unfit streams is refused with the record's number,
+-- A call on unfit streams is refused with the record's refusal code,
 pub unfit-call : (c : Call) (g : Generator) → (recordCode g ≡ 0 → ⊥) → codeOf c g ≡ recordCode g
 unfolding codeOf
 unfit-call c g h = rw (ne-eqb (recordCode g) 0 h)

@@ -160,7 +160,7 @@ block-close limit f g old i d enough h e l =
     rw (block-holds f g old e, samples-first f (length old / 2) i g d l, samples-second f (length old / 2) i g d l)
     (pair-close limit f (after i g) enough (after-sound i g h) (pair-accepted f i g h none (omega arith)))
 
--- A block of samples of 18 bits and one of 16 bits, from equal records and of equal length, have one number and end in equal records: both calls
+-- A block of samples of 18 bits and one of 16 bits, from equal records and of equal length, have one refusal code and end in equal records: both calls
 -- return `blockOf`. So do pairs.
 pub blocks-alike : (g h : Generator) (x y : List ℤ) → g ≡ h → length x ≡ length y → blockOf g (length x) ≡ blockOf h (length y)
 blocks-alike g h x y same size = rw (same, size)

@@ -1,4 +1,4 @@
--- The last pass over a part. What holds between two of its turns, over f and so for either element type, and the radius that a turn takes.
+-- The last pass over a chunk. What holds between two of its turns, over f and so for either width, and the radius that a turn takes.
 use mathlib.Core.Path.{_≡_, refl, _∙_}
 use mathlib.Core.List.{List, [], _∷_, map}
 use Prim.Native.Nat.{ℕ, zero, suc, _/_, _≤_, _<_}

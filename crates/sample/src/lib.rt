@@ -38,7 +38,7 @@ fn scale(in18: bool) -> u64
 }
 
 // A sample's size: the nearest whole number of units, halves up, of the radius F times the size of a sine or cosine. (A product with
-// the scale takes less time than a shift by a number that varies.)
+// the scale takes less time than a shift by a variable.)
 fn units(in18: bool, f: u64, g: u64) -> u32
     requires { ⌜ (f < radiusLimit) × (g ≤ 2 ^ 30) ⌝ }
     ensures { λ r. ⌜ r ≡ size (bitsOf in18) f g ⌝ }

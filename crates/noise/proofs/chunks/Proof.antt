@@ -9,7 +9,7 @@ use Rattle.streams.specs.Recurrence.{Sound}
 use Rattle.streams.proofs.Theorems.{sound, pairs-accepted}
 use Rattle.box_muller.specs.Steps.{fractionBits}
 use Rattle.noise.specs.Noise.{samples}
-use Rattle.noise.proofs.ChunkLaws.{Reached, pairs-of-part, part-size, again}
+use Rattle.noise.proofs.ChunkLaws.{Reached, asked-part, again}
 use Rattle.noise.proofs.chunks.Statement.{statement}
 use Rattle.noise.proofs.chunks.Tie as tie
 
@@ -43,19 +43,9 @@ part-chunk16-end c = omega arith
 
 chunk16-requires : tie.Need-chunk16-requires Inv-loop μ-loop
 chunk16-requires c κs =
-    let at = c .before .before .before .loop .at in
-    let inv = c .before .before .before .loop .inv in
-    let start = c .before .before .before .before in
-    let more = c .before .before .loop-test .taken in
-    let end-is = c .before .chunk-end .ensures in
-    let even₀ = start .pre .1 in
-    let (_, room, none) = pairs-accepted _ _ .0 (start .pre .0) in
-    let out = c .before .before .before .loop .out in
-    let size = part-size at (c .before .chunk-end .result) out (omega (arith, inv .kept, end-is)) in (
-      rw (inv .now-at, size) (pairs-of-part (at / 2) _ (start .args .g) (start-sound start) none (omega (arith, end-is, more, inv .even, even₀, room))),
-      rw size (omega (arith, inv .even, end-is, even₀, more)),
-      rw size (omega (arith, end-is)),
-    )
+    let head = c .before .before .before in
+    let start = head .before in
+    asked-part (start-sound start) (start .pre .0) (start .pre .1) (head .loop .inv) (c .before .before .loop-test .taken) (c .before .chunk-end .ensures)
 
 loop-less : tie.Need-loop-less Inv-loop μ-loop
 loop-less c = omega arith

@@ -19,7 +19,7 @@ cast-result c =
 returns : tie.Need-returns
 returns c =
     let t = negated (c .before .args .sample) (c .before .fits .sample) (c .if1 .taken) in
-    rw (t .size) (refl, t .small)
+    rw (t .size) (refl, omega (arith, t .small))
 
 cast-result-2 : tie.Need-cast-result-2
 cast-result-2 c =
@@ -29,7 +29,7 @@ cast-result-2 c =
 returns-2 : tie.Need-returns-2
 returns-2 c =
     let t = kept (c .before .args .sample) (c .before .fits .sample) (c .if1 .left) in
-    rw (t .size) (refl, t .small)
+    rw (t .size) (refl, omega (arith, t .small))
 
 pub size-of-spec : {M : Type 1} → statement M
 size-of-spec = tie.close (tie.spec cast-wide sub-negated cast-result returns cast-result-2 returns-2)

@@ -2,7 +2,7 @@
 use mathlib.Core.Path.{_≡_, refl}
 use mir.Syntax.{w16}
 use mir.Val.{SFits}
-use Rattle.sample.specs.Steps.{fractionBits}
+use Rattle.box_muller.specs.Steps.{fractionBits}
 use Rattle.noise.specs.Noise.{pairOf}
 use Rattle.jabulghi.proofs.Stored.{stored}
 use Rattle.jabulghi.proofs.pair.jabulghi_pair.Statement.{statement}

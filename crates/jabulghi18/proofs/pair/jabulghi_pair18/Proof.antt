@@ -3,16 +3,16 @@ use mathlib.Core.Path.{_≡_, ap, _∙_}
 use mathlib.Core.List.{[], _∷_}
 use mir.Syntax.{w32}
 use mir.Val.{SFits}
-use Rattle.sample.specs.Steps.{fractionBits18}
+use Rattle.box_muller.specs.Steps.{fractionBits18}
 use Rattle.noise.specs.declared.PairAnswer18.{PairAnswer18}
-use Rattle.noise.specs.Noise.{widePair, pairOf}
+use Rattle.noise.specs.Noise.{pairAs18, pairOf}
 use Rattle.jabulghi.specs.Words.{wordsOf}
 use Rattle.jabulghi.proofs.Stored.{stored}
 use Rattle.jabulghi18.proofs.pair.jabulghi_pair18.Statement.{statement}
 use Rattle.jabulghi18.proofs.pair.jabulghi_pair18.Tie as tie
 
 -- it is the pair of the record
-pair-is : (c : tie.After-sampled18) → c .sampled18 .result ≡ widePair (pairOf fractionBits18 (c .before .before .unpacked .result))
+pair-is : (c : tie.After-sampled18) → c .sampled18 .result ≡ pairAs18 (pairOf fractionBits18 (c .before .before .unpacked .result))
 unfolding pairOf
 pair-is c = rw (← (c .before .uniforms .ensures)) (c .sampled18 .ensures)
 

@@ -3,7 +3,7 @@ use mathlib.Core.Path.{ap, _∙_}
 use mathlib.Core.List.{[], _∷_}
 use mir.Syntax.{w32}
 use mir.Val.{SFits}
-use Rattle.sample.specs.declared.Samples18.{Samples18}
+use Rattle.box_muller.specs.declared.Samples18.{Samples18}
 use Rattle.jabulghi.proofs.Stored.{stored}
 use Rattle.jabulghi18.proofs.pair.jabulghi_sample18.Statement.{statement}
 use Rattle.jabulghi18.proofs.pair.jabulghi_sample18.Tie as tie
