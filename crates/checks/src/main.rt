@@ -1,7 +1,7 @@
 // Runs what document 01 wants run by a program. Standard input is a job of one shot too many whose first four lines are the document's own job: it is
 // listed to its second, last but one and last shot. Then the refusals 2 and 3, s0 of 1 and 2, and a block from each of some dozen seeds. The other
 // implementation, tests/src/checks.rs, wrote what is stored.
-use job::limits::LISTING_ROOM;
+use job_refusals::limits::LISTING_ROOM;
 use libc::STDIN_FILENO;
 use libc::STDOUT_FILENO;
 use streams::Generator;
@@ -35,20 +35,20 @@ fn samples(list: &[i16]) {
 }
 
 // The first bytes, where there are as many.
-fn part(bytes: &[u8], length: usize) {
+fn first_bytes(bytes: &[u8], length: usize) {
     if length <= bytes.len() {
         word(&bytes[0..length]);
     }
 }
 
-// A job's number and line, and its listing.
+// A job's refusal code and line, and its listing.
 fn show_job(text: &[u8]) {
     let mut listing = [0u8; LISTING_ROOM];
     let answer = job::list(text, &mut listing);
     number(answer.code);
     number(answer.line);
     word(b"\n");
-    part(&listing, answer.length);
+    first_bytes(&listing, answer.length);
 }
 
 fn show_jobs(text: &[u8]) {
@@ -59,7 +59,7 @@ fn show_jobs(text: &[u8]) {
     }
 }
 
-// The number and the samples of k and v.
+// The code and the samples of k and v.
 fn show_samples(k: u64, v: u32) {
     let s = sample::sample(k, v);
     let first = s.first;
@@ -68,7 +68,7 @@ fn show_samples(k: u64, v: u32) {
     samples(&[first, second]);
 }
 
-// The numbers of seeding and of a block of six samples, and the samples. All registers but the first are the same.
+// The codes of seeding and of a block of six samples, and the samples. All registers but the first are the same.
 fn show_block(s0: u32, others: u32) {
     let seeded = Generator::seed(s0, others, others, others, others, others);
     let mut block = [0i16; 6];

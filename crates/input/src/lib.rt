@@ -1,4 +1,4 @@
-// Reads of a descriptor until the input ends or a buffer is full, with failures told.
+// Reads of a descriptor until the input ends or a buffer is full, and whether one failed.
 ghost use Prim.Native.Nat.{_≤_};
 ghost use lib.ListN.{length};
 

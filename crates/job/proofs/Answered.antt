@@ -1,4 +1,4 @@
--- From the listing in the local buffer to the call's answer and the buffer lent.
+-- From the listing in the local buffer to the call's answer and the caller's buffer.
 use Prim.Native.Nat.{ℕ, _+_, _-_, _≤_, _<_}
 use native.Mathlib.Omega.{arith}
 use native.Mathlib.Nat.{zero-add, pos-of-ne-zero}
@@ -10,11 +10,11 @@ use lib.Dec.{leb, ltb, eqb}
 use borrow.Author.Tests.{lt-ltb, le-ltb, le-leb, lt-leb, leb-true, eqb-false}
 use Rattle.text.specs.Buffer.{written, Puts}
 use Rattle.text.proofs.Writing.{place-fits, written-fits}
-use Rattle.job.specs.Limits.{mostBytes}
+use Rattle.job_refusals.specs.Limits.{mostBytes}
 use Rattle.job.specs.Job.{Outcome, refused, listed, onto, outcome, start, listingOf, jobOf, answerOf, bufferAfter, outputOf}
 use Rattle.job.specs.Job.{printed, settingAfter}
 use Rattle.job_lines.specs.Forms.{readLine}
-use Rattle.job.specs.Refusals.{refusal}
+use Rattle.job_refusals.specs.Refusals.{refusal}
 use Rattle.listing_writer.specs.Listing.{header, endRow, refusedRow}
 use Rattle.job.specs.declared.state.Setting.{Setting}
 use Rattle.text.specs.Scan.{lines}
@@ -80,7 +80,7 @@ answer-within o room r e = omega (arith, ap size e, answer-fits o room)
 
 -- ---- What the listing program prints
 
--- A refusal leaves the buffer and gives the one line of number and line;
+-- A refusal leaves the buffer and gives the one line of code and line;
 pub printed-refused : (o : Outcome) (out : List ℕ) → (answerOf o (length out) .code ≡ 0 → ⊥)
     → (bufferAfter o out ≡ out) × (refusedRow (answerOf o (length out) .code) (answerOf o (length out) .line) ≡ outputOf o (length out))
 unfolding answerOf bufferAfter outputOf
@@ -94,7 +94,7 @@ printed-refused (listed bytes) out z = go (leb (length bytes) (length out)) refl
     go true e = absurd (z (rw (answerOf, e)))
     go false e = rw (bufferAfter, answerOf, outputOf, e) (refl, refl)
 
--- a refused job has a number
+-- a refused job has a code
 abbrev pub Told : Outcome → Type 0
 Told (refused code line) = 0 < code
 Told (listed bytes) = Unit {0}

@@ -1,7 +1,8 @@
 -- A job half way: what the lines so far have left in the state and in the buffer, and what the lines ahead add to it.
-use Prim.Native.Nat.{ℕ, zero, suc, _+_, _-_, _≤_, _<_}
+use Prim.Native.Nat.{ℕ, _+_, _-_, _≤_, _<_}
 use native.Mathlib.Omega.{arith}
-use mathlib.Core.Path.{_≡_, refl, sym, ap, subst, _∙_}
+use native.Mathlib.Nat.{pos-of-ne-zero}
+use mathlib.Core.Path.{_≡_, refl, sym, ap, ap₂, subst, _∙_}
 use mathlib.Core.Bool.{Bool, true, false, cond}
 use mathlib.Core.List.{List, _∷_, _++_, append-assoc}
 use lib.Dec.{ltb, eqb}
@@ -13,16 +14,14 @@ use Rattle.text.specs.Buffer.{written, placeAfter}
 use Rattle.text.proofs.Decimal.{decimal-length}
 use Rattle.text.proofs.Split.{lines-from, end-within, part-line}
 use Rattle.text.proofs.Writing.{written-length, written-take, place-fits}
-use Rattle.job.specs.Limits.{listingRoom}
+use Rattle.job_refusals.specs.Limits.{listingRoom}
 use Rattle.job_lines.specs.Forms.{Form, readLine}
 use Rattle.listing_writer.specs.Listing.{header, endRow}
-use Rattle.job.specs.Refusals.{refusal}
+use Rattle.job_refusals.specs.Refusals.{refusal}
 use Rattle.job.specs.Job.{Outcome, refused, listed, onto, outcome, start, listingOf, settingAfter, printed}
-use Rattle.job.specs.Private.{taken, takenOf, bufferOf, Going, Ended, Wrote}
+use Rattle.job.specs.Private.{refusedState, nextState, acceptedState, acceptedBuffer, takenOf, bufferOf, Going, Ended, Wrote}
 use Rattle.job.specs.declared.state.Setting.{Setting}
 use Rattle.job.specs.declared.state.State.{State}
-use Rattle.job.specs.declared.state.Taken.{Taken}
-use Rattle.job.specs.declared.walk.Walked.{Walked}
 use Rattle.job.proofs.Bounds.{steps}
 use Rattle.listing_writer.proofs.Rows.{header-length, end-length}
 
@@ -53,25 +52,19 @@ module _ (text out : List ℕ) (s : State) (at : ℕ) (g : Going text out s at) 
     x = readLine l
 
     taken-yes : refusal (s .line) x ≡ 0
-        → takenOf s x out ≡ record {
-          code = 0;
-          next = record {
-            line = s .line + 1;
-            used = placeAfter out (s .used) (printed x (s .setting));
-            setting = settingAfter x (s .setting);
-          };
-        }
-    unfolding takenOf taken
+        → takenOf s x out ≡ nextState (s .line) (placeAfter out (s .used) (printed x (s .setting))) (settingAfter x (s .setting))
+    unfolding takenOf acceptedState
     taken-yes e = rw e
 
-    pub going-on : refusal (s .line) x ≡ 0 → Going text (bufferOf s x out) (takenOf s x out .next) next
-    unfolding bufferOf
+    pub going-on : refusal (s .line) x ≡ 0 → Going text (bufferOf s x out) (takenOf s x out) next
+    unfolding bufferOf acceptedBuffer
     going-on e =
         let t = steps (s .line) l (s .setting) (g .steady) e in
         let r : s .used + length (printed x (s .setting)) ≤ length out = omega (arith, t .row, g .used, g .line, g .room) in
         rw (taken-yes e, e, place-fits out (s .used) (printed x (s .setting)) r)
         (record {
-          place = end-within text at h .1;
+          code = refl;
+          within = end-within text at h .1;
           room = written-length out (s .used) (printed x (s .setting)) ∙ g .room;
           line = omega (arith, t .line);
           steady = t .steady;
@@ -98,49 +91,53 @@ module _ (text out : List ℕ) (s : State) (at : ℕ) (g : Going text out s at) 
     pub complete : 3 ≤ s .line → listingOf text ≡ listed (take (s .used) out ++ endRow (s .line - 3))
     complete e = ended ∙ rw (le-ltb (s .line) 3 e)
 
--- the number that is returned is the line's
-taken-code : (s : State) (code used : ℕ) (after : Setting) → taken s code used after .code ≡ code
-unfolding taken
-taken-code s code used after = go (eqb code 0) refl
-  where
-    go : (b : Bool) → eqb code 0 ≡ b
-        → _≡_ {A = ℕ} (cond {A = Taken} b
-        (record { code = 0; next = record { line = s .line + 1; used = used; setting = after } })
-        (record { code = code; next = s }) .code) code
-    go true e = sym (eqb-true code 0 e)
-    go false e = refl
+-- the code that is returned is the line's, and so is the line where it is refused
+module _ (s : State) (x : Form) (out : List ℕ) where
+  taken-code : takenOf s x out .code ≡ refusal (s .line) x
+  unfolding takenOf acceptedState
+  taken-code = go (eqb (refusal (s .line) x) 0) refl
+    where
+      go : (b : Bool) → eqb (refusal (s .line) x) 0 ≡ b
+          → _≡_ {A = ℕ} (cond {A = State} b (acceptedState s x out) (refusedState s (refusal (s .line) x)) .code) (refusal (s .line) x)
+      go true e = sym (eqb-true (refusal (s .line) x) 0 e)
+      go false e = refl
+
+  taken-line : (refusal (s .line) x ≡ 0 → ⊥) → takenOf s x out .line ≡ s .line
+  unfolding takenOf
+  taken-line h = rw (ne-eqb (refusal (s .line) x) 0 h)
 
 -- one round of the loop, on the part of the text from a line's start to its end
-module _ (text out : List ℕ) (s : State) (at end : ℕ) (r : Taken) (out′ : List ℕ)
+module _ (text out : List ℕ) (s : State) (at end : ℕ) (r : State) (out′ : List ℕ)
     (g : Going text out s at) (h : at < length text) (e : end ≡ at + length (firstLine (drop at text)))
     (er : r ≡ takenOf s (readLine (take (end - at) (drop at text))) out)
     (eo : out′ ≡ bufferOf s (readLine (take (end - at) (drop at text))) out) where
-  whole-line : take (end - at) (drop at text) ≡ firstLine (drop at text)
-  whole-line = rw e (part-line text at h)
+  line-part : take (end - at) (drop at text) ≡ firstLine (drop at text)
+  line-part = rw e (part-line text at h)
 
   code : r .code ≡ refusal (s .line) (readLine (firstLine (drop at text)))
-  unfolding takenOf
-  code = ap (λ (t : Taken). t .code) er ∙ taken-code s _ _ _ ∙ ap (λ (l : List ℕ). refusal (s .line) (readLine l)) whole-line
+  code = ap (λ (t : State). t .code) er ∙ taken-code s _ out ∙ ap (λ (l : List ℕ). refusal (s .line) (readLine l)) line-part
 
-  pub line-on : r .code ≡ 0 → Going text out′ (r .next) end
-  line-on z = rw (er, eo, whole-line, e) (going-on text out s at g h (sym code ∙ z))
+  line : (r .code ≡ 0 → ⊥) → r .line ≡ s .line
+  line z = ap (λ (t : State). t .line) er ∙ taken-line s _ out (λ u. z (ap (λ (t : State). t .code) er ∙ taken-code s _ out ∙ u))
 
-  pub line-off : (r .code ≡ 0 → ⊥) → Ended text out′ (record { code = r .code; state = s })
+  pub line-on : r .code ≡ 0 → Going text out′ r end
+  line-on z = rw (er, eo, line-part, e) (going-on text out s at g h (sym code ∙ z))
+
+  pub line-off : (r .code ≡ 0 → ⊥) → Ended text out′ r
   line-off z =
       record {
         yes = λ t. absurd (z t);
-        no = λ t. stopped text out s at g h (λ u. z (code ∙ u)) ∙ ap (λ (n : ℕ). refused n (s .line)) (sym code);
+        no = λ t. stopped text out s at g h (λ u. z (code ∙ u)) ∙ ap₂ refused (sym code) (sym (line z));
       }
 
-pub all-taken : (text out : List ℕ) (s : State) (at : ℕ) → Going text out s at → length text ≤ at → Ended text out
-    (record { code = 0; state = s })
+pub all-taken : (text out : List ℕ) (s : State) (at : ℕ) → Going text out s at → length text ≤ at → Ended text out s
 all-taken text out s at g h =
-    let e : at ≡ length text = omega (arith, g .place) in
-    record { yes = λ t. subst (λ (n : ℕ). Going text out s n) e g; no = λ t. absurd (t refl) }
+    let e : at ≡ length text = omega (arith, g .within) in
+    record { yes = λ t. subst (λ (n : ℕ). Going text out s n) e g; no = λ t. absurd (t (g .code)) }
 
 -- the start: the header is in the buffer
 pub going-start : (text out out′ : List ℕ) (s : State) (used : ℕ) → length out ≡ listingRoom → out′ ≡ written out 0 header → used ≡ placeAfter out 0 header
-    → s ≡ record { line = 1; used = used; setting = start } → Going text out′ s 0
+    → s ≡ record { code = 0; line = 1; used = used; setting = start } → Going text out′ s 0
 unfolding start listingOf
 going-start text out out′ s used room e u f =
     let r : 0 + length header ≤ length out = omega (arith, header-length) in
@@ -149,7 +146,8 @@ going-start text out out′ s used room e u f =
     header r in
     rw (e, f)
     (record {
-      place = omega arith;
+      code = refl;
+      within = omega arith;
       room = written-length out 0 header ∙ room;
       line = omega arith;
       steady = record { sigma-distance = omega arith; sigma-bearing = omega arith };
@@ -181,10 +179,6 @@ module _ (text out : List ℕ) (s : State) (g : Going text out s (length text)) 
         rw (← k, m, f, written-length out (s .used) (endRow (s .line - 3))) end-room,
       )
 
-pub wrote-refused : (text out : List ℕ) (r : Walked) → Ended text out r → (r .code ≡ 0 → ⊥)
-    → Wrote (listingOf text) (record { code = r .code; line = r .state .line; length = 0 }) out
-wrote-refused text out r e h = rw (e .no h) (refl, positive (r .code) h)
-  where
-    positive : (n : ℕ) → (n ≡ 0 → ⊥) → 0 < n
-    positive zero h = absurd (h refl)
-    positive (suc n) h = omega arith
+pub wrote-refused : (text out : List ℕ) (s : State) → Ended text out s → (s .code ≡ 0 → ⊥)
+    → Wrote (listingOf text) (record { code = s .code; line = s .line; length = 0 }) out
+wrote-refused text out s e h = rw (e .no h) (refl, pos-of-ne-zero h)

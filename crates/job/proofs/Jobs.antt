@@ -28,7 +28,7 @@ use Rattle.job_lines.specs.Forms.{
   Printable,
 }
 use Rattle.listing_writer.specs.Listing.{header, endRow}
-use Rattle.job.specs.Refusals.{formless, refusal}
+use Rattle.job_refusals.specs.Refusals.{formless, refusal}
 use Rattle.job.specs.Job.{Outcome, refused, listed, onto, outcome, start, listingOf, settingAfter, printed}
 use Rattle.job.specs.Theorems.{textOf, rows, Accepts}
 use Rattle.job.specs.declared.state.Setting.{Setting}

@@ -1,4 +1,3 @@
-pub mod Refused
 pub mod Names
 pub mod Bounds
 pub mod Going

@@ -10,17 +10,18 @@ use lib.ListN.{length, length-append}
 use borrow.Author.Tests.{eqb-true, eqb-false, le-leb, ltb-false, not-false}
 use Rattle.text.specs.Scan.{lines}
 use Rattle.text.proofs.Decimal.{decimal-length}
-use Rattle.job.specs.Limits.{mostBytes, lastLine, listingRoom, longestListing}
+use Rattle.job_refusals.specs.Limits.{mostBytes, lastLine, listingRoom, longestListing}
 use Rattle.job_lines.specs.Forms.{Form, seeds, sigma, shot, noForm, readLine, printLine}
 use Rattle.listing_writer.specs.Listing.{header, endRow}
-use Rattle.job.specs.Refusals.{formless, misplaced, tooMany, beyond, seedCode, refusal}
+use Rattle.job_refusals.specs.Refusals.{formless, misplaced, tooMany, beyond, seedCode, refusal}
 use Rattle.job.specs.Job.{Outcome, refused, listed, onto, outcome, start, listingOf, jobOf, answerOf, settingAfter, printed}
 use Rattle.job.specs.Theorems.{Theorems, Accepts, textOf, rows, isShot, shots}
 use Rattle.job.specs.Private.{Steady, rowLength}
 use Rattle.job.specs.declared.state.Setting.{Setting}
 use Rattle.listing_writer.proofs.Rows.{header-length, end-length}
-use Rattle.job.proofs.Refused.{seed-not-10}
-use Rattle.job.proofs.Bounds.{steps, accepted-line}
+use Rattle.job_refusals.proofs.Refused.{seed-not-10}
+use Rattle.job_refusals.proofs.Accepted.{accepted-line}
+use Rattle.job.proofs.Bounds.{steps}
 use Rattle.job.proofs.Going.{outcome-yes, outcome-no}
 use Rattle.job.proofs.Answered.{job-short}
 use Rattle.job.proofs.Jobs.{
@@ -99,7 +100,7 @@ longest text bytes e = listing-short text bytes (short-job text bytes e)
 fits : (text bytes : List ℕ) → jobOf text ≡ listed bytes → length bytes ≤ listingRoom
 fits text bytes e = omega (arith, longest text bytes e)
 
--- ---- no line and no record has the number 10
+-- ---- no line and no record has the code 10
 
 refusal-not-10 : (k : ℕ) (x : Form) → refusal k x ≡ 10 → ⊥
 unfolding refusal

@@ -8,10 +8,10 @@ use Rattle.streams.specs.Streams.{seedOf}
 use Rattle.box_muller.specs.Steps.{fractionBits}
 use Rattle.noise.specs.Noise.{pairOf}
 use Rattle.text.specs.Scan.{lines}
-use Rattle.job.specs.Limits.{mostBytes}
+use Rattle.job_refusals.specs.Limits.{mostBytes}
 use Rattle.job_lines.specs.Forms.{Form, seeds, sigma, shot, noForm, readLine}
 use Rattle.listing_writer.specs.Listing.{header, endRow, refusedRow, noisyRow}
-use Rattle.job.specs.Refusals.{refusal}
+use Rattle.job_refusals.specs.Refusals.{refusal}
 use Rattle.job.specs.declared.state.Setting.{Setting}
 use Rattle.job.specs.declared.JobAnswer.{JobAnswer}
 
@@ -32,7 +32,7 @@ printed (shot from to d b) s =
     noisyRow (s .distance) (s .bearing) from to d b (pairOf fractionBits (s .generator) .first) (pairOf fractionBits (s .generator) .second)
 printed noForm s = []
 
--- A job is refused with a number and a line, or listed
+-- A job is refused with a code and a line, or listed
 pub data Outcome : Type 0 where
   refused : ℕ → ℕ → Outcome
   listed : List ℕ → Outcome

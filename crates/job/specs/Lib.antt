@@ -1,5 +1,3 @@
-pub mod Limits
-pub mod Refusals
 pub mod Job
 pub mod Theorems
 pub mod Private

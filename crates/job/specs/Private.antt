@@ -1,5 +1,5 @@
--- What the private functions return, and what they keep.
-use Prim.Native.Nat.{ℕ, _+_, _*_, _/_, _≤_, _<_}
+-- For private functions; no public contract cites these.
+use Prim.Native.Nat.{ℕ, _+_, _*_, _≤_, _<_}
 use mathlib.Core.Path.{_≡_}
 use mathlib.Core.Bool.{cond}
 use mathlib.Core.List.{List}
@@ -9,17 +9,15 @@ use Rattle.text.specs.Limits.{nameLength}
 use Rattle.text.specs.Fields.{partOf}
 use Rattle.text.specs.Scan.{lines}
 use Rattle.text.specs.Buffer.{written, placeAfter}
-use Rattle.job.specs.Limits.{lastLine, listingRoom, mostSigma, mostDistance, mostBearing}
+use Rattle.job_refusals.specs.Limits.{lastLine, listingRoom, mostSigma, mostDistance, mostBearing}
 use Rattle.job_lines.specs.Forms.{Form}
 use Rattle.job_lines.specs.declared.Shot.{Shot as ShotFields}
-use Rattle.job.specs.Refusals.{refusal}
+use Rattle.job_refusals.specs.Refusals.{refusal}
 use Rattle.listing_writer.specs.Listing.{noisyRow}
 use Rattle.job.specs.Job.{Outcome, refused, listed, onto, outcome, listingOf, printed, settingAfter}
-use Rattle.job.specs.declared.shot.Noise.{Noise}
+use Rattle.noise.specs.declared.PairAnswer.{PairAnswer}
 use Rattle.job.specs.declared.state.Setting.{Setting}
 use Rattle.job.specs.declared.state.State.{State}
-use Rattle.job.specs.declared.state.Taken.{Taken}
-use Rattle.job.specs.declared.walk.Walked.{Walked}
 use Rattle.job.specs.declared.JobAnswer.{JobAnswer}
 
 -- ---- What a line does to the state of a job
@@ -34,32 +32,32 @@ pub record Ranged (x : ShotFields) : Type 0 where
   pub distance : x .distance ≤ mostDistance
   pub bearing : x .bearing ≤ mostBearing
 
--- the most that 16 bits hold in size, and the noise that they give
-abbrev pub mostSize : ℕ
-mostSize = 32768
-
-abbrev pub mostNoise : ℕ
-mostNoise = (mostSigma * mostSize + 1024) / 2048
-
 -- the row of a shot of a line, with its noise
-abbrev pub rowOf : List ℕ → ShotFields → Noise → List ℕ
-rowOf line x n = noisyRow (n .distance) (n .bearing) (partOf line (x .from)) (partOf line (x .to)) (x .distance) (x .bearing)
-    (n .first) (n .second)
+abbrev pub rowOf : List ℕ → ShotFields → ℕ → ℕ → PairAnswer → List ℕ
+rowOf line x distance bearing pair =
+    noisyRow distance bearing (partOf line (x .from)) (partOf line (x .to)) (x .distance) (x .bearing) (pair .first) (pair .second)
 
--- accepted, the next line with its setting and the listing's length; refused, the state as it was
-unfoldable pub taken : State → ℕ → ℕ → Setting → Taken
-taken s code used setting =
-    cond (eqb code 0)
-    (record { code = 0; next = record { line = s .line + 1; used = used; setting = setting } })
-    (record { code = code; next = s })
+-- a refused line leaves the state as it was, but for its code
+abbrev pub refusedState : State → ℕ → State
+refusedState s code = record { code = code; line = s .line; used = s .used; setting = s .setting }
 
--- a line that says x: the state after it, and the buffer with what it prints
-unfoldable pub takenOf : State → Form → List ℕ → Taken
-takenOf s x out =
-    taken s (refusal (s .line) x) (placeAfter out (s .used) (printed x (s .setting))) (settingAfter x (s .setting))
+-- after an accepted line k
+abbrev pub nextState : ℕ → ℕ → Setting → State
+nextState k used setting = record { code = 0; line = k + 1; used = used; setting = setting }
+
+-- an accepted line that says x: the state after it, and the buffer with what it prints
+unfoldable pub acceptedState : State → Form → List ℕ → State
+acceptedState s x out = nextState (s .line) (placeAfter out (s .used) (printed x (s .setting))) (settingAfter x (s .setting))
+
+unfoldable pub acceptedBuffer : State → Form → List ℕ → List ℕ
+acceptedBuffer s x out = written out (s .used) (printed x (s .setting))
+
+-- a line that says x, accepted or refused
+unfoldable pub takenOf : State → Form → List ℕ → State
+takenOf s x out = cond (eqb (refusal (s .line) x) 0) (acceptedState s x out) (refusedState s (refusal (s .line) x))
 
 unfoldable pub bufferOf : State → Form → List ℕ → List ℕ
-bufferOf s x out = cond (eqb (refusal (s .line) x) 0) (written out (s .used) (printed x (s .setting))) out
+bufferOf s x out = cond (eqb (refusal (s .line) x) 0) (acceptedBuffer s x out) out
 
 -- ---- A job half way and at its end
 
@@ -69,17 +67,18 @@ rowLength = 2 * nameLength + 7 + 5 + 4
 
 -- the lines before `at` are accepted: what they left in the state and in the buffer, and what the lines ahead add to it
 pub record Going (text out : List ℕ) (s : State) (at : ℕ) : Type 0 where
-  pub place : at ≤ length text
+  pub code : s .code ≡ 0
+  pub within : at ≤ length text
   pub room : length out ≡ listingRoom
   pub line : s .line ≤ lastLine + 1
   pub steady : Steady (s .setting .distance) (s .setting .bearing)
   pub used : s .used + 24 ≤ rowLength * s .line
   pub so-far : listingOf text ≡ onto (take (s .used) out) (outcome (s .line) (s .setting) (lines (drop at text)))
 
--- all lines are accepted, or the first that is not gives number and line
-pub record Ended (text out : List ℕ) (r : Walked) : Type 0 where
-  pub yes : r .code ≡ 0 → Going text out (r .state) (length text)
-  pub no : (r .code ≡ 0 → ⊥) → listingOf text ≡ refused (r .code) (r .state .line)
+-- all lines are accepted, or the first that is not gives code and line
+pub record Ended (text out : List ℕ) (s : State) : Type 0 where
+  pub yes : s .code ≡ 0 → Going text out s (length text)
+  pub no : (s .code ≡ 0 → ⊥) → listingOf text ≡ refused (s .code) (s .line)
 
 -- the refusal, or the listing at the start of the buffer
 abbrev pub Wrote : Outcome → JobAnswer → List ℕ → Type 0

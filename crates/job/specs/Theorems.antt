@@ -4,10 +4,10 @@ use mathlib.Core.Path.{_≡_}
 use mathlib.Core.List.{List, [], _∷_, _++_, map}
 use lib.ListN.{length}
 use Rattle.text.specs.Scan.{lines}
-use Rattle.job.specs.Limits.{mostBytes, listingRoom, longestListing}
+use Rattle.job_refusals.specs.Limits.{mostBytes, listingRoom, longestListing}
 use Rattle.job_lines.specs.Forms.{Form, seeds, sigma, shot, noForm, readLine, printLine, Printable}
 use Rattle.listing_writer.specs.Listing.{header, endRow}
-use Rattle.job.specs.Refusals.{refusal}
+use Rattle.job_refusals.specs.Refusals.{refusal}
 use Rattle.job.specs.Job.{refused, listed, start, jobOf, answerOf, printed, settingAfter}
 use Rattle.job.specs.declared.state.Setting.{Setting}
 
@@ -45,7 +45,7 @@ pub record Theorems : Type 0 where
   pub job-listed : (text bytes : List ℕ) → jobOf text ≡ listed bytes
       → (xs : List Form) × Accepts 1 xs × (2 ≤ length xs) × (textOf xs ≡ text) ×
       (bytes ≡ header ++ (rows start xs ++ endRow (shots xs)))
-  -- the first line that is not accepted gives number and line; a text of accepted lines that ends before line 2 lacks the next
+  -- the first line that is not accepted gives code and line; a text of accepted lines that ends before line 2 lacks the next
   pub first-bad : (text l : List ℕ) (xs : List Form) (ls : List (List ℕ)) → length text ≤ mostBytes → Accepts 1 xs
       → lines text ≡ map printLine xs ++ (l ∷ ls) → (refusal (1 + length xs) (readLine l) ≡ 0 → ⊥)
       → jobOf text ≡ refused (refusal (1 + length xs) (readLine l)) (1 + length xs)

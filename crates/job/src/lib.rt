@@ -1,12 +1,11 @@
 // Jobs and their listings (document 01, "A job and its listing").
-pub mod limits;
 mod shot;
 mod state;
 mod walk;
 
-use crate::limits::LISTING_ROOM;
-use crate::limits::MOST_BYTES;
 use crate::walk::write_listing;
+use job_refusals::limits::LISTING_ROOM;
+use job_refusals::limits::MOST_BYTES;
 use listing_writer::put_refused;
 use text::buffer::put;
 ghost use Prim.Native.Nat.{_≤_};
@@ -15,26 +14,32 @@ ghost use lib.ListN.{length};
 ghost use Rattle.text.specs.Buffer.{Puts};
 ghost use Rattle.job.specs.Job.{jobOf, answerOf, bufferAfter, outputOf};
 
-// The number, 0 where the job is accepted; the line, 0 where no line is at fault; and the listing's length.
+// The refusal code, 0 where the job is accepted; the line, 0 where no line is at fault; and the listing's length.
 pub struct JobAnswer {
     pub code: u32,
     pub line: u32,
     pub length: usize,
 }
 
+fn refused_job(code: u32, line: u32) -> JobAnswer
+    ensures { λ r. ⌜ r ≡ record { code = code; line = line; length = 0 } ⌝ }
+{
+    JobAnswer {
+        code,
+        line,
+        length: 0,
+    }
+}
+
 // Lists a job. The listing is written to a local buffer, which has room for any, and measured there before a byte goes to the
-// buffer lent.
+// caller's buffer.
 pub fn list(text: &[u8], out: &mut [u8]) -> JobAnswer
     ensures { λ r. ⌜ r ≡ answerOf (jobOf (now (text .entry))) (length (now (out .entry))) ⌝ }
     ensures { λ _. ⌜ now (out .exit) ≡ bufferAfter (jobOf (now (text .entry))) (now (out .entry)) ⌝ }
     ensures { λ r. ⌜ r .length ≤ length (now (out .entry)) ⌝ }
 {
     if MOST_BYTES < text.len() {
-        return JobAnswer {
-            code: 5,
-            line: 0,
-            length: 0,
-        };
+        return refused_job(5, 0);
     }
     let mut listing = [0u8; LISTING_ROOM];
     let answer = write_listing(text, &mut listing);
@@ -43,11 +48,7 @@ pub fn list(text: &[u8], out: &mut [u8]) -> JobAnswer
     }
     let n = answer.length;
     if out.len() < n {
-        return JobAnswer {
-            code: 10,
-            line: 0,
-            length: 0,
-        };
+        return refused_job(10, 0);
     }
     put(out, 0, &listing[0..n]);
     answer

@@ -1,5 +1,6 @@
-// A whole job: line after line, and the listing in a buffer that has room for any.
+// All lines of a job, and the listing in a buffer that has room for any.
 use crate::JobAnswer;
+use crate::refused_job;
 use crate::state::Setting;
 use crate::state::State;
 use crate::state::take_line;
@@ -9,19 +10,13 @@ use streams::Generator;
 use text::line::line_end;
 ghost use mathlib.Core.Path.{_≡_};
 ghost use lib.ListN.{length};
-ghost use Rattle.job.specs.Limits.{listingRoom};
+ghost use Rattle.job_refusals.specs.Limits.{listingRoom};
 ghost use Rattle.job.specs.Job.{start, listingOf};
 ghost use Rattle.job.specs.Private.{Going, Ended, Wrote};
 
-// The number of the first line that is refused and the state before it; or 0 and the state after the last line.
-pub struct Walked {
-    pub code: u32,
-    pub state: State,
-}
-
 // Before line 1, with a header of that length.
 fn first_state(used: usize) -> State
-    ensures { λ r. ⌜ r ≡ record { line = 1; used = used; setting = start } ⌝ }
+    ensures { λ r. ⌜ r ≡ record { code = 0; line = 1; used = used; setting = start } ⌝ }
 {
     let seeded = Generator::seed(0, 0, 0, 0, 0, 0);
     let generator = seeded.next;
@@ -31,13 +26,15 @@ fn first_state(used: usize) -> State
         bearing: 0,
     };
     State {
+        code: 0,
         line: 1,
         used,
         setting,
     }
 }
 
-fn walk(text: &[u8], out: &mut [u8], first: State) -> Walked
+// The state after the last line, or at the first that is refused.
+fn walk(text: &[u8], out: &mut [u8], first: State) -> State
     requires { ⌜ Going (now text) (now out) first 0 ⌝ }
     ensures { λ r. ⌜ Ended (now (text .entry)) (now (out .exit)) r ⌝ }
 {
@@ -45,15 +42,13 @@ fn walk(text: &[u8], out: &mut [u8], first: State) -> Walked
     let mut at = 0;
     while at < text.len() {
         let end = line_end(text, at);
-        let t = take_line(&text[at..end], s, out);
-        let code = t.code;
-        if code != 0 {
-            return Walked { code, state: s };
+        s = take_line(&text[at..end], s, out);
+        if s.code != 0 {
+            return s;
         }
-        s = t.next;
         at = end;
     }
-    Walked { code: 0, state: s }
+    s
 }
 
 // The listing, or the refusal of a line.
@@ -63,25 +58,14 @@ pub fn write_listing(text: &[u8], out: &mut [u8]) -> JobAnswer
 {
     let used = put_header(out);
     let first = first_state(used);
-    let walked = walk(text, out, first);
-    let code = walked.code;
-    let s = walked.state;
-    let line = s.line;
-    if code != 0 {
-        return JobAnswer {
-            code,
-            line,
-            length: 0,
-        };
+    let s = walk(text, out, first);
+    if s.code != 0 {
+        return refused_job(s.code, s.line);
     }
-    if line < 3 {
-        return JobAnswer {
-            code: 8,
-            line,
-            length: 0,
-        };
+    if s.line < 3 {
+        return refused_job(8, s.line);
     }
-    let length = put_end(out, s.used, line - 3);
+    let length = put_end(out, s.used, s.line - 3);
     JobAnswer {
         code: 0,
         line: 0,

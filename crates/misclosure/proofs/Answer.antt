@@ -6,16 +6,16 @@ use mathlib.Core.Bool.{false}
 use mathlib.Core.List.{List}
 use lib.IntN.{ℤ}
 use Rattle.sums.specs.Sums.{sine, cosine, rounded}
-use Rattle.sums.proofs.Choices.{level-sums}
+use Rattle.sums.proofs.Choices.{equal-sums}
 use Rattle.misclosure.specs.Misclosure.{Outcome, refused, accepted, listingOf, missOf, roundedEnds, intervalsOf}
 use Rattle.misclosure.specs.Private.{sumsOf, SmallSums}
-use Rattle.misclosure.specs.Theorems.{level}
+use Rattle.misclosure.specs.Theorems.{asIntervals}
 use Rattle.misclosure.specs.declared.Miss.{Miss}
 use Rattle.misclosure.specs.declared.IntervalSums.{IntervalSums}
 use Rattle.misclosure.specs.declared.Ends.{Ends}
 use Rattle.misclosure.specs.declared.walk.Sums.{Sums}
 use Rattle.misclosure.proofs.Machine.{again, reads, rounded-reads}
-use Rattle.misclosure.proofs.Listings.{accepted-level}
+use Rattle.misclosure.proofs.Listings.{accepted-equal}
 
 -- low sums with each rounded
 abbrev answer : Sums → Miss
@@ -44,9 +44,9 @@ low-answer : (text : List ℕ) (o : Outcome) → listingOf false text ≡ o → 
 unfolding missOf
 low-answer text (refused code line) e = refl
 low-answer text (accepted l) e =
-    let h = accepted-level text l e in
+    let h = accepted-equal text l e in
     ap₂ (λ (x y : ℤ). record { code = 0; line = 0; east = x; north = y; easting = rounded x; northing = rounded y })
-    (level-sums sine l h .0) (level-sums cosine l h .0)
+    (equal-sums sine l h .0) (equal-sums cosine l h .0)
 
 all-answers : (o : Outcome) → answers (sumsOf o) ≡ intervalsOf o
 unfolding intervalsOf
@@ -54,16 +54,16 @@ all-answers (refused code line) = refl
 all-answers (accepted l) = refl
 
 -- and both ends are
-pub level-answer : (text : List ℕ) → intervalsOf (listingOf false text) ≡ level (missOf (listingOf false text))
+pub equal-answer : (text : List ℕ) → intervalsOf (listingOf false text) ≡ asIntervals (missOf (listingOf false text))
 unfolding missOf intervalsOf
-level-answer text = go (listingOf false text) refl
+equal-answer text = go (listingOf false text) refl
   where
-    go : (o : Outcome) → listingOf false text ≡ o → intervalsOf o ≡ level (missOf o)
+    go : (o : Outcome) → listingOf false text ≡ o → intervalsOf o ≡ asIntervals (missOf o)
     go (refused code line) e = refl
     go (accepted l) e =
-        let h = accepted-level text l e in
-        let (a, b) = level-sums sine l h in
-        let (c, d) = level-sums cosine l h in
+        let h = accepted-equal text l e in
+        let (a, b) = equal-sums sine l h in
+        let (c, d) = equal-sums cosine l h in
         rw (a, b, c, d) refl
 
 pub miss-is : (text : List ℕ) (r : Sums) (a b : ℤ) → r ≡ sumsOf (listingOf false text) → SmallSums r → a ≡ rounded (again (r .east .low))

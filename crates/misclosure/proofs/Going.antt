@@ -5,7 +5,7 @@ use native.Mathlib.Decide.{decLt}
 use native.Mathlib.Nat.{mul-le-mul-right}
 use mathlib.Core.Path.{_≡_, refl, sym, ap, ap₂, _∙_}
 use mathlib.Core.Bool.{Bool, true, false, cond, false≢true, true≢false}
-use mathlib.Core.List.{List, [], _∷_, _++_, map, append-nil}
+use mathlib.Core.List.{List, [], _∷_, _++_, map, map-append, append-nil}
 use lib.Dec.{ltb, leb}
 use lib.IntN.{ℤ, pos, natAbs}
 use lib.ListN.{length, take, drop, length-append, length-take, drop-of-length-le}
@@ -28,7 +28,7 @@ use Rattle.misclosure.specs.Misclosure.{
   refused,
   accepted,
   onto,
-  none,
+  noLines,
   stationAfter,
   onward,
   outcome,
@@ -81,15 +81,11 @@ unfolding Ranged
 ranged-more [] p h j k = (j, k, tt)
 ranged-more (x ∷ l) p h j k = (h .0, h .1, ranged-more l p (h .2) j k)
 
-shots-more : (f : Span → Shot) (l : List Span) (p : Span) → map f (l ++ (p ∷ [])) ≡ map f l ++ (f p ∷ [])
-shots-more f [] p = refl
-shots-more f (x ∷ l) p = ap (λ (c : List Shot). f x ∷ c) (shots-more f l p)
-
 ends-more : (G : ℕ → ℤ) (l : List Span) (p : Span) → widenedBy (G (p .step)) (p .low) (p .high) (endsOf G l) ≡ endsOf G (l ++ (p ∷ []))
 ends-more G l p =
     ap₂ (λ (x y : ℤ). record { low = x; high = y })
-    (sym (ap (total G) (shots-more (leastShot G) l p) ∙ total-more G (map (leastShot G) l) (leastShot G p)))
-    (sym (ap (total G) (shots-more (greatestShot G) l p) ∙ total-more G (map (greatestShot G) l) (greatestShot G p)))
+    (sym (ap (total G) (map-append (leastShot G) l (p ∷ [])) ∙ total-more G (map (leastShot G) l) (leastShot G p)))
+    (sym (ap (total G) (map-append (greatestShot G) l (p ∷ [])) ∙ total-more G (map (greatestShot G) l) (greatestShot G p)))
 
 -- one line of the definition, accepted or refused
 module _ (b : Bool) (k : ℕ) (station l : List ℕ) (ls : List (List ℕ)) where
@@ -103,12 +99,12 @@ module _ (b : Bool) (k : ℕ) (station l : List ℕ) (ls : List (List ℕ)) wher
   outcome-no h = rw (ne-eqb (refusal k station (readEntry b l)) 0 h, outcome)
 
 -- whether lines are left after a place
-lines-left : (text : List ℕ) (end : ℕ) → end < length text → none (lines (drop end text)) ≡ false
-unfolding none
+lines-left : (text : List ℕ) (end : ℕ) → end < length text → noLines (lines (drop end text)) ≡ false
+unfolding noLines
 lines-left text end h = rw (lines-from text end h)
 
-no-lines-left : (text : List ℕ) (end : ℕ) → length text ≤ end → none (lines (drop end text)) ≡ true
-unfolding none lines
+no-lines-left : (text : List ℕ) (end : ℕ) → length text ≤ end → noLines (lines (drop end text)) ≡ true
+unfolding noLines lines
 no-lines-left text end h = rw (drop-of-length-le text {i = end} h)
 
 -- ---- ranges
@@ -147,7 +143,7 @@ pub going-start : (b : Bool) (text : List ℕ) (first : ℕ) (s : State) → fir
 unfolding ontoAll partOf Ranged total
 going-start b text first s h e same = rw same (record {
   order = omega arith;
-  place = h;
+  within = h;
   done = [];
   line = refl;
   few = omega arith;
@@ -239,7 +235,7 @@ module _ (b : Bool) (text : List ℕ) (s : State) (before at end : ℕ) (r : Tak
               let shot : Span = record { low = low; high = high; step = step } in
               record {
                 order = omega (arith, e);
-                place = omega (arith, e, end-within text at h .1);
+                within = omega (arith, e, end-within text at h .1);
                 done = g .done ++ (shot ∷ []);
                 line = omega (arith, l .line, g .line, length-append (g .done) (shot ∷ []));
                 few = omega (arith, l .line, within);
@@ -255,7 +251,7 @@ module _ (b : Bool) (text : List ℕ) (s : State) (before at end : ℕ) (r : Tak
       pub line-last : r .ended ≡ true → sumsOf (listingOf b text) ≡ endSums s (ltb end (length text))
       line-last f = go (readEntry b row) (sym (t .ended) ∙ f) onward-from
         where
-          more : Dec (end < length text) → sumsOf (ontoAll (g .done) (cond (none (lines (drop end text))) (accepted []) (refused 6 (s .line + 1))))
+          more : Dec (end < length text) → sumsOf (ontoAll (g .done) (cond (noLines (lines (drop end text))) (accepted []) (refused 6 (s .line + 1))))
               ≡ endSums s (ltb end (length text))
           more (yes p) = rw (lines-left text end p, lt-ltb end (length text) p, onto-refused (g .done) 6 (s .line + 1))
           more (no p) =

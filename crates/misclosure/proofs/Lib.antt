@@ -3,5 +3,4 @@ pub mod Lines
 pub mod Going
 pub mod Listings
 pub mod Answer
-pub mod ReadBack
 pub mod Theorems

@@ -73,7 +73,7 @@ pub station-23 : (station from : List ℕ) → follows station from ≡ false �
 unfolding stationCode
 station-23 station from e = rw e
 
--- the number of a shot: its first cause
+-- the code of a shot: its first cause
 module _ (k : ℕ) (station from to : List ℕ) (low high step : ℕ) where
   pub leg-code : cond (eqb (limitCode k low high step) 0)
       (cond (eqb (orderCode low high) 0) (stationCode station from) (orderCode low high))
@@ -143,10 +143,10 @@ module _ (station row : List ℕ) (s : State) where
   pub takes-neither : (t : State) → Takes station row s neither (record { code = 6; ended = false; next = t })
   takes-neither t = record { code = sym (neither-6 (s .line) station); ended = refl; next = λ z. tt }
 
-  -- a shot whose number was worked out on the parts of two lines
-  module _ (x : SpanFields) (t : State) {code first limit order place : ℕ} {a b : List ℕ} (n : code ≡ cond (eqb limit 0) first limit)
-      (f : first ≡ cond (eqb order 0) place order) (l : limit ≡ limitCode (s .line) (x .low) (x .high) (x .step)) (o : order ≡ orderCode (x .low) (x .high))
-      (p : place ≡ stationCode a b) (here : a ≡ station) (there : b ≡ partOf row (x .from)) where
+  -- a shot whose code was worked out on the parts of two lines
+  module _ (x : SpanFields) (t : State) {code first limit order link : ℕ} {a b : List ℕ} (n : code ≡ cond (eqb limit 0) first limit)
+      (f : first ≡ cond (eqb order 0) link order) (l : limit ≡ limitCode (s .line) (x .low) (x .high) (x .step)) (o : order ≡ orderCode (x .low) (x .high))
+      (p : link ≡ stationCode a b) (here : a ≡ station) (there : b ≡ partOf row (x .from)) where
     shot-code : code ≡ refusal (s .line) station (shotSaid row x)
     shot-code = rw (n, f, l, o, p, here, there) (leg-code (s .line) station (partOf row (x .from)) (partOf row (x .to)) (x .low) (x .high) (x .step))
 

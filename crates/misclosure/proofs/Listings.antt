@@ -6,7 +6,7 @@ use mathlib.Core.Path.{_≡_, refl, sym, ap, ap₂, subst, _∙_}
 use mathlib.Core.Bool.{Bool, true, false, cond}
 use mathlib.Core.List.{List, [], _∷_, _++_, append-assoc, append-nil}
 use lib.Dec.{eqb}
-use lib.ListN.{length, length-append}
+use lib.ListN.{length, length-append, length-map}
 use borrow.Author.Tests.{eqb-true, eqb-false}
 use Rattle.text.specs.Limits.{numeralBound}
 use Rattle.text.specs.Fields.{name, decimal}
@@ -19,7 +19,7 @@ use Rattle.text.proofs.Plain.{name-length}
 use Rattle.listing_writer.specs.Listing.{endRow}
 use Rattle.listing_writer.proofs.Rows.{row-length, end-length}
 use Rattle.sums.specs.Sums.{Shot, mostShots, mostDistance}
-use Rattle.sums.specs.Spans.{Span, Chosen, lowShots, Ranged, Level}
+use Rattle.sums.specs.Spans.{Span, Chosen, lowShots, Ranged, EqualReadings}
 use Rattle.listing_reader.specs.Entries.{headerOf, isHeader, rowForm, Said, leg, last, neither, endOf, readEntry, rowOf}
 use Rattle.listing_reader.proofs.RoundTrip.{Alike, row-line, row-read, end-line, end-said, end-read, header-line, header-lengths, header-read, header-is, Printed, entry-printed}
 use Rattle.misclosure.specs.Misclosure.{
@@ -31,14 +31,14 @@ use Rattle.misclosure.specs.Misclosure.{
   refused,
   accepted,
   onto,
-  none,
+  noLines,
   stationAfter,
   onward,
   outcome,
   headed,
   listingOf,
 }
-use Rattle.misclosure.specs.Theorems.{Row, Ordered, spanIn, spansIn, rowText, rowsText, textOf, Linked, LevelRows, chosenRows, longestRow, longestListing}
+use Rattle.misclosure.specs.Theorems.{Row, Ordered, spanIn, spansIn, rowText, rowsText, textOf, LinkedRow, Linked, EqualRows, chosenRows, longestRow, longestListing}
 use Rattle.misclosure.proofs.Lines.{in-range, leg-0, last-0, leg-within, last-count}
 use Rattle.misclosure.proofs.Going.{outcome-yes, outcome-no}
 
@@ -73,7 +73,7 @@ outcome-leg b k station f t m n s rest hf ht few far turn order next =
     ∙ rw (leg-0 k station f t m n s (in-range k m n s few (omega (arith, le, far)) far turn) le next)
 
 pub outcome-end : (b : Bool) (k : ℕ) (station : List ℕ) (n : ℕ) → k ≤ lastLine + 1 → n ≡ k - 2 → outcome b k station (lines (endRow n)) ≡ accepted []
-unfolding none lines
+unfolding noLines lines
 outcome-end b k station n few e =
     let r = end-read n b (omega (arith, e)) in
     ap (λ (l : List ℕ). outcome b k station (lines l)) (sym (append-nil (endRow n)))
@@ -85,9 +85,9 @@ outcome-linked : (b : Bool) (rows : List Row) (k n : ℕ) (station : List ℕ) �
     → outcome b k station (lines (rowsText b rows ++ endRow n)) ≡ accepted (spansIn rows)
 unfolding Linked rowsText
 outcome-linked b [] k n station h low few e = outcome-end b k station n (omega (arith, few)) (omega (arith, e))
-outcome-linked b (r ∷ rows) k n station (hf, ht, far, order, turn, next, h) low few e =
+outcome-linked b (r ∷ rows) k n station (row, h) low few e =
     ap (λ (l : List ℕ). outcome b k station (lines l)) (append-assoc (rowText b r) (rowsText b rows) (endRow n))
-    ∙ outcome-leg b k station (r .from) (r .to) (r .low) (r .high) (r .step) (rowsText b rows ++ endRow n) hf ht (omega (arith, few)) far turn order next
+    ∙ outcome-leg b k station (r .from) (r .to) (r .low) (r .high) (r .step) (rowsText b rows ++ endRow n) (row .from) (row .to) (omega (arith, few)) (row .far) (row .turn) (row .order) (row .next)
     ∙ ap (onto (spanIn r)) (outcome-linked b rows (k + 1) n (r .to) h (omega arith) (omega (arith, few)) (omega (arith, e)))
 
 -- the header before its lines
@@ -122,8 +122,8 @@ record Lists (b : Bool) (k : ℕ) (station : List ℕ) (ls : List (List ℕ)) (l
   shots : spansIn rows ≡ l
 
 end-lists : (b : Bool) (k n : ℕ) (station line : List ℕ) (ls : List (List ℕ)) (l : List Span) → k ≤ lastLine + 1 → n ≡ k - 2 → line ≡ endRow n
-    → cond (none ls) (accepted []) (refused 6 (k + 1)) ≡ accepted l → Lists b k station (line ∷ ls) l
-unfolding none join Linked rowsText
+    → cond (noLines ls) (accepted []) (refused 6 (k + 1)) ≡ accepted l → Lists b k station (line ∷ ls) l
+unfolding noLines join Linked rowsText
 end-lists b k n station line [] l few count e o =
     let i : k + 0 - 2 ≡ n = omega (arith, count) in
     record {
@@ -144,7 +144,7 @@ leg-lists b k station line f t m n s ls l h (hf, ht, hm, hn, hs, alike, printed)
     let i : k + suc (length (r .rows)) - 2 ≡ k + 1 + length (r .rows) - 2 = omega arith in
     record {
       rows = record { from = f; to = t; low = m; high = n; step = s } ∷ r .rows;
-      linked = (hf, ht, far, alike-ordered b m n alike order, turn, next, r .linked);
+      linked = (record { from = hf; to = ht; far = far; order = alike-ordered b m n alike order; turn = turn; next = next }, r .linked);
       few = omega (arith, r .few);
       same = append-assoc (rowOf b f t m n s) (rowsText b (r .rows)) _
           ∙ ap₂ (λ (a b : List ℕ). a ++ b) (sym printed) (ap (λ (n : ℕ). rowsText b (r .rows) ++ endRow n) i ∙ r .same);
@@ -201,32 +201,27 @@ accepted-linked b text l e = by-lines (lines text) refl e
     by-lines [] t e = absurd (refused-not-accepted 6 1 l e)
     by-lines (line ∷ ls) t e = by-header line ls t (isHeader b line) refl e
 
--- ---- its shots are few and not far, and of one distance they are level
+-- ---- its shots are few and not far, and of one distance their readings are equal
 
 linked-ranged : (b : Bool) (rows : List Row) (station : List ℕ) → Linked b station rows → Ranged (spansIn rows)
 unfolding Linked Ranged
 linked-ranged b [] station h = tt
-linked-ranged b (r ∷ rows) station (hf, ht, far, order, turn, next, h) =
-    (ordered-alike b (r .low) (r .high) order .1, far, linked-ranged b rows (r .to) h)
+linked-ranged b (r ∷ rows) station (row, h) = (ordered-alike b (r .low) (r .high) (row .order) .1, row .far, linked-ranged b rows (r .to) h)
 
-linked-level : (rows : List Row) (station : List ℕ) → Linked false station rows → Level (spansIn rows)
-unfolding Linked Level
-linked-level [] station h = tt
-linked-level (r ∷ rows) station (hf, ht, far, order, turn, next, h) = (order, linked-level rows (r .to) h)
-
-spans-length : (rows : List Row) → length (spansIn rows) ≡ length rows
-spans-length [] = refl
-spans-length (r ∷ rows) = ap suc (spans-length rows)
+linked-equal : (rows : List Row) (station : List ℕ) → Linked false station rows → EqualReadings (spansIn rows)
+unfolding Linked EqualReadings
+linked-equal [] station h = tt
+linked-equal (r ∷ rows) station (row, h) = (row .order, linked-equal rows (r .to) h)
 
 pub accepted-ranged : (b : Bool) (text : List ℕ) (l : List Span) → listingOf b text ≡ accepted l → (length l ≤ mostShots) × Ranged l
 accepted-ranged b text l e =
     let (rows, linked, few, t, same) = accepted-linked b text l e in
-    subst (λ (l : List Span). (length l ≤ mostShots) × Ranged l) same (omega (arith, few, spans-length rows), linked-ranged b rows [] linked)
+    subst (λ (l : List Span). (length l ≤ mostShots) × Ranged l) same (omega (arith, few, length-map rows spanIn), linked-ranged b rows [] linked)
 
-pub accepted-level : (text : List ℕ) (l : List Span) → listingOf false text ≡ accepted l → Level l
-accepted-level text l e =
+pub accepted-equal : (text : List ℕ) (l : List Span) → listingOf false text ≡ accepted l → EqualReadings l
+accepted-equal text l e =
     let (rows, linked, few, t, same) = accepted-linked false text l e in
-    subst Level same (linked-level rows [] linked)
+    subst EqualReadings same (linked-equal rows [] linked)
 
 -- ---- its length
 
@@ -235,36 +230,36 @@ span-row-length : (f t : List ℕ) (m n s : ℕ)
 unfolding rowOf rowForm printForm
 span-row-length f t m n s = simp length-append (omega arith)
 
-row-most : (b : Bool) (r : Row) (station : List ℕ) (rows : List Row) → Linked b station (r ∷ rows) → length (rowText b r) ≤ longestRow b
-unfolding Linked rowOf longestRow
-row-most true r station rows (hf, ht, far, order, turn, next, h) =
+row-most : (b : Bool) (r : Row) (station : List ℕ) → LinkedRow b station r → length (rowText b r) ≤ longestRow b
+unfolding rowOf longestRow
+row-most true r station row =
     omega (
       arith,
       span-row-length (r .from) (r .to) (r .low) (r .high) (r .step),
-      name-length (r .from) hf,
-      name-length (r .to) ht,
-      decimal-length 6 (r .low) (omega (arith, far, order)),
-      decimal-length 6 (r .high) (omega (arith, far)),
-      decimal-length 4 (r .step) (omega (arith, turn)),
+      name-length (r .from) (row .from),
+      name-length (r .to) (row .to),
+      decimal-length 6 (r .low) (omega (arith, row .far, row .order)),
+      decimal-length 6 (r .high) (omega (arith, row .far)),
+      decimal-length 4 (r .step) (omega (arith, row .turn)),
     )
-row-most false r station rows (hf, ht, far, order, turn, next, h) =
+row-most false r station row =
     omega (
       arith,
       row-length (r .from) (r .to) (r .low) (r .step),
-      name-length (r .from) hf,
-      name-length (r .to) ht,
-      decimal-length 6 (r .low) (omega (arith, far, order)),
-      decimal-length 4 (r .step) (omega (arith, turn)),
+      name-length (r .from) (row .from),
+      name-length (r .to) (row .to),
+      decimal-length 6 (r .low) (omega (arith, row .far, row .order)),
+      decimal-length 4 (r .step) (omega (arith, row .turn)),
     )
 
 rows-most : (b : Bool) (rows : List Row) (station : List ℕ) → Linked b station rows → length (rowsText b rows) ≤ longestRow b * length rows
 unfolding Linked rowsText
 rows-most b [] station h = omega arith
-rows-most b (r ∷ rows) station (hf, ht, far, order, turn, next, h) =
+rows-most b (r ∷ rows) station (row, h) =
     omega (
       arith,
       length-append (rowText b r) (rowsText b rows),
-      row-most b r station rows (hf, ht, far, order, turn, next, h),
+      row-most b r station row,
       rows-most b rows (r .to) h,
     )
 
@@ -294,22 +289,19 @@ accepted-longest b text l e =
 pub linked-first : (b : Bool) (first second : List Row) (station : List ℕ) → Linked b station (first ++ second) → Linked b station first
 unfolding Linked
 linked-first b [] second station h = tt
-linked-first b (r ∷ first) second station (hf, ht, far, order, turn, next, h) = (hf, ht, far, order, turn, next, linked-first b first second (r .to) h)
+linked-first b (r ∷ first) second station (row, h) = (row, linked-first b first second (r .to) h)
 
 -- any station will do for a first shot
 linked-anew : (b : Bool) (rows : List Row) (station : List ℕ) → Linked b station rows → Linked b [] rows
 unfolding Linked follows isEmpty
 linked-anew b [] station h = tt
-linked-anew b (r ∷ rows) station (hf, ht, far, order, turn, next, h) = (hf, ht, far, order, turn, refl, h)
+linked-anew b (r ∷ rows) station (row, h) =
+    (record { from = row .from; to = row .to; far = row .far; order = row .order; turn = row .turn; next = refl }, h)
 
 pub linked-second : (b : Bool) (first second : List Row) (station : List ℕ) → Linked b station (first ++ second) → Linked b [] second
 unfolding Linked
 linked-second b [] second station h = linked-anew b second station h
-linked-second b (r ∷ first) second station (hf, ht, far, order, turn, next, h) = linked-second b first second (r .to) h
-
-pub spans-joined : (first second : List Row) → spansIn (first ++ second) ≡ spansIn first ++ spansIn second
-spans-joined [] second = refl
-spans-joined (r ∷ first) second = ap (λ (l : List Span). spanIn r ∷ l) (spans-joined first second)
+linked-second b (r ∷ first) second station (row, h) = linked-second b first second (r .to) h
 
 -- ---- one listing of either kind, where low equals high throughout
 
@@ -329,25 +321,25 @@ module _ (k n : ℕ) (station : List ℕ) where
   outcome-last : outcome true k station (lines (endRow n)) ≡ outcome false k station (lines (endRow n))
   outcome-last = last-read true ∙ sym (last-read false)
 
-outcome-level : (rows : List Row) → LevelRows rows → (k n : ℕ) (station : List ℕ)
+outcome-equal : (rows : List Row) → EqualRows rows → (k n : ℕ) (station : List ℕ)
     → outcome true k station (lines (rowsText true rows ++ endRow n)) ≡ outcome false k station (lines (rowsText false rows ++ endRow n))
-unfolding LevelRows rowsText
-outcome-level [] h k n station = outcome-last k n station
-outcome-level (r ∷ rows) (hf, ht, hd, hs, same, h) k n station =
+unfolding EqualRows rowsText
+outcome-equal [] h k n station = outcome-last k n station
+outcome-equal (r ∷ rows) (hf, ht, hd, hs, same, h) k n station =
     let far : r .high < numeralBound = omega (arith, hd, same) in
     let by : (b : Bool) → Alike b (r .low) (r .high) → outcome b k station (lines (rowsText b (r ∷ rows) ++ endRow n)) ≡ _ =
     λ b alike. ap (λ (l : List ℕ). outcome b k station (lines l)) (append-assoc (rowText b r) (rowsText b rows) (endRow n))
     ∙ outcome-row b k station (r .from) (r .to) (r .low) (r .high) (r .step) (rowsText b rows ++ endRow n) hf ht hd far hs alike in
     by true tt
     ∙ ap (λ (o : Outcome). cond (eqb (refusal k station (leg (r .from) (r .to) (r .low) (r .high) (r .step))) 0) (onto (spanIn r) o)
-    (refused (refusal k station (leg (r .from) (r .to) (r .low) (r .high) (r .step))) k)) (outcome-level rows h (k + 1) n (r .to))
+    (refused (refusal k station (leg (r .from) (r .to) (r .low) (r .high) (r .step))) k)) (outcome-equal rows h (k + 1) n (r .to))
     ∙ sym (by false same)
 
-pub level-outcome : (rows : List Row) → LevelRows rows → listingOf true (textOf true rows) ≡ listingOf false (textOf false rows)
+pub equal-outcome : (rows : List Row) → EqualRows rows → listingOf true (textOf true rows) ≡ listingOf false (textOf false rows)
 unfolding textOf
-level-outcome rows h =
+equal-outcome rows h =
     listing-headed true (rowsText true rows ++ endRow (length rows))
-    ∙ outcome-level rows h 2 (length rows) []
+    ∙ outcome-equal rows h 2 (length rows) []
     ∙ sym (listing-headed false (rowsText false rows ++ endRow (length rows)))
 
 -- ---- a choice as a listing of one distance each
@@ -358,9 +350,9 @@ unfolding Linked Chosen chosenRows
 chosen-linked [] [] station h e = (tt, refl, refl)
 chosen-linked [] (s ∷ c) station h e = absurd e
 chosen-linked (r ∷ rows) [] station h e = absurd e
-chosen-linked (r ∷ rows) (s ∷ c) station (hf, ht, far, order, turn, next, h) (low, high, same, e) =
+chosen-linked (r ∷ rows) (s ∷ c) station (row, h) (low, high, same, e) =
     let (linked, few, shots) = chosen-linked rows c (r .to) h e in (
-      (hf, ht, omega (arith, high, far), refl, turn, next, linked),
+      (record { from = row .from; to = row .to; far = omega (arith, high, row .far); order = refl; turn = row .turn; next = row .next }, linked),
       ap suc few,
       ap₂ (λ (d : ℕ) (l : List Shot). record { distance = s .distance; step = d } ∷ l) (sym same) shots,
     )

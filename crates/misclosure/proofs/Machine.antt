@@ -9,21 +9,21 @@ use lib.IntN.{ℤ, pos, negsuc, negℤ, natAbs, _+ℤ_, _-ℤ_, _*ℤ_}
 use lib.Signed.{nonNeg, ltZ, quotZ}
 use mir.Syntax.{w64}
 use mir.Val.{SFits, toZ, ofZ}
-use mir.Facts.{toZ-pos, toZ-ofZ}
+use mir.Facts.{toZ-pos}
 use Rattle.angle.specs.Steps.{signedOf}
 use Rattle.angle.proofs.Ranges.{signed-range}
-use Rattle.angle.proofs.Signs.{natAbs-neg, size-fits}
+use Rattle.signs.proofs.Sizes.{natAbs-neg, sum-size, product-size, size-fits, size-reads}
 use Rattle.sums.specs.Sums.{sine, cosine, mostDistance, rounded}
 use Rattle.misclosure.specs.Private.{widenedBy}
 use Rattle.misclosure.specs.declared.Ends.{Ends}
-use Rattle.sums.proofs.Parts.{sum-size, times-size, rounded-size}
+use Rattle.sums.proofs.Parts.{rounded-size}
 
 -- a number as the machine reads it back
 abbrev pub again : ℤ → ℤ
 again z = toZ w64 (ofZ w64 z)
 
 pub reads : (z : ℤ) → natAbs z < 2 ^ 63 → again z ≡ z
-reads z h = toZ-ofZ (size-fits w64 z h)
+reads = size-reads w64
 
 pub read-small : (z : ℤ) (n : ℕ) → natAbs z < n → n ≤ 2 ^ 63 → natAbs (again z) < n
 read-small z n h k = rw (reads z (omega arith)) h
@@ -42,7 +42,7 @@ module _ {x y : ℤ} (v : ℕ) (e : (x, y) ≡ signedOf v) where
 -- a distance times a sine or a cosine, added to a sum
 module _ (sum : ℤ) (d : ℕ) (f : ℤ) (room : natAbs sum < 2 ^ 62) (far : d ≤ mostDistance) (unit : natAbs f ≤ 2 ^ 30) where
   product-small : natAbs (pos d *ℤ f) ≤ mostDistance * 2 ^ 30
-  product-small = rw (times-size d f) (mul-le-mul far unit)
+  product-small = rw (product-size (pos d) f) (mul-le-mul far unit)
 
   product-is : toZ w64 d *ℤ again f ≡ pos d *ℤ f
   product-is =

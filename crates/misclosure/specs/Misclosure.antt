@@ -32,14 +32,14 @@ beyond k low high step = ltb lastLine k || (ltb mostDistance low || (ltb mostDis
 unfoldable pub follows : List ℕ → List ℕ → Bool
 follows station from = isEmpty station || same station from
 
--- the number of line k, "6, 24, 23", or 0 where it is accepted: a line that says neither, a false count (the shots are the lines before but the
+-- the refusal code of line k, "6, 24, 23", or 0 where it is accepted: a line that says neither, a false count (the shots are the lines before but the
 -- header), a shot beyond its limits, "a shot that doesn't start at the last station"; "25: low above high; after 24 .. and before 23"
 unfoldable pub refusal : ℕ → List ℕ → Said → ℕ
 refusal k station (leg from to low high step) = cond (beyond k low high step) 24 (cond (ltb high low) 25 (cond (follows station from) 0 23))
 refusal k station (last count) = cond (eqb count (k - 2)) 0 6
 refusal k station neither = 6
 
--- A listing is refused with a number and a line, or gives its shots
+-- A listing is refused with a code and a line, or gives its shots
 pub data Outcome : Type 0 where
   refused : ℕ → ℕ → Outcome
   accepted : List Span → Outcome
@@ -48,9 +48,9 @@ abbrev pub onto : Span → Outcome → Outcome
 onto s (refused code line) = refused code line
 onto s (accepted l) = accepted (s ∷ l)
 
-unfoldable pub none : List (List ℕ) → Bool
-none [] = true
-none (l ∷ ls) = false
+unfoldable pub noLines : List (List ℕ) → Bool
+noLines [] = true
+noLines (l ∷ ls) = false
 
 -- the station that a line leads to
 abbrev pub stationAfter : Said → List ℕ
@@ -61,7 +61,7 @@ stationAfter neither = []
 -- what an accepted line k leads to: its shot and the rest, or the end, which nothing follows
 abbrev pub onward : ℕ → Said → List (List ℕ) → Outcome → Outcome
 onward k (leg from to low high step) ls rest = onto (record { low = low; high = high; step = step }) rest
-onward k (last count) ls rest = cond (none ls) (accepted []) (refused 6 (k + 1))
+onward k (last count) ls rest = cond (noLines ls) (accepted []) (refused 6 (k + 1))
 onward k neither ls rest = refused 6 k
 
 -- The lines from line k on, after a station, of either kind of listing. "a missing one" is told at the next line

@@ -1,4 +1,4 @@
--- What the private functions return, and what they keep.
+-- For private functions; no public contract cites these.
 use Prim.Native.Nat.{ℕ, _+_, _-_, _*_, _^_, _≤_, _<_}
 use mathlib.Core.Path.{_≡_}
 use mathlib.Core.Bool.{Bool, true, false, cond}
@@ -110,7 +110,7 @@ ontoAll (p ∷ l) o = onto p (ontoAll l o)
 -- the lines before `at` are accepted: the shots that they gave, their sums, and what the lines ahead add
 pub record Going (between : Bool) (text : List ℕ) (s : State) (before at : ℕ) : Type 0 where
   pub order : before ≤ at
-  pub place : at ≤ length text
+  pub within : at ≤ length text
   pub done : List Span
   pub line : s .line ≡ length done + 2
   pub few : s .line ≤ lastLine + 1

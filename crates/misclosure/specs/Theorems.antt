@@ -7,11 +7,8 @@ use lib.IntN.{pos, _+ℤ_}
 use lib.ListN.{length}
 use Rattle.text.specs.Limits.{numeralBound}
 use Rattle.text.specs.Fields.{name}
-use Rattle.text.specs.Scan.{lines}
-use Rattle.job_lines.specs.Forms.{Form, seeds, sigma, shot, noForm, readLine}
 use Rattle.listing_writer.specs.Listing.{endRow}
 use Rattle.listing_reader.specs.Entries.{headerOf, rowOf}
-use Rattle.job.specs.Job.{listed, jobOf}
 use Rattle.sums.specs.Sums.{Shot, sine, cosine, total, rounded, mostShots, mostDistance}
 use Rattle.sums.specs.Exact.{exactSine, exactCosine, Close}
 use Rattle.sums.specs.Spans.{Span, Chosen, lowShots, Spans}
@@ -51,18 +48,25 @@ abbrev pub Ordered : Bool → ℕ → ℕ → Type 0
 Ordered false low high = low ≡ high
 Ordered true low high = low ≤ high
 
--- names and numbers in their ranges, and each shot starts where the one before ended, the first at the station given
+-- names and numbers in their ranges, and a start at the station given
+pub record LinkedRow (between : Bool) (station : List ℕ) (r : Row) : Type 0 where
+  pub from : name (r .from) ≡ true
+  pub to : name (r .to) ≡ true
+  pub far : r .high ≤ mostDistance
+  pub order : Ordered between (r .low) (r .high)
+  pub turn : r .step ≤ mostStep
+  pub next : follows station (r .from) ≡ true
+
+-- each shot starts where the one before ended, the first at the station given
 unfoldable pub Linked : Bool → List ℕ → List Row → Type 0
 Linked between station [] = Unit {0}
-Linked between station (r ∷ rows) =
-    (name (r .from) ≡ true) × (name (r .to) ≡ true) × (r .high ≤ mostDistance) × Ordered between (r .low) (r .high) × (r .step ≤ mostStep)
-    × (follows station (r .from) ≡ true) × Linked between (r .to) rows
+Linked between station (r ∷ rows) = LinkedRow between station r × Linked between (r .to) rows
 
 -- names and numbers of their form, and low equals high: shots that either kind of listing can hold, whether or not it is accepted
-unfoldable pub LevelRows : List Row → Type 0
-LevelRows [] = Unit {0}
-LevelRows (r ∷ rows) =
-    (name (r .from) ≡ true) × (name (r .to) ≡ true) × (r .low < numeralBound) × (r .step < numeralBound) × (r .low ≡ r .high) × LevelRows rows
+unfoldable pub EqualRows : List Row → Type 0
+EqualRows [] = Unit {0}
+EqualRows (r ∷ rows) =
+    (name (r .from) ≡ true) × (name (r .to) ≡ true) × (r .low < numeralBound) × (r .step < numeralBound) × (r .low ≡ r .high) × EqualRows rows
 
 -- the same shots, each with the distance that was chosen for it
 unfoldable pub chosenRows : List Row → List Shot → List Row
@@ -70,14 +74,6 @@ chosenRows [] c = []
 chosenRows (r ∷ rows) [] = []
 chosenRows (r ∷ rows) (s ∷ c) =
     record { from = r .from; to = r .to; low = s .distance; high = s .distance; step = r .step } ∷ chosenRows rows c
-
--- the shots of a job follow each other
-unfoldable pub Following : List ℕ → List Form → Type 0
-Following station [] = Unit {0}
-Following station (shot from to d b ∷ xs) = (follows station from ≡ true) × Following to xs
-Following station (seeds a0 a1 a2 b0 b1 b2 ∷ xs) = Following station xs
-Following station (sigma d b ∷ xs) = Following station xs
-Following station (noForm ∷ xs) = Following station xs
 
 -- the most bytes of a shot's row, and of an accepted listing: the header, a row for each shot, and the last row
 unfoldable pub longestRow : Bool → ℕ
@@ -96,8 +92,8 @@ abbrev pub intervalsIn : List Row → IntervalSums
 intervalsIn rows = intervalsOf (listingOf true (textOf true rows))
 
 -- an answer of Job 13 as one of Job 14: each sum is the lowest and the highest
-abbrev pub level : Miss → IntervalSums
-level m = record {
+abbrev pub asIntervals : Miss → IntervalSums
+asIntervals m = record {
   code = m .code;
   line = m .line;
   east = bothEnds (m .east);
@@ -129,9 +125,6 @@ pub record Theorems : Type 0 where
   pub joined : (first second : List Row) → Linked false [] (first ++ second) → length (first ++ second) ≤ mostShots
       → (missIn (first ++ second) .east ≡ missIn first .east +ℤ missIn second .east)
       × (missIn (first ++ second) .north ≡ missIn first .north +ℤ missIn second .north)
-  -- a listing of the listing call whose shots follow each other is read back
-  pub read-back : (text bytes : List ℕ) → jobOf text ≡ listed bytes → Following [] (map readLine (lines text))
-      → (l : List Span) × (listingOf false bytes ≡ accepted l)
   -- Job 14: "Every choice lies between, and each end is met by some choice", and each end, rounded, is less than 3 mm from that choice's exact sum
   pub spans : (text : List ℕ) (l : List Span) → listingOf true text ≡ accepted l
       → Spans sine exactSine l (intervalsOf (listingOf true text) .east .low) (intervalsOf (listingOf true text) .east .high)
@@ -148,8 +141,8 @@ pub record Theorems : Type 0 where
         easting = rounded (total sine c);
         northing = rounded (total cosine c);
       }
-  -- "Where low equals high throughout, it is Job 13's result": number and line too, where it is refused
-  pub level-listing : (rows : List Row) → LevelRows rows → intervalsIn rows ≡ level (missIn rows)
+  -- "Where low equals high throughout, it is Job 13's result": code and line too, where it is refused
+  pub equal-readings : (rows : List Row) → EqualRows rows → intervalsIn rows ≡ asIntervals (missIn rows)
   -- joined runs
   pub intervals-joined : (first second : List Row) → Linked true [] (first ++ second) → length (first ++ second) ≤ mostShots
       → (intervalsIn (first ++ second) .east ≡ intervalsIn first .east +ᵉ intervalsIn second .east)

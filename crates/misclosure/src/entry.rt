@@ -26,7 +26,7 @@ pub struct State {
     pub north: Ends,
 }
 
-// The number of a line, 0 where it is accepted; whether it is the end; and after an accepted shot the state.
+// The refusal code of a line, 0 where it is accepted; whether it is the end; and after an accepted shot the state.
 pub struct Taken {
     pub code: u32,
     pub ended: bool,
@@ -75,7 +75,7 @@ fn station_code(station: &[u8], from: &[u8]) -> u32
     23
 }
 
-// The first of two numbers that is not 0.
+// The first of two codes that is not 0.
 fn first_of(first: u32, second: u32) -> u32
     ensures { λ r. ⌜ r ≡ cond (eqb first 0) second first ⌝ }
 {
@@ -122,8 +122,8 @@ fn on_shot(previous: &[u8], line: &[u8], x: Span, s: State) -> Taken
     let from = x.from;
     let limit = limit_code(s.line, x);
     let order = order_code(x);
-    let place = station_code(part(previous, station), part(line, from));
-    let code = first_of(limit, first_of(order, place));
+    let link = station_code(part(previous, station), part(line, from));
+    let code = first_of(limit, first_of(order, link));
     if code != 0 {
         return refused_line(code, s);
     }

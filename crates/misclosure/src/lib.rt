@@ -14,7 +14,7 @@ ghost use mathlib.Core.Path.{_≡_};
 ghost use mathlib.Core.Bool.{true, false};
 ghost use Rattle.misclosure.specs.Misclosure.{listingOf, missOf, intervalsOf, isBetween};
 
-// The number, 0 where the listing is accepted; the line, 0 where no line is at fault; east and north at 2^30, and each in whole
+// The refusal code, 0 where the listing is accepted; the line, 0 where no line is at fault; east and north at 2^30, and each in whole
 // millimetres.
 pub struct Miss {
     pub code: u32,

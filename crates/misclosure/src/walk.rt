@@ -1,4 +1,4 @@
-// A whole listing of either kind: the header, line after line, the end.
+// All lines of a listing of either kind: the header, line after line, the end.
 use crate::Ends;
 use crate::entry::State;
 use crate::entry::take_line;
@@ -13,7 +13,7 @@ ghost use Rattle.text.specs.Scan.{lines};
 ghost use Rattle.misclosure.specs.Misclosure.{lastLine, listingOf, outcome};
 ghost use Rattle.misclosure.specs.Private.{sumsOf, SmallSums, refusedSums, endSums};
 
-// The number and the line as in a Miss, and the sums at 2^30.
+// The code and the line as in a Miss, and the sums at 2^30.
 pub struct Sums {
     pub code: u32,
     pub line: u32,

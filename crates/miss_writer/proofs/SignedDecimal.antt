@@ -10,7 +10,7 @@ use lib.Signed.{ltZ}
 use mir.Syntax.{w64}
 use mir.Val.{SFits}
 use mir.Facts.{toZ-ofZ}
-use Rattle.angle.proofs.Signs.{natAbs-neg, size-fits}
+use Rattle.signs.proofs.Sizes.{natAbs-neg, size-fits}
 use Rattle.text.specs.Ascii.{ascii}
 use Rattle.text.specs.Fields.{decimal}
 use Rattle.misclosure.proofs.Machine.{again, reads}

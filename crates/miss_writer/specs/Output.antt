@@ -1,5 +1,5 @@
 -- What the program misses prints, in whole millimetres: `EAST e` and `NORTH n`, a line each; where distances lie between two readings, `EAST low high` and
--- `NORTH low high`; or `REFUSED number line`.
+-- `NORTH low high`; or `REFUSED code line`.
 use Prim.Native.Nat.{ℕ, suc}
 use mathlib.Core.Bool.{true, false, cond}
 use mathlib.Core.List.{List, [], _∷_, _++_}

@@ -12,7 +12,7 @@ use lib.Signed.{nonNeg, _≤ℤ_, leZ-yes}
 use Rattle.exact.specs.Pair.{Enclosure, above, below}
 use Rattle.sums.specs.Sums.{Shot, sine, cosine, total, rounded, mostShots, Bounded, Allowed}
 use Rattle.sums.specs.Exact.{Near, exactSine, exactCosine}
-use Rattle.sums.specs.Spans.{Span, Chosen, lowShots, leastShot, greatestShot, lowestTotal, highestTotal, Ranged, Level, Met, Spans}
+use Rattle.sums.specs.Spans.{Span, Chosen, lowShots, leastShot, greatestShot, lowestTotal, highestTotal, Ranged, EqualReadings, Met, Spans}
 use Rattle.sums.proofs.Parts.{neg-parts, product-parts}
 use Rattle.sums.proofs.Nearness.{close-within}
 
@@ -106,7 +106,7 @@ module _ (G : ℕ → ℤ) where
       let met : (c : List Shot) → Chosen l c → Met G E l (total G c) (rounded (total G c)) =
       λ c h.
       let (n, close) = near c (choice-allowed l c few r h) in
-      record { choice = c; chosen = h; sum = refl; whole = refl; bits = n; near = close } in
+      record { choice = c; chosen = h; sum = refl; millimetres = refl; bits = n; near = close } in
       record {
         between = λ c h.
             let (low, high) = between l c h in (
@@ -133,13 +133,13 @@ cond-same : (t : Bool) (a b : ℕ) → a ≡ b → (cond t a b ≡ a) × (cond t
 cond-same true a b e = (refl, sym e)
 cond-same false a b e = (sym e, refl)
 
-level-shots : (G : ℕ → ℤ) (l : List Span) → Level l → (map (leastShot G) l ≡ lowShots l) × (map (greatestShot G) l ≡ lowShots l)
-unfolding Level
-level-shots G [] h = (refl, refl)
-level-shots G (p ∷ l) (e, h) =
+equal-shots : (G : ℕ → ℤ) (l : List Span) → EqualReadings l → (map (leastShot G) l ≡ lowShots l) × (map (greatestShot G) l ≡ lowShots l)
+unfolding EqualReadings
+equal-shots G [] h = (refl, refl)
+equal-shots G (p ∷ l) (e, h) =
     let (a, b) = cond-same (nonNeg (G (p .step))) (p .low) (p .high) e in
-    let (c, d) = level-shots G l h in
+    let (c, d) = equal-shots G l h in
     rw (a, b, c, d) (refl, refl)
 
-pub level-sums : (G : ℕ → ℤ) (l : List Span) → Level l → (lowestTotal G l ≡ total G (lowShots l)) × (highestTotal G l ≡ total G (lowShots l))
-level-sums G l h = (ap (total G) (level-shots G l h .0), ap (total G) (level-shots G l h .1))
+pub equal-sums : (G : ℕ → ℤ) (l : List Span) → EqualReadings l → (lowestTotal G l ≡ total G (lowShots l)) × (highestTotal G l ≡ total G (lowShots l))
+equal-sums G l h = (ap (total G) (equal-shots G l h .0), ap (total G) (equal-shots G l h .1))

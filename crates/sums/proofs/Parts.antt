@@ -6,7 +6,7 @@ use native.Mathlib.Omega.{arith}
 use lib.Dec.{T, ltb, ltb→lt, nltb→le}
 use lib.IntN.{ℤ, pos, negsuc, negℤ, natAbs, subℕ, _+ℤ_, _*ℤ_}
 use Rattle.exact.specs.Pair.{above, below}
-use Rattle.angle.proofs.Signs.{natAbs-neg}
+use Rattle.signs.proofs.Sizes.{natAbs-neg}
 use Rattle.sums.specs.Sums.{rounded}
 
 sub-parts : (a b : ℕ) → above (subℕ a b) + b ≡ below (subℕ a b) + a
@@ -47,23 +47,6 @@ rounded-parts (pos n) = omega arith
 rounded-parts (negsuc n) = omega (arith, neg-parts ((suc n + 2 ^ 29) / 2 ^ 30))
 
 -- ---- sizes
-
-sub-size : (a b : ℕ) → natAbs (subℕ a (suc b)) ≤ a + suc b
-sub-size a b = go (ltb a (suc b))
-  where
-    go : (t : Bool) → natAbs (cond t (negsuc (suc b - suc a)) (pos (a - suc b))) ≤ a + suc b
-    go true = omega arith
-    go false = omega arith
-
-pub sum-size : (x y : ℤ) → natAbs (x +ℤ y) ≤ natAbs x + natAbs y
-sum-size (pos a) (pos b) = omega arith
-sum-size (pos a) (negsuc b) = sub-size a b
-sum-size (negsuc a) (pos b) = omega (arith, sub-size b a)
-sum-size (negsuc a) (negsuc b) = omega arith
-
-pub times-size : (d : ℕ) (x : ℤ) → natAbs (pos d *ℤ x) ≡ d * natAbs x
-times-size d (pos a) = refl
-times-size d (negsuc a) = natAbs-neg (pos (d * suc a))
 
 pub rounded-size : (z : ℤ) → natAbs (rounded z) ≤ natAbs z + 1
 rounded-size (pos n) = omega arith

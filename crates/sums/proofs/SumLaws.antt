@@ -13,7 +13,7 @@ use Rattle.sums.specs.Points.{Point, _≤ᵖ_, _<ᵖ_, _+ᵖ_, _·ᵖ_, 
 use Rattle.sums.specs.Sums.{Shot, product, total}
 use Rattle.sums.specs.Exact.{sumOf, lowEnd, highEnd, exactSine, exactCosine}
 use Rattle.sums.proofs.PointLaws.{≤ᵖ-trans, ≤ᵖ-<ᵖ-trans, +ᵖ-mono, ·ᵖ-mono}
-use Rattle.sums.proofs.Parts.{sum-size, times-size}
+use Rattle.signs.proofs.Sizes.{sum-size, product-size}
 
 ruleset expand = (add-mul, mul-add, mul-assoc, mul-comm, mul-left-comm)
 
@@ -40,7 +40,7 @@ total-size G K h [] = omega arith
 total-size G K h (s ∷ l) =
     let x = G (s .step) in
     let d = s .distance in
-    omega (arith, sum-size (pos d *ℤ x) (total G l), times-size d x, mul-le-mul-left d (h (s .step)), total-size G K h l)
+    omega (arith, sum-size (pos d *ℤ x) (total G l), product-size (pos d) x, mul-le-mul-left d (h (s .step)), total-size G K h l)
 
 -- ---- any two enclosures overlap
 

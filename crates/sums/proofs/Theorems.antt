@@ -11,7 +11,7 @@ use Rattle.sums.specs.Sums.{Shot, sine, cosine, total}
 use Rattle.sums.specs.Theorems.{Theorems, halfTurned}
 use Rattle.sums.proofs.SumLaws.{sum-mono, total-joined, sums-overlap, sums-narrow}
 use Rattle.sums.proofs.Nearness.{close-within}
-use Rattle.sums.proofs.Choices.{spans, level-sums}
+use Rattle.sums.proofs.Choices.{spans, equal-sums}
 
 -- two quarter turns change both signs
 half-signed : (v : ℕ) → v < 65536 → signedOf ((v + 32768) % 65536) ≡ (negℤ (signedOf v .0), negℤ (signedOf v .1))
@@ -36,16 +36,16 @@ cancel G s e =
 pub theorems : Theorems
 unfolding total
 theorems = record {
-  close = close-within 3 (omega arith);
-  closer = close-within 2 (omega arith);
+  close = close-within _ (omega arith);
+  closer = close-within _ (omega arith);
   points = λ E P h l. (sum-mono _ P (λ v. h v .0) l, sum-mono P _ (λ v. h v .1) l);
   overlap = sums-overlap;
   narrow = sums-narrow;
-  none = λ G. (refl, refl);
+  no-shots = λ G. (refl, refl);
   joined = total-joined;
   half-turn = λ s h.
       let e = half-signed (s .step) h in
       (cancel sine s (ap (λ (p : ℤ × ℤ). p .0) e), cancel cosine s (ap (λ (p : ℤ × ℤ). p .1) e));
   spans = spans;
-  level = level-sums;
+  equal-readings = equal-sums;
 }

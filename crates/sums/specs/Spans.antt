@@ -49,16 +49,16 @@ Ranged [] = Unit {0}
 Ranged (p ∷ l) = (p .low ≤ p .high) × (p .high ≤ mostDistance) × Ranged l
 
 -- low equals high throughout
-unfoldable pub Level : List Span → Type 0
-Level [] = Unit {0}
-Level (p ∷ l) = (p .low ≡ p .high) × Level l
+unfoldable pub EqualReadings : List Span → Type 0
+EqualReadings [] = Unit {0}
+EqualReadings (p ∷ l) = (p .low ≡ p .high) × EqualReadings l
 
 -- "each end is met by some choice", and, rounded, is less than 3 mm from every point of some enclosure of that choice's exact sum
 pub record Met (G : ℕ → ℤ) (E : ℕ → ℕ → Enclosure) (l : List Span) (end mm : ℤ) : Type 0 where
   pub choice : List Shot
   pub chosen : Chosen l choice
   pub sum : total G choice ≡ end
-  pub whole : rounded (total G choice) ≡ mm
+  pub millimetres : rounded (total G choice) ≡ mm
   pub bits : ℕ
   pub near : Near 3 mm (E bits) choice
 

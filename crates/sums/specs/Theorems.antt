@@ -10,7 +10,7 @@ use Rattle.exact.specs.Pair.{Enclosure}
 use Rattle.sums.specs.Points.{Point, _≤ᵖ_, _<ᵖ_, _+ᵖ_, signed, lowest, highest}
 use Rattle.sums.specs.Sums.{Shot, sine, cosine, total, rounded, mostShots, Allowed}
 use Rattle.sums.specs.Exact.{sumOf, lowEnd, highEnd, exactSine, exactCosine, Close}
-use Rattle.sums.specs.Spans.{Span, lowShots, lowestTotal, highestTotal, Ranged, Level, Spans}
+use Rattle.sums.specs.Spans.{Span, lowShots, lowestTotal, highestTotal, Ranged, EqualReadings, Spans}
 
 -- the same shot half a turn on
 abbrev pub halfTurned : Shot → Shot
@@ -30,7 +30,7 @@ pub record Theorems : Type 0 where
       → (highEnd (exactSine n) l <ᵖ lowEnd (exactSine n) l +ᵖ signed false ε)
       × (highEnd (exactCosine n) l <ᵖ lowEnd (exactCosine n) l +ᵖ signed false ε))
   -- "No shots give 0 and 0."
-  pub none : (G : ℕ → ℤ) → (total G [] ≡ pos 0) × (rounded (total G []) ≡ pos 0)
+  pub no-shots : (G : ℕ → ℤ) → (total G [] ≡ pos 0) × (rounded (total G []) ≡ pos 0)
   -- "a run of shots joined to a second .. adds up, before rounding, to the two sums added"
   pub joined : (G : ℕ → ℤ) (l m : List Shot) → total G (l ++ m) ≡ total G l +ℤ total G m
   -- a shot and the same shot half a turn on cancel
@@ -40,4 +40,4 @@ pub record Theorems : Type 0 where
       → Spans sine exactSine l (lowestTotal sine l) (highestTotal sine l) (rounded (lowestTotal sine l)) (rounded (highestTotal sine l))
       × Spans cosine exactCosine l (lowestTotal cosine l) (highestTotal cosine l) (rounded (lowestTotal cosine l)) (rounded (highestTotal cosine l))
   -- "Where low equals high throughout, it is Job 13's result."
-  pub level : (G : ℕ → ℤ) (l : List Span) → Level l → (lowestTotal G l ≡ total G (lowShots l)) × (highestTotal G l ≡ total G (lowShots l))
+  pub equal-readings : (G : ℕ → ℤ) (l : List Span) → EqualReadings l → (lowestTotal G l ≡ total G (lowShots l)) × (highestTotal G l ≡ total G (lowShots l))

@@ -15,8 +15,8 @@ use Rattle.text.proofs.Decimal.{decimal-length}
 use Rattle.text.proofs.Forms.{print-mark, print-byte, unmarked, printed-read as form-printed}
 use Rattle.job_lines.specs.Forms.{Form, seeds, sigma, shot, noForm, seedsForm, sigmaForm, readLine, printLine, Printable}
 use Rattle.job_lines.proofs.RoundTrip.{read-printed, printed-read}
-use Rattle.job.specs.Limits.{mostBytes, mostShots, lastLine, mostDistance, mostBearing, listingRoom}
-use Rattle.job.specs.Refusals.{formless, misplaced, tooMany, beyond, seedCode, refusal}
+use Rattle.job_refusals.specs.Limits.{mostBytes, mostShots, lastLine, mostDistance, mostBearing, listingRoom}
+use Rattle.job_refusals.specs.Refusals.{formless, misplaced, tooMany, beyond, seedCode, refusal}
 use Rattle.job.specs.Job.{refused, listed, jobOf, answerOf}
 use Rattle.job.specs.Theorems.{textOf, Accepts}
 use Rattle.job.proofs.Jobs.{line-printed, not-noForm, refused-not-listed, onto-listed, bytes-same}

@@ -7,8 +7,8 @@ use lib.ListN.{length, drop}
 use Rattle.text.specs.Fields.{name}
 use Rattle.text.specs.Scan.{lines}
 use Rattle.job_lines.specs.Forms.{Form, seeds, sigma, shot, noForm, readLine}
-use Rattle.job.specs.Limits.{mostShots, mostDistance, mostBearing, listingRoom}
-use Rattle.job.specs.Refusals.{refusal}
+use Rattle.job_refusals.specs.Limits.{mostShots, mostDistance, mostBearing, listingRoom}
+use Rattle.job_refusals.specs.Refusals.{refusal}
 use Rattle.job.specs.Job.{listed, jobOf, answerOf}
 use Rattle.job.specs.Theorems.{textOf}
 use Rattle.survex_lines.specs.Lines.{leftOf, fed, remains}

@@ -8,9 +8,12 @@ use Rattle.job.proofs.Answered.{job-long, job-short, answer-within, wro
 use Rattle.job.proofs.list.Statement.{statement}
 use Rattle.job.proofs.list.Tie as tie
 
+refused-job-requires : tie.Need-refused-job-requires
+refused-job-requires c κs = tt
+
 returns : tie.Need-returns
 unfolding answerOf bufferAfter
-returns c = rw (job-long (c .before .before .before .args .text .now) (c .if1 .taken)) (refl, (refl, omega arith))
+returns c = rw (c .refused-job .ensures, job-long (c .before .before .before .before .args .text .now) (c .before .if1 .taken)) (refl, (refl, omega arith))
 
 slice-aggregate-write-listing : tie.Need-slice-aggregate-write-listing
 slice-aggregate-write-listing c = search needs
@@ -26,14 +29,14 @@ returns-2 c =
     rw (job-short (c .before .before .before .before .before .before .before .before .args .text .now)
     (c .before .before .before .before .before .if1 .left)) (a .0, (a .1, answer-within _ _ _ (a .0)))
 
+refused-job-requires-2 : tie.Need-refused-job-requires-2
+refused-job-requires-2 c κs = tt
+
 returns-3 : tie.Need-returns-3
 returns-3 c =
-    let w = c .before .before .before .before .write-listing in
-    let a = answered-long (w .result) _
-    (c .before .before .before .before .before .before .before .before .before .args .out .now) _ (w .ensures)
-    (c .before .if2 .left) (c .if3 .taken) in
-    rw (job-short (c .before .before .before .before .before .before .before .before .before .args .text .now)
-    (c .before .before .before .before .before .before .if1 .left)) (a .0, (a .1, answer-within _ _ _ (a .0)))
+    let w = c .before .before .before .before .before .write-listing in
+    let a = answered-long (w .result) _ (c .before .before .before .before .before .before .before .before .before .before .args .out .now) _ (w .ensures) (c .before .before .if2 .left) (c .before .if3 .taken) in
+    rw (c .refused-job2 .ensures, job-short (c .before .before .before .before .before .before .before .before .before .before .args .text .now) (c .before .before .before .before .before .before .before .if1 .left)) (a .0, (a .1, answer-within _ _ _ (a .0)))
 
 sub-put : tie.Need-sub-put
 sub-put c = search needs
@@ -73,10 +76,12 @@ pub list-spec : {M : Type 1} → statement M
 list-spec =
     tie.close
     (tie.spec
+    refused-job-requires
     returns
     slice-aggregate-write-listing
     write-listing-requires
     returns-2
+    refused-job-requires-2
     returns-3
     sub-put
     part-put-start

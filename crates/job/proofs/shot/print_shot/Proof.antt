@@ -11,13 +11,13 @@ use Rattle.job.proofs.shot.print_shot.Statement.{statement}
 use Rattle.job.proofs.shot.print_shot.Tie as tie
 
 cast-noisy-distance : tie.Need-cast-noisy-distance
-cast-noisy-distance c = omega (arith, c .before .before .before .pre .1 .distance)
+cast-noisy-distance c = omega (arith, c .before .before .before .pre .distance)
 
 noisy-distance-requires : tie.Need-noisy-distance-requires
 noisy-distance-requires c κs = tt
 
 cast-noisy-bearing : tie.Need-cast-noisy-bearing
-cast-noisy-bearing c = omega (arith, c .before .before .before .before .before .before .pre .1 .bearing)
+cast-noisy-bearing c = omega (arith, c .before .before .before .before .before .before .pre .bearing)
 
 noisy-bearing-requires : tie.Need-noisy-bearing-requires
 noisy-bearing-requires c κs = tt
@@ -37,31 +37,14 @@ same-length c = c .before .before .put-shot .kept .0
 returns : tie.Need-returns
 unfolding noisyRow
 returns c =
-    let at = c .before .before .before .before .before .before .before .before .before .before .before .before .before
-    .before .before .before in
+    let at = c .before .before .before .before .before .before .before .before .before .before .before .before .before .before .before .before in
     let x = at .args .x in
-    let n = at .args .n in
-    let given = c .before .before .before .before .before .before .before .before .before .before .before .before
-    .struct-told .given in
-    let first : SFits w16 (n .first) = record { sfits = given .1 .1 .0 .1 } in
-    let second : SFits w16 (n .second) = record { sfits = given .1 .1 .1 .0 .1 } in
-    let mm = c .before .before .before .before .before .before .before .before .before .before .before .noisy-distance
-    .ensures ∙ ap (λ (z : ℤ). noisyDistance (n .distance) (x .distance) z) (toZ-ofZ first) in
-    let step = c .before .before .before .before .before .before .before .before .noisy-bearing .ensures ∙ ap
-    (λ (z : ℤ). noisyBearing (n .bearing) (x .bearing) z) (toZ-ofZ second) in
-    rw (← c .before .before .before .before .part .ensures, ← c .before .before .before .part2 .ensures, ← mm, ← step)
-    (c .before .before .put-shot .ensures)
+    let given = c .before .before .before .before .before .before .before .before .before .before .before .before .struct-told .given in
+    let first : SFits w16 (at .args .pair .first) = record { sfits = given .1 .0 .1 } in
+    let second : SFits w16 (at .args .pair .second) = record { sfits = given .1 .1 .0 .1 } in
+    let mm = c .before .before .before .before .before .before .before .before .before .before .before .noisy-distance .ensures ∙ ap (λ (z : ℤ). noisyDistance (at .args .distance) (x .distance) z) (toZ-ofZ first) in
+    let step = c .before .before .before .before .before .before .before .before .noisy-bearing .ensures ∙ ap (λ (z : ℤ). noisyBearing (at .args .bearing) (x .bearing) z) (toZ-ofZ second) in
+    rw (← c .before .before .before .before .part .ensures, ← c .before .before .before .part2 .ensures, ← mm, ← step) (c .before .before .put-shot .ensures)
 
 pub print-shot-spec : {M : Type 1} → statement M
-print-shot-spec =
-    tie.close
-    (tie.spec
-    cast-noisy-distance
-    noisy-distance-requires
-    cast-noisy-bearing
-    noisy-bearing-requires
-    part-requires
-    part-requires-2
-    put-shot-requires
-    same-length
-    returns)
+print-shot-spec = tie.close (tie.spec cast-noisy-distance noisy-distance-requires cast-noisy-bearing noisy-bearing-requires part-requires part-requires-2 put-shot-requires same-length returns)

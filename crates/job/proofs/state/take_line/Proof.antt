@@ -1,85 +1,41 @@
 -- `job::state::take_line` meets its contract.
-use mathlib.Core.Path.{refl, sym, ap, _∙_}
-use borrow.Author.Needs.{needs}
-use Rattle.job.specs.Private.{takenOf, bufferOf, taken}
-use Rattle.job_lines.specs.Forms.{said}
-use Rattle.job.specs.Job.{printed, settingAfter}
-use Rattle.job.proofs.Refused.{none-6}
-use Rattle.job.proofs.Names.{state-same, buffer-same}
+use mathlib.Core.Path.{sym, ap, _∙_}
+use Rattle.job_refusals.specs.Refusals.{refusal}
+use Rattle.job_refusals.proofs.Refused.{names-apart}
+use Rattle.job.proofs.Names.{taken-on, taken-off}
 use Rattle.job.proofs.state.take_line.Statement.{statement}
 use Rattle.job.proofs.state.take_line.Tie as tie
 
 read-line-requires : tie.Need-read-line-requires
 read-line-requires c κs = tt
 
-enum-known-said : tie.Need-enum-known-said
-enum-known-said c = search needs
+line-code-requires : tie.Need-line-code-requires
+line-code-requires c κs = tt
 
-on-seeds-requires : tie.Need-on-seeds-requires
-on-seeds-requires c κs = tt
-
-enum-known-said-2 : tie.Need-enum-known-said-2
-enum-known-said-2 c = search needs
-
-on-sigma-requires : tie.Need-on-sigma-requires
-on-sigma-requires c κs = tt
-
-enum-known-said-3 : tie.Need-enum-known-said-3
-enum-known-said-3 c = search needs
-
-on-shot-requires : tie.Need-on-shot-requires
-on-shot-requires c κs = search needs
-
-enum-told : tie.Need-enum-told
-enum-told c = search needs
+refused-line-requires : tie.Need-refused-line-requires
+refused-line-requires c κs = tt
 
 returns : tie.Need-returns
-unfolding printed settingAfter
 returns c =
-    let at = c .before .before .before .before .before .before .before in
-    let e = sym (c .before .before .before .before .read-line .ensures) ∙ ap (said (at .args .line .now))
-    (c .before .before .said .given .1) in
-    rw e (state-same (at .args .s) _ (at .args .out .now) refl _ (c .on-seeds .ensures), buffer-same (at .args .s) _ (at .args .out .now) refl)
+    let at = c .before .before .before .before .before .before in
+    let k = at .args .s .line in
+    let code = c .before .before .line-code .ensures ∙ names-apart k (at .args .line .now) (c .before .before .before .read-line .result) ∙ ap (refusal k) (c .before .before .before .read-line .ensures) in
+    taken-off (at .args .s) _ (at .args .out .now) _ _ code (c .before .if1 .taken) (c .refused-line .ensures)
 
-returns-2 : tie.Need-returns-2
-unfolding printed settingAfter
-returns-2 c =
-    let at = c .before .before .before .before .before .before .before in
-    let e = sym (c .before .before .before .before .read-line .ensures) ∙ ap (said (at .args .line .now))
-    (c .before .before .said2 .given .1) in
-    rw e (state-same (at .args .s) _ (at .args .out .now) refl _ (c .on-sigma .ensures), buffer-same (at .args .s) _ (at .args .out .now) refl)
+on-accepted-requires : tie.Need-on-accepted-requires
+on-accepted-requires c κs =
+    let at = c .before .before .before .before .before .before in
+    sym (c .before .before .line-code .ensures ∙ names-apart (at .args .s .line) (at .args .line .now) (c .before .before .before .read-line .result)) ∙ c .before .if1 .left
 
 same-length : tie.Need-same-length
-same-length c = c .before .before .on-shot .kept .1 .1 .1 .0
+same-length c = c .before .before .on-accepted .kept .1 .1 .1 .0
 
-returns-3 : tie.Need-returns-3
-returns-3 c =
-    let at = c .before .before .before .before .before .before .before .before .before .before in
-    let e = sym (c .before .before .before .before .before .before .before .read-line .ensures) ∙ ap
-    (said (at .args .line .now)) (c .before .before .before .before .before .said3 .given .1) in
-    rw e (c .before .before .on-shot .ensures)
-
-returns-4 : tie.Need-returns-4
-unfolding takenOf printed settingAfter bufferOf taken
-returns-4 c =
-    let at = c .before .before .before .before .before in
-    let e = sym (c .before .before .read-line .ensures) ∙ ap (said (at .args .line .now)) (c .enum-told .given .1) in
-    rw (e, none-6 (at .args .s .line)) (refl, refl)
+returns-2 : tie.Need-returns-2
+returns-2 c =
+    let at = c .before .before .before .before .before .before .before .before .before in
+    let k = at .args .s .line in
+    let code = c .before .before .before .before .before .line-code .ensures ∙ names-apart k (at .args .line .now) (c .before .before .before .before .before .before .read-line .result) ∙ ap (refusal k) (c .before .before .before .before .before .before .read-line .ensures) in
+    taken-on (at .args .s) _ (at .args .out .now) _ _ (sym code ∙ c .before .before .before .before .if1 .left) (rw (c .before .before .before .before .before .before .read-line .ensures) at (c .before .before .on-accepted .ensures))
 
 pub take-line-spec : {M : Type 1} → statement M
-take-line-spec =
-    tie.close
-    (tie.spec
-    read-line-requires
-    enum-known-said
-    on-seeds-requires
-    enum-known-said-2
-    on-sigma-requires
-    enum-known-said-3
-    on-shot-requires
-    enum-told
-    returns
-    returns-2
-    same-length
-    returns-3
-    returns-4)
+take-line-spec = tie.close (tie.spec read-line-requires line-code-requires refused-line-requires returns on-accepted-requires same-length returns-2)

@@ -31,55 +31,31 @@ part-take-line-end : tie.Need-part-take-line-end Inv-loop μ-loop
 part-take-line-end c = omega (
   arith,
   c .line-end .ensures,
-  end-within
-      (c .before .before .before .before .before .args .text .now) (c .before .before .loop .at)
-      (c .before .loop-test .taken) .1,
+  end-within (c .before .before .before .before .before .args .text .now) (c .before .before .loop .at) (c .before .loop-test .taken) .1,
 )
 
 take-line-requires : tie.Need-take-line-requires Inv-loop μ-loop
-take-line-requires c κs = c .before .before .before .before .loop .inv .steady
+take-line-requires c κs = tt
 
 same-length : tie.Need-same-length Inv-loop μ-loop
-same-length c = c .before .before .before .take-line .kept .1 .1 .0 ∙
-    c .before .before .before .before .before .before .before .before .loop .inv .room ∙ sym
-    (c .before .before .before .before .before .before .before .before .before .before .before .pre .room)
+same-length c = c .before .before .before .before .take-line .kept .1 .1 .0 ∙ c .before .before .before .before .before .before .before .before .before .loop .inv .room ∙ sym (c .before .before .before .before .before .before .before .before .before .before .before .before .pre .room)
 
 returns : tie.Need-returns Inv-loop μ-loop
 returns c =
-    let at = c .before .before .before .before .before .before .before .before in
-    let go = line-off _ (at .loop .out) (at .loop .s) (at .loop .at)
-    (c .before .before .before .before .before .before .line-end .result) (c .before .before .before .take-line .result)
-    (c .before .before .before .take-line .last .1 .1 .0) (at .loop .inv)
-    (c .before .before .before .before .before .before .before .loop-test .taken)
-    (c .before .before .before .before .before .before .line-end .ensures)
-    (c .before .before .before .take-line .ensures .0) (c .before .before .before .take-line .ensures .1) in
-    go (c .if1 .taken)
+    let at = c .before .before .before .before .before .before .before .before .before in
+    line-off _ (at .loop .out) (at .loop .s) (at .loop .at) (c .before .before .before .before .before .before .before .line-end .result) (c .before .before .before .before .take-line .result) _ (at .loop .inv)
+    (c .before .before .before .before .before .before .before .before .loop-test .taken) (c .before .before .before .before .before .before .before .line-end .ensures) (c .before .before .before .before .take-line .ensures .0) (c .before .before .before .before .take-line .ensures .1) (c .if1 .taken)
 
 loop-less : tie.Need-loop-less Inv-loop μ-loop
-loop-less c = omega (
-  arith,
-  c .before .before .before .before .before .before .before .line-end .ensures,
-  end-within
-      (c .before .before .before .before .before .before .before .before .before .before .before .before .args .text .now)
-      (c .before .before .before .before .before .before .before .before .before .loop .at)
-      (c .before .before .before .before .before .before .before .before .loop-test .taken) .0,
-  end-within
-      (c .before .before .before .before .before .before .before .before .before .before .before .before .args .text .now)
-      (c .before .before .before .before .before .before .before .before .before .loop .at)
-      (c .before .before .before .before .before .before .before .before .loop-test .taken) .1,
-)
+loop-less c =
+    let within = end-within (c .before .before .before .before .before .before .before .before .before .before .before .before .args .text .now) (c .before .before .before .before .before .before .before .before .before .loop .at) (c .before .before .before .before .before .before .before .before .loop-test .taken) in
+    omega (arith, c .before .before .before .before .before .before .before .line-end .ensures, within .0, within .1)
 
 loop-again : tie.Need-loop-again Inv-loop μ-loop
 loop-again c =
     let at = c .before .before .before .before .before .before .before .before .before in
-    let go = line-on _ (at .loop .out) (at .loop .s) (at .loop .at)
-    (c .before .before .before .before .before .before .before .line-end .result)
-    (c .before .before .before .before .take-line .result) (c .before .before .before .before .take-line .last .1 .1 .0)
-    (at .loop .inv) (c .before .before .before .before .before .before .before .before .loop-test .taken)
-    (c .before .before .before .before .before .before .before .line-end .ensures)
-    (c .before .before .before .before .take-line .ensures .0) (c .before .before .before .before .take-line .ensures .1)
-    in
-    go (c .before .if1 .left)
+    line-on _ (at .loop .out) (at .loop .s) (at .loop .at) (c .before .before .before .before .before .before .before .line-end .result) (c .before .before .before .before .take-line .result) _ (at .loop .inv)
+    (c .before .before .before .before .before .before .before .before .loop-test .taken) (c .before .before .before .before .before .before .before .line-end .ensures) (c .before .before .before .before .take-line .ensures .0) (c .before .before .before .before .take-line .ensures .1) (c .if1 .left)
 
 same-length-2 : tie.Need-same-length-2 Inv-loop μ-loop
 same-length-2 c = c .before .loop .inv .room ∙ sym (c .before .before .before .before .pre .room)
@@ -88,20 +64,4 @@ returns-2 : tie.Need-returns-2 Inv-loop μ-loop
 returns-2 c = all-taken _ _ _ _ (c .before .loop .inv) (c .loop-test .left)
 
 pub walk-spec : {M : Type 1} → statement M
-walk-spec =
-    tie.close
-    (tie.spec
-    Inv-loop
-    μ-loop
-    loop-holds
-    line-end-requires
-    sub-take-line
-    part-take-line-start
-    part-take-line-end
-    take-line-requires
-    same-length
-    returns
-    loop-less
-    loop-again
-    same-length-2
-    returns-2)
+walk-spec = tie.close (tie.spec Inv-loop μ-loop loop-holds line-end-requires sub-take-line part-take-line-start part-take-line-end take-line-requires same-length returns loop-less loop-again same-length-2 returns-2)

@@ -11,47 +11,37 @@ first-state-requires : tie.Need-first-state-requires
 first-state-requires c κs = tt
 
 walk-requires : tie.Need-walk-requires
-walk-requires c κs = going-start _ _ _ _ _ (c .before .before .before .before .before .before .before .before .pre)
-    (c .before .before .before .before .put-header .ensures .1) (c .before .before .before .before .put-header .ensures .0)
-    (c .before .first-state .ensures)
+walk-requires c κs =
+    going-start _ _ _ _ _ (c .before .before .before .before .before .before .before .before .pre) (c .before .before .before .before .put-header .ensures .1) (c .before .before .before .before .put-header .ensures .0) (c .before .first-state .ensures)
+
+refused-job-requires : tie.Need-refused-job-requires
+refused-job-requires c κs = tt
 
 same-length : tie.Need-same-length
-same-length c = c .before .before .before .before .walk .kept .1 .0 ∙ c .before .before .before .before .before .before .before .before .before .put-header .kept .0
+same-length c = c .before .before .before .before .before .walk .kept .1 .0 ∙ c .before .before .before .before .before .before .before .before .before .before .put-header .kept .0
 
 returns : tie.Need-returns
-returns c = wrote-refused _ _ _ (c .before .before .before .before .walk .ensures) (c .if1 .taken)
+returns c = rw (c .refused-job .ensures) (wrote-refused _ _ _ (c .before .before .before .before .before .walk .ensures) (c .before .if1 .taken))
+
+refused-job-requires-2 : tie.Need-refused-job-requires-2
+refused-job-requires-2 c κs = tt
 
 same-length-2 : tie.Need-same-length-2
-same-length-2 c = c .before .before .before .before .before .walk .kept .1 .0 ∙ c .before .before .before .before .before .before .before .before .before .before .put-header .kept .0
+same-length-2 c = c .before .before .before .before .before .before .before .walk .kept .1 .0 ∙ c .before .before .before .before .before .before .before .before .before .before .before .before .put-header .kept .0
 
 returns-2 : tie.Need-returns-2
-returns-2 c = wrote-missing _ _ _ (c .before .before .before .before .before .walk .ensures .yes (c .before .if1 .left))
-    (c .if2 .taken)
+returns-2 c = rw (c .refused-job2 .ensures) (wrote-missing _ _ _ (c .before .before .before .before .before .before .before .walk .ensures .yes (c .before .before .before .if1 .left)) (c .before .if2 .taken))
 
 put-end-requires : tie.Need-put-end-requires
 put-end-requires c κs = tt
 
 same-length-3 : tie.Need-same-length-3
-same-length-3 c = c .before .before .put-end .kept .0 ∙ c .before .before .before .before .before .before .before .before .before .walk .kept .1 .0 ∙ c .before .before .before .before .before .before .before .before .before .before .before .before .before .before .put-header .kept .0
+same-length-3 c = c .before .before .put-end .kept .0 ∙ c .before .before .before .before .before .before .before .before .before .before .before .walk .kept .1 .0 ∙ c .before .before .before .before .before .before .before .before .before .before .before .before .before .before .before .before .put-header .kept .0
 
 returns-3 : tie.Need-returns-3
 returns-3 c =
-    let g = c .before .before .before .before .before .before .before .before .before .walk .ensures .yes
-    (c .before .before .before .before .before .if1 .left) in
-    wrote-listed _ _ _ g _ _ (c .before .before .before .before .if2 .left) (c .before .before .put-end .ensures .0)
-    (c .before .before .put-end .ensures .1)
+    let g = c .before .before .before .before .before .before .before .before .before .before .before .walk .ensures .yes (c .before .before .before .before .before .before .before .if1 .left) in
+    wrote-listed _ _ _ g _ _ (c .before .before .before .before .before .if2 .left) (c .before .before .put-end .ensures .0) (c .before .before .put-end .ensures .1)
 
 pub write-listing-spec : {M : Type 1} → statement M
-write-listing-spec =
-    tie.close
-    (tie.spec
-    put-header-requires
-    first-state-requires
-    walk-requires
-    same-length
-    returns
-    same-length-2
-    returns-2
-    put-end-requires
-    same-length-3
-    returns-3)
+write-listing-spec = tie.close (tie.spec put-header-requires first-state-requires walk-requires refused-job-requires same-length returns refused-job-requires-2 same-length-2 returns-2 put-end-requires same-length-3 returns-3)

@@ -29,7 +29,7 @@ part-take-line-start : tie.Need-part-take-line-start Inv-loop μ-loop
 part-take-line-start c = omega (arith, c .before .before .loop .inv .order)
 
 part-take-line-end : tie.Need-part-take-line-end Inv-loop μ-loop
-part-take-line-end c = omega (arith, c .before .before .loop .inv .order, c .before .before .loop .inv .place)
+part-take-line-end c = omega (arith, c .before .before .loop .inv .order, c .before .before .loop .inv .within)
 
 sub-take-line-2 : tie.Need-sub-take-line-2 Inv-loop μ-loop
 sub-take-line-2 c = omega (arith, c .before .line-end .ensures)

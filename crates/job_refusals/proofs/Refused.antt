@@ -1,16 +1,19 @@
--- The number of a line, by what is known of it.
+-- The refusal code of a line, by what is known of it.
 use Prim.Native.Nat.{ℕ, _≤_, _<_}
 use native.Mathlib.Omega.{arith}
 use mathlib.Core.Path.{_≡_, refl}
-use mathlib.Core.Bool.{Bool, true, false, not, _||_, true≢false}
-use mathlib.Core.List.{List}
+use mathlib.Core.Bool.{Bool, true, false, cond, not, _||_, true≢false}
+use mathlib.Core.List.{List, []}
 use lib.Dec.{ltb}
 use borrow.Author.Tests.{lt-ltb, le-ltb, eq-eqb, ne-eqb, ltb-false}
 use Rattle.streams.specs.Streams.{seedOf}
 use Rattle.streams.proofs.Theorems.{record-cases}
-use Rattle.job.specs.Limits.{lastLine, mostSeed, mostSigma, mostDistance, mostBearing}
-use Rattle.job_lines.specs.Forms.{Form, seeds, sigma, shot, noForm}
-use Rattle.job.specs.Refusals.{formless, misplaced, tooMany, beyond, seedCode, refusal}
+use Rattle.job_refusals.specs.Limits.{lastLine, mostSeed, mostSigma, mostDistance, mostBearing}
+use Rattle.job_lines.specs.Forms.{Form, seeds, sigma, shot, noForm, said}
+use Rattle.job_lines.specs.declared.Line.{Line}
+use Rattle.job_lines.specs.declared.Line.the-variants.{Seeds, Sigma, Shot, NoForm}
+use Rattle.job_refusals.specs.Refusals.{formless, misplaced, tooMany, beyond, seedCode, refusal, seedsAnswer}
+use Rattle.streams.specs.declared.RecordAnswer.{RecordAnswer}
 
 pub none-6 : (k : ℕ) → refusal k noForm ≡ 6
 unfolding refusal formless
@@ -56,13 +59,14 @@ module _ (a0 a1 a2 b0 b1 b2 : ℕ) where
     unfolding refusal formless misplaced
     seeds-8 h = rw (ne-eqb k 1 h)
 
-    pub seeds-7 : k ≡ 1 → beyond x ≡ true → refusal k x ≡ 7
-    unfolding refusal formless misplaced tooMany
-    seeds-7 h e = rw (eq-eqb k 1 h, e)
-
-    pub seeds-code : k ≡ 1 → beyond x ≡ false → refusal k x ≡ seedOf a0 a1 a2 b0 b1 b2 .code
-    unfolding refusal formless misplaced tooMany seedCode
-    seeds-code h e = rw (eq-eqb k 1 h, e)
+    pub seeds-code : k ≡ 1 → refusal k x ≡ seedsAnswer (record { a0 = a0; a1 = a1; a2 = a2; b0 = b0; b1 = b1; b2 = b2 }) .code
+    unfolding refusal formless misplaced tooMany seedCode seedsAnswer
+    seeds-code h = rw (eq-eqb k 1 h) (by (beyond x))
+      where
+        by : (t : Bool) → cond t 7 (seedOf a0 a1 a2 b0 b1 b2 .code)
+            ≡ cond {A = RecordAnswer} t (record { code = 7; next = seedOf 0 0 0 0 0 0 .next }) (seedOf a0 a1 a2 b0 b1 b2) .code
+        by true = refl
+        by false = refl
 
 module _ (k d b : ℕ) where
   pub sigma-8 : (k ≡ 2 → ⊥) → refusal k (sigma d b) ≡ 8
@@ -94,7 +98,7 @@ module _ (k d b : ℕ) where
     unfolding refusal formless misplaced tooMany beyond seedCode
     shot-0 h e f g = rw (le-ltb k 3 h, le-ltb lastLine k e, le-ltb mostDistance d f, le-ltb mostBearing b g)
 
--- seeding does not answer with a job's own number for a listing that is too long
+-- seeding does not answer with a job's own code for a listing that is too long
 pub seed-not-10 : (x : Form) → seedCode x ≡ 10 → ⊥
 unfolding seedCode seedOf
 seed-not-10 (seeds a0 a1 a2 b0 b1 b2) e =
@@ -102,3 +106,11 @@ seed-not-10 (seeds a0 a1 a2 b0 b1 b2) e =
 seed-not-10 (sigma d b) e = omega (arith, e)
 seed-not-10 (shot from to d b) e = omega (arith, e)
 seed-not-10 noForm e = omega (arith, e)
+
+-- no name in a line matters
+pub names-apart : (k : ℕ) (text : List ℕ) (x : Line) → refusal k (said [] x) ≡ refusal k (said text x)
+unfolding refusal formless misplaced tooMany beyond seedCode
+names-apart k text (Seeds x) = refl
+names-apart k text (Sigma x) = refl
+names-apart k text (Shot x) = refl
+names-apart k text NoForm = refl

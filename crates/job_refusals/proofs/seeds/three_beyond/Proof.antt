@@ -1,7 +1,7 @@
--- `job::state::three_beyond` meets its contract.
+-- `job_refusals::seeds::three_beyond` meets its contract.
 use borrow.Author.Tests.{lt-ltb, le-ltb}
-use Rattle.job.proofs.state.three_beyond.Statement.{statement}
-use Rattle.job.proofs.state.three_beyond.Tie as tie
+use Rattle.job_refusals.proofs.seeds.three_beyond.Statement.{statement}
+use Rattle.job_refusals.proofs.seeds.three_beyond.Tie as tie
 
 returns : tie.Need-returns
 returns c = rw (lt-ltb _ _ (c .if1 .taken))

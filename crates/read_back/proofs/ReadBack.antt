@@ -18,21 +18,22 @@ use Rattle.listing_writer.specs.Listing.{header, endRow, noisyRow}
 use Rattle.box_muller.specs.Steps.{fractionBits}
 use Rattle.noise.specs.Noise.{pairOf}
 use Rattle.noise.proofs.Theorems.{pair-sizes}
-use Rattle.job.specs.Limits as limits
-use Rattle.job.specs.Refusals as jobs
+use Rattle.job_refusals.specs.Limits as limits
+use Rattle.job_refusals.specs.Refusals as jobs
 use Rattle.job.specs.Job as job
 use Rattle.job.specs.Private.{Steady}
 use Rattle.job.specs.declared.state.Setting.{Setting}
-use Rattle.job.proofs.Refused.{or-false}
-use Rattle.job.proofs.Bounds.{Accepted, accepted-line, steps}
+use Rattle.job_refusals.proofs.Refused.{or-false}
+use Rattle.job_refusals.proofs.Accepted.{Accepted, accepted-line}
+use Rattle.job.proofs.Bounds.{steps}
 use Rattle.job.proofs.Going as going
 use Rattle.job.proofs.Jobs as jobLaws
 use Rattle.sums.specs.Sums.{mostDistance}
 use Rattle.sums.specs.Spans.{Span}
 use Rattle.listing_reader.specs.Entries.{rowOf, headerOf}
 use Rattle.misclosure.specs.Misclosure.{lastLine, mostStep, accepted, onto, outcome, listingOf}
-use Rattle.misclosure.specs.Theorems.{Following}
+use Rattle.read_back.specs.ReadBack.{Following, ReadBack}
 use Rattle.misclosure.proofs.Listings.{outcome-leg, outcome-end, listing-headed}
 
 -- "1,008,242 mm, which the half step can reach"
 distance-most : (σ d : ℕ) (z : ℤ) → σ ≤ limits.mostSigma → d ≤ limits.mostDistance → natAbs z ≤ 16879 → noisyDistance σ d z ≤ mostDistance
@@ -118,8 +119,7 @@ back-lines (line ∷ ls) k s station bytes few steady e f =
     go ih false t = absurd (jobLaws.refused-not-listed (jobs.refusal k (readLine line)) k bytes
         (sym (going.outcome-no k s line ls (eqb-false (jobs.refusal k (readLine line)) 0 t)) ∙ e))
 
-pub read-back : (text bytes : List ℕ) → job.jobOf text ≡ job.listed bytes → Following [] (map readLine (lines text))
-    → (l : List Span) × (listingOf false bytes ≡ accepted l)
+pub read-back : ReadBack
 unfolding job.jobOf job.listingOf job.start headerOf
 read-back text bytes e f = go (ltb limits.mostBytes (length text)) e
   where

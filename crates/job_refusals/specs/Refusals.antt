@@ -4,8 +4,10 @@ use Prim.Native.Nat.{ℕ}
 use mathlib.Core.Bool.{Bool, true, false, cond, not, _||_}
 use lib.Dec.{ltb, eqb}
 use Rattle.streams.specs.Streams.{seedOf}
-use Rattle.job.specs.Limits.{lastLine, mostSeed, mostSigma, mostDistance, mostBearing}
-use Rattle.job_lines.specs.Forms.{Form, seeds, sigma, shot, noForm}
+use Rattle.job_refusals.specs.Limits.{lastLine, mostSeed, mostSigma, mostDistance, mostBearing}
+use Rattle.job_lines.specs.Forms.{Form, seeds, sigma, shot, noForm, seedsIn}
+use Rattle.job_lines.specs.declared.Seeds.{Seeds as SeedsFields}
+use Rattle.streams.specs.declared.RecordAnswer.{RecordAnswer}
 
 -- "line is none of the three forms, or lacks its line feed"
 unfoldable pub formless : Form → Bool
@@ -36,13 +38,18 @@ beyond (sigma d b) = ltb mostSigma d || ltb mostSigma b
 beyond (shot from to d b) = ltb mostDistance d || ltb mostBearing b
 beyond noForm = false
 
--- "a register below its minimum in either stream": the number that seeding answers
+-- "a register below its minimum in either stream": the code that seeding answers
 unfoldable pub seedCode : Form → ℕ
 seedCode (seeds a0 a1 a2 b0 b1 b2) = seedOf a0 a1 a2 b0 b1 b2 .code
 seedCode (sigma d b) = 0
 seedCode (shot from to d b) = 0
 seedCode noForm = 0
 
--- the number of line k that says x: its first cause in the order 6, 8, 9, 7 and seeding's, or 0 where it is accepted
+-- the refusal code of line k that says x: its first cause in the order 6, 8, 9, 7 and seeding's, or 0 where it is accepted
 unfoldable pub refusal : ℕ → Form → ℕ
 refusal k x = cond (formless x) 6 (cond (misplaced k x) 8 (cond (tooMany k x) 9 (cond (beyond x) 7 (seedCode x))))
+
+-- what seeds give: 7 and no record where one is beyond its range, else what seeding answers
+unfoldable pub seedsAnswer : SeedsFields → RecordAnswer
+seedsAnswer x =
+    cond (beyond (seedsIn x)) (record { code = 7; next = seedOf 0 0 0 0 0 0 .next }) (seedOf (x .a0) (x .a1) (x .a2) (x .b0) (x .b1) (x .b2))

@@ -1,8 +1,8 @@
--- `job::state::seeds_beyond` meets its contract.
+-- `job_refusals::seeds::seeds_beyond` meets its contract.
 use mathlib.Core.Path.{sym, _∙_}
-use Rattle.job.proofs.Refused.{beyond-first, beyond-last}
-use Rattle.job.proofs.state.seeds_beyond.Statement.{statement}
-use Rattle.job.proofs.state.seeds_beyond.Tie as tie
+use Rattle.job_refusals.proofs.Refused.{beyond-first, beyond-last}
+use Rattle.job_refusals.proofs.seeds.seeds_beyond.Statement.{statement}
+use Rattle.job_refusals.proofs.seeds.seeds_beyond.Tie as tie
 
 three-beyond-requires : tie.Need-three-beyond-requires
 three-beyond-requires c κs = tt

@@ -1,9 +1,9 @@
--- `job::state::seeded` meets its contract.
+-- `job_refusals::seeds::seeded` meets its contract.
 use native.Mathlib.Omega.{arith}
 use borrow.Author.Needs.{needs}
-use Rattle.job.proofs.Refused.{seeds-within}
-use Rattle.job.proofs.state.seeded.Statement.{statement}
-use Rattle.job.proofs.state.seeded.Tie as tie
+use Rattle.job_refusals.proofs.Refused.{seeds-within}
+use Rattle.job_refusals.proofs.seeds.seeded.Statement.{statement}
+use Rattle.job_refusals.proofs.seeds.seeded.Tie as tie
 
 cast-seed : tie.Need-cast-seed
 cast-seed c = omega (arith, seeds-within _ _ _ _ _ _ (c .before .pre) .0 .0)
