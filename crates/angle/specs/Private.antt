@@ -1,4 +1,4 @@
--- What the private functions return.
+-- For private functions; no public contract cites these.
 use mathlib.Core.Path.{_≡_}
 use mathlib.Core.List.{List, [], _∷_}
 use Prim.Native.Nat.{ℕ, _/_, _%_}

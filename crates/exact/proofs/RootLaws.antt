@@ -1,4 +1,4 @@
--- Laws of the two roots of Rotation.antt: each is what its comment there says, so that both grow with the number under the root.
+-- Laws of the roots of specs/Root.antt: each is what its comment there says, so that both grow with the number under the root.
 use mathlib.Core.Path.{_≡_, refl}
 use mathlib.Core.Bool.{Bool, true, false}
 use Prim.Native.Nat.{ℕ, zero, suc, _+_, _*_, _/_, _≤_, _<_}
@@ -7,7 +7,7 @@ use native.Mathlib.Decide.{decLe}
 use native.Mathlib.Omega.{arith}
 use lib.Dec.{leb}
 use borrow.Author.Tests.{leb-true, leb-false}
-use Rattle.exact.specs.Rotation.{nextDigit, rootDigits, rootDown, rootUp}
+use Rattle.exact.specs.Root.{nextDigit, rootDigits, rootDown, rootUp}
 
 -- y is the whole part of the square root of m
 pub record IsRoot (m y : ℕ) : Type 0 where

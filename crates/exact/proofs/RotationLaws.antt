@@ -8,7 +8,8 @@ use native.Mathlib.Decide.{decLe}
 use native.Mathlib.Omega.{arith}
 use lib.Pow.{pow-pos, pow-add}
 use Rattle.exact.specs.Fraction.{whole, dyadic, square, _≤ᶠ_, _+ᶠ_}
-use Rattle.exact.specs.Rotation.{Rotation, rootDown, rootUp, quotientUp, none, quarterTurn, half, compose}
+use Rattle.exact.specs.Root.{rootDown, rootUp}
+use Rattle.exact.specs.Rotation.{Rotation, quotientUp, none, quarterTurn, half, compose}
 use Rattle.exact.specs.Rotation.{halving, bitRotation, bitsRotation, rotation}
 use Rattle.exact.proofs.RootLaws.{lt-of-square-lt, root-down-at-most, root-up-least, root-down-le-root-up}
 use Rattle.exact.proofs.RootLaws.{root-down-scaled, root-up-scaled}

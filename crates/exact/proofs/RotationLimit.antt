@@ -4,7 +4,8 @@ use Prim.Native.Nat.{ℕ, zero, suc, _+_, _-_, _*_, _^_, _≤_, _<_, min}
 use native.Mathlib.Nat.{le-refl, min-le-right, div-mul-le-self, mul-le-mul, mul-le-mul-left, mul-le-mul-right}
 use native.Mathlib.Omega.{arith}
 use lib.Pow.{pow-pos}
-use Rattle.exact.specs.Rotation.{Rotation, rootUp, quotientUp, half, compose}
+use Rattle.exact.specs.Root.{rootUp}
+use Rattle.exact.specs.Rotation.{Rotation, quotientUp, half, compose}
 use Rattle.exact.proofs.RootLaws.{lt-of-square-lt, root-down-at-most, root-down-le-root-up, root-up-at-least}
 use Rattle.exact.proofs.RootLaws.{root-up-previous}
 use Rattle.exact.proofs.RotationLaws.{Good, good-half, quotient-up-at-least, scaled-min}

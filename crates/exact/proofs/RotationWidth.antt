@@ -7,7 +7,8 @@ use native.Mathlib.Decide.{decLe}
 use native.Mathlib.Omega.{arith}
 use lib.Pow.{pow-pos, pow-mono, pow-add}
 use Rattle.exact.specs.Fraction.{Fraction, whole, dyadic, _+ᶠ_, _<ᶠ_}
-use Rattle.exact.specs.Rotation.{Rotation, rootDown, rootUp, quotientUp, none, half, compose}
+use Rattle.exact.specs.Root.{rootDown, rootUp}
+use Rattle.exact.specs.Rotation.{Rotation, quotientUp, none, half, compose}
 use Rattle.exact.specs.Rotation.{halving, bitRotation, bitsRotation, bitByBit, rotation}
 use Rattle.exact.proofs.RootLaws.{lt-of-square-lt, root-down-at-most, root-down-next, root-up-previous}
 use Rattle.exact.proofs.RotationLaws.{Good, good-bit, good-bits}

@@ -2,5 +2,6 @@
 pub mod Fraction
 pub mod Series
 pub mod Radius
+pub mod Root
 pub mod Rotation
 pub mod Pair

@@ -1,4 +1,4 @@
--- Reciprocals for quotients by h, h from 256 to 511. Their law is `quotient-is`.
+-- For the steps of `radius`; no public call cites these. Reciprocals for quotients by h, h from 256 to 511; their law is `quotient-is`.
 use mathlib.Core.List.{List, [], _∷_}
 use Prim.Native.Nat.{ℕ, zero, suc, _+_, _/_, _-_, _^_}
 

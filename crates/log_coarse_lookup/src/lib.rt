@@ -1,10 +1,10 @@
-// Single entries of table A by one match, which the compiler makes static data of: nothing is loaded before the first entry, as a table
-// that is handed out by value is. Above each entry stands the reciprocal of its index: the entry is the lower 40 bits of an arm and the
+// Look-ups in table A, the coarse logarithms, by one match. The compiler makes static data of it, where a constant array would be written
+// to the stack at each use. Above each entry stands the reciprocal of its index: the entry is the lower 40 bits of an arm and the
 // reciprocal the upper 24.
 ghost use mathlib.Core.Path.{_≡_};
 ghost use Prim.Native.Nat.{_/_, _%_, _^_};
 ghost use lib.ListN.{getD};
-ghost use Rattle.tables.specs.Arms.{NoKey, beside};
+ghost use Rattle.tables.specs.Private.{NoKey, beside};
 ghost use Rattle.tables.specs.Values.{logCoarseList};
 ghost use Rattle.tables.specs.Tables.{logCoarse, entryOf};
 ghost use Rattle.log_coarse_lookup.specs.Reciprocals.{reciprocals};

@@ -1,8 +1,8 @@
-// Single entries of table B by one match, which the compiler makes static data of: nothing is loaded before the first entry, as a
-// table that is handed out by value is.
+// Look-ups in table B, the fine logarithms, by one match. The compiler makes static data of it, where a constant array would be written
+// to the stack at each use.
 ghost use mathlib.Core.Path.{_≡_};
 ghost use lib.ListN.{getD};
-ghost use Rattle.tables.specs.Arms.{NoKey};
+ghost use Rattle.tables.specs.Private.{NoKey};
 ghost use Rattle.tables.specs.Values.{logFineList};
 ghost use Rattle.tables.specs.Tables.{logFine, entryOf};
 

@@ -1,4 +1,5 @@
-// 2Q, the number whose root is F, the radius at 2^20, of a first number k (document 01, 'Radius'; the half step of document 02, Job 5).
+// The number under the root, 2Q, of a first number k: the whole part of its root is F, the radius at 2^20 (document 01, 'Radius', with
+// the half step of document 02, Job 5).
 ghost use mathlib.Core.Path.{_≡_};
 ghost use Prim.Native.Nat.{_+_, _-_, _*_, _%_, _^_, _≤_, _<_};
 ghost use Rattle.tables.specs.Tables.{logCoarse, logFine, lnTwo, entryOf};

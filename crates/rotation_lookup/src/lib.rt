@@ -1,9 +1,8 @@
-// Single entries of the rotation tables C, D, c and s. The two matches hold the cosine and the sine of one index as the halves of one
-// number, and the compiler makes static data of them: nothing is loaded before the first entry, as a table that is handed out by
-// value is.
+// Look-ups in the rotation tables C, D, c and s. The two matches hold the cosine and the sine of one index as the halves of one number.
+// The compiler makes static data of them, where a constant array would be written to the stack at each use.
 ghost use mathlib.Core.Path.{_≡_};
 ghost use lib.ListN.{getD};
-ghost use Rattle.tables.specs.Arms.{NoKey, beside};
+ghost use Rattle.tables.specs.Private.{NoKey, beside};
 ghost use Rattle.tables.specs.Values.{cosCoarseList, sinCoarseList, cosFineList, sinFineList};
 ghost use Rattle.tables.specs.Tables.{cosCoarse, sinCoarse, cosFine, sinFine, entryOf};
 

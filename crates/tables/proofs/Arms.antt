@@ -5,7 +5,7 @@ use Prim.Native.Nat.{ℕ, zero, suc, _+_, _*_, _/_, _%_, _^_, _≤_, _<_}
 use native.Mathlib.Omega.{arith}
 use lib.Pow.{high, low}
 use lib.ListN.{length, getD}
-use Rattle.tables.specs.Arms.{NoKey, beside}
+use Rattle.tables.specs.Private.{NoKey, beside}
 
 pub no-key-le : (n x : ℕ) → NoKey n x → n ≤ x
 no-key-le zero x none = omega arith
@@ -19,9 +19,10 @@ beside-at width (x ∷ uppers) [] n h = omega arith
 beside-at width (x ∷ uppers) (y ∷ lowers) zero h = refl
 beside-at width (x ∷ uppers) (y ∷ lowers) (suc n) h = beside-at width uppers lowers n (omega arith)
 
-module _ (width : ℕ) (uppers lowers : List ℕ) (n : ℕ) (same : length uppers ≡ length lowers) (small : getD lowers n 0 < 2 ^ width) where
-  pub upper-part : getD (beside width uppers lowers) n 0 / 2 ^ width ≡ getD uppers n 0
-  upper-part = ap (λ x. x / 2 ^ width) (beside-at width uppers lowers n same) ∙ high (getD uppers n 0) width small
-
-  pub lower-part : getD (beside width uppers lowers) n 0 % 2 ^ width ≡ getD lowers n 0
-  lower-part = ap (λ x. x % 2 ^ width) (beside-at width uppers lowers n same) ∙ low (getD uppers n 0) width small
+pub parts :
+    (width : ℕ) (uppers lowers : List ℕ) → length uppers ≡ length lowers → (n r : ℕ) → getD lowers n 0 < 2 ^ width →
+    r ≡ getD (beside width uppers lowers) n 0 → (r / 2 ^ width ≡ getD uppers n 0) × (r % 2 ^ width ≡ getD lowers n 0)
+parts width uppers lowers same n r small e = (
+  ap (λ x. x / 2 ^ width) (e ∙ beside-at width uppers lowers n same) ∙ high (getD uppers n 0) width small,
+  ap (λ x. x % 2 ^ width) (e ∙ beside-at width uppers lowers n same) ∙ low (getD uppers n 0) width small,
+)

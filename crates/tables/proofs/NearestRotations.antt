@@ -8,12 +8,10 @@ use native.Mathlib.Omega.{arith}
 use lib.Dec.{T, ltb, ltb→lt}
 use lib.ListN.{length}
 use store.Enc.{and-l, and-r}
+use Rattle.exact.specs.Root.{rootDigits, rootDown, rootUp}
 use Rattle.exact.specs.Rotation.{
   Rotation,
   none,
-  rootDigits,
-  rootDown,
-  rootUp,
   half,
   compose,
   halving,

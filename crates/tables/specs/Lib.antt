@@ -1,4 +1,4 @@
 pub mod Values
 pub mod Tables
 pub mod Promise
-pub mod Arms
+pub mod Private

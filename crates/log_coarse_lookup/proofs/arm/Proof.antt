@@ -1,12 +1,12 @@
 -- `log_coarse_lookup::arm` meets its contract, by the definition's two cases: below the table, and from its first entry on.
-use mathlib.Core.Path.{_≡_, refl, sym, ap, _∙_}
-use Prim.Native.Nat.{ℕ, _-_, _/_, _%_, _^_, _≤_, _<_}
+use mathlib.Core.Path.{_≡_, refl, sym, _∙_}
+use Prim.Native.Nat.{ℕ, _-_, _^_, _≤_, _<_}
 use native.Mathlib.Omega.{arith}
 use lib.ListN.{getD}
 use borrow.Author.Needs.{needs}
 use Rattle.tables.specs.Values.{logCoarseList}
 use Rattle.tables.specs.Tables.{entryOf, logCoarse, logCoarse-is}
-use Rattle.tables.proofs.Arms.{upper-part, lower-part}
+use Rattle.tables.proofs.Arms.{parts}
 use Rattle.tables.proofs.Bounds.{bounds}
 use Rattle.tables.proofs.Entries.{entry-below, entry-at}
 use Rattle.log_coarse_lookup.specs.Reciprocals.{reciprocals}
@@ -28,11 +28,9 @@ small h low = rw (entry-is h low) (omega (arith, bounds .log-coarse h, bounds .l
 returns-2 : tie.Need-returns-2
 returns-2 c =
     let h : ℕ = c .before .before .args .h in
-    let low : 256 ≤ h = omega arith in (
-      ap (λ x. x / 2 ^ 40) (c .nth .ensures) ∙ upper-part 40 reciprocals logCoarseList (h - 256) refl (small h low)
-          ∙ sym (entry-at reciprocals 256 h low),
-      ap (λ x. x % 2 ^ 40) (c .nth .ensures) ∙ lower-part 40 reciprocals logCoarseList (h - 256) refl (small h low) ∙ entry-is h low,
-    )
+    let low : 256 ≤ h = omega arith in
+    let both = parts 40 reciprocals logCoarseList refl (h - 256) _ (small h low) (c .nth .ensures) in
+    (both .0 ∙ sym (entry-at reciprocals 256 h low), both .1 ∙ entry-is h low)
 
 pub arm-spec : {M : Type 1} → statement M
 arm-spec = tie.close (tie.spec returns nth-requires returns-2)

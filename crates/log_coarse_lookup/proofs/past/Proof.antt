@@ -1,7 +1,7 @@
 -- `log_coarse_lookup::past` meets its contract: a number that is none of the keys is beyond them.
 use mathlib.Core.Path.{sym}
 use lib.ListN.{List·getD-eq-default}
-use Rattle.tables.specs.Arms.{beside}
+use Rattle.tables.specs.Private.{beside}
 use Rattle.tables.specs.Values.{logCoarseList}
 use Rattle.tables.proofs.Arms.{no-key-le}
 use Rattle.log_coarse_lookup.specs.Reciprocals.{reciprocals}

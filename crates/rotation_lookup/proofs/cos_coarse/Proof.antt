@@ -1,27 +1,14 @@
--- `rotation_lookup::cos_coarse` meets its contract: it is the upper half of a number in which a cosine and a sine stand side by side.
-use mathlib.Core.Path.{refl, ap, _∙_}
-use Prim.Native.Nat.{ℕ, _/_, _^_, _<_}
-use native.Mathlib.Omega.{arith}
-use lib.ListN.{getD}
+-- `rotation_lookup::cos_coarse` meets its contract: the upper half of an arm.
 use borrow.Author.Needs.{needs}
-use Rattle.tables.specs.Values.{cosCoarseList, sinCoarseList}
-use Rattle.tables.specs.Tables.{cosCoarse-is, sinCoarse-is}
-use Rattle.tables.proofs.Entries.{entry-from-zero}
-use Rattle.tables.proofs.Bounds.{bounds}
-use Rattle.tables.proofs.Arms.{upper-part}
+use Rattle.rotation_lookup.proofs.Halves.{coarse}
 use Rattle.rotation_lookup.proofs.cos_coarse.Statement.{statement}
 use Rattle.rotation_lookup.proofs.cos_coarse.Tie as tie
-
-small : (n : ℕ) → getD sinCoarseList n 0 < 2 ^ 32
-small n = rw (entry-from-zero _ _ sinCoarse-is n) (omega (arith, bounds .sin-coarse n))
 
 nth-coarse-requires : tie.Need-nth-coarse-requires
 nth-coarse-requires c κs = search needs
 
 returns : tie.Need-returns
-returns c =
-    let n : ℕ = c .before .args .a in
-    ap (λ x. x / 2 ^ 32) (c .nth-coarse .ensures) ∙ upper-part 32 cosCoarseList sinCoarseList n refl (small n) ∙ entry-from-zero _ _ cosCoarse-is n
+returns c = coarse _ _ (c .nth-coarse .ensures) .0
 
 pub cos-coarse-spec : {M : Type 1} → statement M
 cos-coarse-spec = tie.close (tie.spec nth-coarse-requires returns)

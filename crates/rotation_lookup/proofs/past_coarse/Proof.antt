@@ -2,7 +2,7 @@
 use mathlib.Core.Path.{sym}
 use lib.ListN.{List·getD-eq-default}
 use Rattle.tables.specs.Values.{cosCoarseList, sinCoarseList}
-use Rattle.tables.specs.Arms.{beside}
+use Rattle.tables.specs.Private.{beside}
 use Rattle.tables.proofs.Arms.{no-key-le}
 use Rattle.rotation_lookup.proofs.past_coarse.Statement.{statement}
 use Rattle.rotation_lookup.proofs.past_coarse.Tie as tie

@@ -1,4 +1,4 @@
--- What the matches that stand in place of tables need.
+-- For private functions; no public contract cites these. What the matches of the look-up crates need.
 use mathlib.Core.Path.{_≡_}
 use mathlib.Core.List.{List, [], _∷_}
 use Prim.Native.Nat.{ℕ, zero, suc, _+_, _*_, _^_}
