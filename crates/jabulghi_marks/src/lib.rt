@@ -5,14 +5,14 @@ ghost use mathlib.Core.Path.{_≡_};
 ghost use Prim.Native.Nat.{_+_, _<_, _≤_};
 ghost use lib.ListN.{length, take, drop, set};
 ghost use Rattle.text.specs.Limits.{nameLength};
-ghost use Rattle.text.specs.Buffer.{written};
+ghost use Rattle.buffer.specs.Buffer.{written};
 ghost use Rattle.jabulghi.specs.Words.{generatorOf};
 ghost use Rattle.marks.specs.Marks.{places, placeToSave, placeToReturn, placeToDrop};
 ghost use Rattle.jabulghi_marks.specs.Members.{recordWords, recordsLength, namesLength, members, labelsOf, storedIn, savedIn, returnedWords, droppedIn};
+use buffer::put;
 use jabulghi::unpacked;
 use marks::Label;
 use marks::PLACES;
-use text::buffer::put;
 use text::limits::NAME_LENGTH;
 
 // The words of a record.

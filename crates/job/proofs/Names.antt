@@ -6,9 +6,9 @@ use mathlib.Core.List.{List, []}
 use lib.Dec.{eqb}
 use lib.ListN.{length}
 use Rattle.text.specs.Limits.{nameLength}
-use Rattle.text.specs.Buffer.{written}
+use Rattle.buffer.specs.Buffer.{written}
 use Rattle.text.proofs.Plain.{name-length}
-use Rattle.text.proofs.Writing.{written-none}
+use Rattle.buffer.proofs.Writing.{written-none}
 use Rattle.job_lines.specs.Forms.{Form, shot, readLine, Printable}
 use Rattle.job.specs.Refusals.{refusal}
 use Rattle.job.specs.Job.{printed, settingAfter}

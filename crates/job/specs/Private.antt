@@ -8,7 +8,7 @@ use lib.ListN.{length, take, drop}
 use Rattle.text.specs.Limits.{nameLength}
 use Rattle.text.specs.Fields.{partOf}
 use Rattle.text.specs.Scan.{lines}
-use Rattle.text.specs.Buffer.{written, placeAfter}
+use Rattle.buffer.specs.Buffer.{written, positionAfter}
 use Rattle.job.specs.Limits.{lastLine, listingRoom, mostSigma, mostDistance, mostBearing}
 use Rattle.job_lines.specs.Forms.{Form}
 use Rattle.job_lines.specs.declared.Shot.{Shot as ShotFields}
@@ -56,7 +56,7 @@ taken s code used setting =
 -- a line that says x: the state after it, and the buffer with what it prints
 unfoldable pub takenOf : State → Form → List ℕ → Taken
 takenOf s x out =
-    taken s (refusal (s .line) x) (placeAfter out (s .used) (printed x (s .setting))) (settingAfter x (s .setting))
+    taken s (refusal (s .line) x) (positionAfter out (s .used) (printed x (s .setting))) (settingAfter x (s .setting))
 
 unfoldable pub bufferOf : State → Form → List ℕ → List ℕ
 bufferOf s x out = cond (eqb (refusal (s .line) x) 0) (written out (s .used) (printed x (s .setting))) out

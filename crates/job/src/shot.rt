@@ -4,7 +4,7 @@ use listing_writer::noisy_bearing;
 use listing_writer::noisy_distance;
 use listing_writer::put_shot;
 use text::field::part;
-ghost use Rattle.text.specs.Buffer.{Puts};
+ghost use Rattle.buffer.specs.Buffer.{Puts};
 ghost use Rattle.job.specs.Private.{Steady, Ranged, rowOf};
 
 // What the row of a shot is made of: the sigmas and the samples of one pair.

@@ -18,7 +18,7 @@ ghost use mathlib.Core.Path.{_≡_};
 ghost use mathlib.Core.Bool.{false, _||_};
 ghost use lib.Dec.{ltb};
 ghost use Rattle.streams.specs.Streams.{seedOf};
-ghost use Rattle.text.specs.Buffer.{written, placeAfter};
+ghost use Rattle.buffer.specs.Buffer.{written, positionAfter};
 ghost use Rattle.job.specs.Limits.{lastLine, mostSeed};
 ghost use Rattle.job_lines.specs.Forms.{readLine};
 ghost use Rattle.job.specs.Refusals.{beyond, refusal};
@@ -142,7 +142,7 @@ fn on_sigma(x: Sigma, s: State) -> Taken
 fn listed_shot(line: &[u8], x: Shot, s: State, out: &mut [u8]) -> Taken
     requires { ⌜ Steady (s .setting .distance) (s .setting .bearing) ⌝ }
     requires { ⌜ (s .line ≤ lastLine) × Ranged x ⌝ }
-    ensures { λ r. ⌜ (r ≡ taken s 0 (placeAfter (now (out .entry)) (s .used) (printed (shotIn (now (line .entry)) x) (s .setting)))
+    ensures { λ r. ⌜ (r ≡ taken s 0 (positionAfter (now (out .entry)) (s .used) (printed (shotIn (now (line .entry)) x) (s .setting)))
         (settingAfter (shotIn (now (line .entry)) x) (s .setting)))
         × (now (out .exit) ≡ written (now (out .entry)) (s .used) (printed (shotIn (now (line .entry)) x) (s .setting))) ⌝ }
 {

@@ -9,11 +9,11 @@ use mathlib.Core.Option.{Option, some, none}
 use lib.Dec.{eqb}
 use lib.ListN.{length, getD, drop, drop-of-length-le}
 use lib.Seq.{drop-cons}
-use Rattle.text.specs.Fields.{name, numeral, value, decimal}
+use Rattle.text.specs.Fields.{name, digitString, value, decimal}
 use Rattle.text.specs.Scan.{oneOf}
 use Rattle.text.specs.Forms.{printForm, marks, readForm}
 use Rattle.text.specs.Theorems.{allPlain, formed, startsSeparate}
-use Rattle.text.proofs.Decimal.{numeral-decimal, value-decimal, decimal-value, numeral-below}
+use Rattle.text.proofs.Decimal.{digit-string-decimal, value-decimal, decimal-value, digit-string-below}
 use Rattle.text.proofs.Plain.{plains, no-plains, decimal-plain, name-plain}
 use Rattle.text.proofs.Forms.{
   read-byte,
@@ -103,12 +103,12 @@ read-printed (seeds a0 a1 a2 b0 b1 b2) h =
     (plains _ _ (decimal-plain b0) (plains _ _ (decimal-plain b1) (plains _ _ (decimal-plain b2) no-plains))))) in
     read-seeds (printForm seedsForm vs) vs (form-read seedsForm vs (all-formed .0) p (all-marks .0))
     ∙ rw (
-      numeral-decimal a0 (h .0),
-      numeral-decimal a1 (h .1),
-      numeral-decimal a2 (h .2),
-      numeral-decimal b0 (h .3),
-      numeral-decimal b1 (h .4),
-      numeral-decimal b2 (h .5),
+      digit-string-decimal a0 (h .0),
+      digit-string-decimal a1 (h .1),
+      digit-string-decimal a2 (h .2),
+      digit-string-decimal b0 (h .3),
+      digit-string-decimal b1 (h .4),
+      digit-string-decimal b2 (h .5),
       value-decimal a0,
       value-decimal a1,
       value-decimal a2,
@@ -120,14 +120,14 @@ read-printed (sigma d b) h =
     let vs : List (List ℕ) = decimal d ∷ decimal b ∷ [] in
     let p : allPlain vs ≡ true = plains _ _ (decimal-plain d) (plains _ _ (decimal-plain b) no-plains) in
     read-sigma (printForm sigmaForm vs) vs (seeds-sigma vs) (form-read sigmaForm vs (all-formed .1) p (all-marks .1))
-    ∙ rw (numeral-decimal d (h .0), numeral-decimal b (h .1), value-decimal d, value-decimal b)
+    ∙ rw (digit-string-decimal d (h .0), digit-string-decimal b (h .1), value-decimal d, value-decimal b)
 read-printed (shot from to d b) h =
     let vs : List (List ℕ) = from ∷ to ∷ decimal d ∷ decimal b ∷ [] in
     let p : allPlain vs ≡ true =
     plains _ _ (name-plain from (h .0))
     (plains _ _ (name-plain to (h .1)) (plains _ _ (decimal-plain d) (plains _ _ (decimal-plain b) no-plains))) in
     read-shot (printForm shotForm vs) vs (seeds-shot vs) (sigma-shot vs) (form-read shotForm vs (all-formed .2) p (all-marks .2))
-    ∙ rw (h .0, h .1, numeral-decimal d (h .2), numeral-decimal b (h .3), value-decimal d, value-decimal b)
+    ∙ rw (h .0, h .1, digit-string-decimal d (h .2), digit-string-decimal b (h .3), value-decimal d, value-decimal b)
 read-printed noForm h = absurd h
 
 -- n fields from place j on, place by place
@@ -170,7 +170,7 @@ module _ (l : List ℕ) (vs : List (List ℕ)) where
   seeds-read h k = split (three 0 && three 3) refl k
     where
       three : ℕ → Bool
-      three i = numeral (v i) && numeral (v (i + 1)) && numeral (v (i + 2))
+      three i = digitString (v i) && digitString (v (i + 1)) && digitString (v (i + 2))
 
       x : Form
       x = seeds (value 0 (v 0)) (value 0 (v 1)) (value 0 (v 2)) (value 0 (v 3)) (value 0 (v 4)) (value 0 (v 5))
@@ -179,15 +179,15 @@ module _ (l : List ℕ) (vs : List (List ℕ)) where
       split false e k = absurd (k refl)
       split true e k =
           let t = and-eq-true-iff (three 0) (three 3) .0 e in
-          let m = three-true (numeral (v 0)) (numeral (v 1)) (numeral (v 2)) (t .0) in
-          let n = three-true (numeral (v 3)) (numeral (v 4)) (numeral (v 5)) (t .1) in (
+          let m = three-true (digitString (v 0)) (digitString (v 1)) (digitString (v 2)) (t .0) in
+          let n = three-true (digitString (v 3)) (digitString (v 4)) (digitString (v 5)) (t .1) in (
             (
-              numeral-below (v 0) (m .0),
-              numeral-below (v 1) (m .1),
-              numeral-below (v 2) (m .2),
-              numeral-below (v 3) (n .0),
-              numeral-below (v 4) (n .1),
-              numeral-below (v 5) (n .2),
+              digit-string-below (v 0) (m .0),
+              digit-string-below (v 1) (m .1),
+              digit-string-below (v 2) (m .2),
+              digit-string-below (v 3) (n .0),
+              digit-string-below (v 4) (n .1),
+              digit-string-below (v 5) (n .2),
             ),
             rw (decimal-value (v 0) (m .0), decimal-value (v 1) (m .1), decimal-value (v 2) (m .2), decimal-value (v 3) (n .0))
                 (rw (decimal-value (v 4) (n .1), decimal-value (v 5) (n .2)) (print-places seedsForm l vs 6 (all-marks .0) h)),
@@ -195,34 +195,34 @@ module _ (l : List ℕ) (vs : List (List ℕ)) where
 
   sigma-read : readForm sigmaForm l ≡ some vs → (sigmaOf vs ≡ noForm → ⊥) → Printed l (sigmaOf vs)
   unfolding sigmaOf Printed Printable printLine
-  sigma-read h k = split (numeral (v 0) && numeral (v 1)) refl k
+  sigma-read h k = split (digitString (v 0) && digitString (v 1)) refl k
     where
       x : Form
       x = sigma (value 0 (v 0)) (value 0 (v 1))
 
-      split : (b : Bool) → numeral (v 0) && numeral (v 1) ≡ b → (cond b x noForm ≡ noForm → ⊥) → Printed l (cond b x noForm)
+      split : (b : Bool) → digitString (v 0) && digitString (v 1) ≡ b → (cond b x noForm ≡ noForm → ⊥) → Printed l (cond b x noForm)
       split false e k = absurd (k refl)
       split true e k =
-          let n = and-eq-true-iff (numeral (v 0)) (numeral (v 1)) .0 e in (
-            (numeral-below (v 0) (n .0), numeral-below (v 1) (n .1)),
+          let n = and-eq-true-iff (digitString (v 0)) (digitString (v 1)) .0 e in (
+            (digit-string-below (v 0) (n .0), digit-string-below (v 1) (n .1)),
             rw (decimal-value (v 0) (n .0), decimal-value (v 1) (n .1)) (print-places sigmaForm l vs 2 (all-marks .1) h),
           )
 
-  -- four fields that give a shot are its names and the numerals of its numbers
+  -- four fields that give a shot are its names and the digit strings of its numbers
   pub shot-case : (shotOf vs ≡ noForm → ⊥) → Printable (shot (v 0) (v 1) (value 0 (v 2)) (value 0 (v 3)))
       × (shotOf vs ≡ shot (v 0) (v 1) (value 0 (v 2)) (value 0 (v 3))) × (decimal (value 0 (v 2)) ≡ v 2) × (decimal (value 0 (v 3)) ≡ v 3)
   unfolding shotOf Printable
-  shot-case k = split (name (v 0) && name (v 1) && numeral (v 2) && numeral (v 3)) refl k
+  shot-case k = split (name (v 0) && name (v 1) && digitString (v 2) && digitString (v 3)) refl k
     where
       x : Form
       x = shot (v 0) (v 1) (value 0 (v 2)) (value 0 (v 3))
 
-      split : (b : Bool) → name (v 0) && name (v 1) && numeral (v 2) && numeral (v 3) ≡ b → (cond b x noForm ≡ noForm → ⊥)
+      split : (b : Bool) → name (v 0) && name (v 1) && digitString (v 2) && digitString (v 3) ≡ b → (cond b x noForm ≡ noForm → ⊥)
           → Printable x × (cond b x noForm ≡ x) × (decimal (value 0 (v 2)) ≡ v 2) × (decimal (value 0 (v 3)) ≡ v 3)
       split false e k = absurd (k refl)
       split true e k =
-          let n = four (name (v 0)) (name (v 1)) (numeral (v 2)) (numeral (v 3)) e in (
-            (n .0, n .1, numeral-below (v 2) (n .2), numeral-below (v 3) (n .3)),
+          let n = four (name (v 0)) (name (v 1)) (digitString (v 2)) (digitString (v 3)) e in (
+            (n .0, n .1, digit-string-below (v 2) (n .2), digit-string-below (v 3) (n .3)),
             refl,
             decimal-value (v 2) (n .2),
             decimal-value (v 3) (n .3),

@@ -7,13 +7,13 @@ use mathlib.Core.List.{List, [], _∷_, _++_}
 use mathlib.Core.Option.{Option, some, none}
 use lib.ListN.{length, getD}
 use lib.Seq.{drop-append-seam}
-use Rattle.text.specs.Limits.{numeralBound}
+use Rattle.text.specs.Limits.{decimalBound}
 use Rattle.text.specs.Ascii.{ascii}
-use Rattle.text.specs.Fields.{all, name, numeral, value, decimal}
+use Rattle.text.specs.Fields.{all, name, digitString, value, decimal}
 use Rattle.text.specs.Scan.{oneOf, lines}
 use Rattle.text.specs.Forms.{printForm, readForm, marks, isEmpty}
 use Rattle.text.specs.Theorems.{plain, allPlain, formed, startsSeparate}
-use Rattle.text.proofs.Decimal.{numeral-decimal, value-decimal, decimal-value, numeral-below}
+use Rattle.text.proofs.Decimal.{digit-string-decimal, value-decimal, decimal-value, digit-string-below}
 use Rattle.text.proofs.Plain.{plains, no-plains, decimal-plain, name-plain, feedForm, line-printed}
 use Rattle.text.proofs.Forms.{unmarked, read-mark, read-byte, starts-same, starts-other, field-is, read-count, read-printed, printed-read}
 use Rattle.text.proofs.Split.{line-first}
@@ -63,13 +63,13 @@ module _ (f t : List ℕ) (m n s : ℕ) (hf : name f ≡ true) (ht : name t ≡ 
   pub row-line : (b : Bool) (rest : List ℕ) → lines (rowOf b f t m n s ++ rest) ≡ rowOf b f t m n s ∷ lines rest
   row-line b rest = rw (row-is b) (line-printed (rowForm b) (fieldsOf b f t m n s) rest (row-formed b .1) (all-plain b) (field-count b))
 
-  fields-leg : (b : Bool) → Alike b m n → m < numeralBound → n < numeralBound → s < numeralBound → legOf (highAt b) (fieldsOf b f t m n s) ≡ leg f t m n s
+  fields-leg : (b : Bool) → Alike b m n → m < decimalBound → n < decimalBound → s < decimalBound → legOf (highAt b) (fieldsOf b f t m n s) ≡ leg f t m n s
   unfolding legOf highAt
   fields-leg true alike hm hn hs =
-      rw (hf, ht, numeral-decimal m hm, numeral-decimal n hn, numeral-decimal s hs, value-decimal m, value-decimal n, value-decimal s)
-  fields-leg false alike hm hn hs = rw (hf, ht, numeral-decimal m hm, numeral-decimal s hs, value-decimal m, value-decimal s, ← alike)
+      rw (hf, ht, digit-string-decimal m hm, digit-string-decimal n hn, digit-string-decimal s hs, value-decimal m, value-decimal n, value-decimal s)
+  fields-leg false alike hm hn hs = rw (hf, ht, digit-string-decimal m hm, digit-string-decimal s hs, value-decimal m, value-decimal s, ← alike)
 
-  pub row-read : (b : Bool) → Alike b m n → m < numeralBound → n < numeralBound → s < numeralBound → readEntry b (rowOf b f t m n s) ≡ leg f t m n s
+  pub row-read : (b : Bool) → Alike b m n → m < decimalBound → n < decimalBound → s < decimalBound → readEntry b (rowOf b f t m n s) ≡ leg f t m n s
   row-read b alike hm hn hs =
       ap (readEntry b) (row-is b)
       ∙ read-row b (printForm (rowForm b) (fieldsOf b f t m n s)) (fieldsOf b f t m n s)
@@ -122,9 +122,9 @@ module _ (n : ℕ) where
       read-end b (endRow n) (decimal n ∷ []) (no-row b)
       (ap (readForm endForm) end-is ∙ read-printed endForm (decimal n ∷ []) (end-formed .0) end-plain end-marks)
 
-  pub end-read : (b : Bool) → n < numeralBound → readEntry b (endRow n) ≡ last n
+  pub end-read : (b : Bool) → n < decimalBound → readEntry b (endRow n) ≡ last n
   unfolding endOf
-  end-read b h = end-said b ∙ rw (numeral-decimal n h, value-decimal n)
+  end-read b h = end-said b ∙ rw (digit-string-decimal n h, value-decimal n)
 
 -- ---- the header
 
@@ -160,8 +160,8 @@ header-is b l h = go (readForm (headerOf b) l) refl h
 
 abbrev pub Printed : Bool → List ℕ → Said → Type 0
 Printed b l (leg f t m n s) =
-    (name f ≡ true) × (name t ≡ true) × (m < numeralBound) × (n < numeralBound) × (s < numeralBound) × Alike b m n × (l ≡ rowOf b f t m n s)
-Printed b l (last n) = (n < numeralBound) × (l ≡ endRow n)
+    (name f ≡ true) × (name t ≡ true) × (m < decimalBound) × (n < decimalBound) × (s < decimalBound) × Alike b m n × (l ≡ rowOf b f t m n s)
+Printed b l (last n) = (n < decimalBound) × (l ≡ endRow n)
 Printed b l neither = Unit {0}
 
 -- the tests of a row's fields
@@ -177,7 +177,7 @@ module _ (l : List ℕ) (vs : List (List ℕ)) where
   abbrev v : ℕ → List ℕ
   v i = getD vs i []
 
-  row-same : (b : Bool) → readForm (rowForm b) l ≡ some vs → numeral (v 2) ≡ true → numeral (v (highAt b)) ≡ true → numeral (v (highAt b + 1)) ≡ true
+  row-same : (b : Bool) → readForm (rowForm b) l ≡ some vs → digitString (v 2) ≡ true → digitString (v (highAt b)) ≡ true → digitString (v (highAt b + 1)) ≡ true
       → Alike b (value 0 (v 2)) (value 0 (v (highAt b))) × (l ≡ rowOf b (v 0) (v 1) (value 0 (v 2)) (value 0 (v (highAt b))) (value 0 (v (highAt b + 1))))
   unfolding highAt rowOf shotRow rowForm
   row-same true h p q r =
@@ -186,23 +186,23 @@ module _ (l : List ℕ) (vs : List (List ℕ)) where
 
   row-printed : (b : Bool) → readForm (rowForm b) l ≡ some vs → Printed b l (legOf (highAt b) vs)
   unfolding legOf
-  row-printed b h = split (name (v 0) && name (v 1) && (numeral (v 2) && numeral (v (highAt b)) && numeral (v (highAt b + 1)))) refl
+  row-printed b h = split (name (v 0) && name (v 1) && (digitString (v 2) && digitString (v (highAt b)) && digitString (v (highAt b + 1)))) refl
     where
-      split : (t : Bool) → name (v 0) && name (v 1) && (numeral (v 2) && numeral (v (highAt b)) && numeral (v (highAt b + 1))) ≡ t
+      split : (t : Bool) → name (v 0) && name (v 1) && (digitString (v 2) && digitString (v (highAt b)) && digitString (v (highAt b + 1))) ≡ t
           → Printed b l (cond t (leg (v 0) (v 1) (value 0 (v 2)) (value 0 (v (highAt b))) (value 0 (v (highAt b + 1)))) neither)
       split false e = tt
       split true e =
-          let (f, t, m, n, s) = tests-true (name (v 0)) (name (v 1)) (numeral (v 2)) (numeral (v (highAt b))) (numeral (v (highAt b + 1))) e in
+          let (f, t, m, n, s) = tests-true (name (v 0)) (name (v 1)) (digitString (v 2)) (digitString (v (highAt b))) (digitString (v (highAt b + 1))) e in
           let (alike, same) = row-same b h m n s in
-          (f, t, numeral-below _ m, numeral-below _ n, numeral-below _ s, alike, same)
+          (f, t, digit-string-below _ m, digit-string-below _ n, digit-string-below _ s, alike, same)
 
   end-printed : (b : Bool) → readForm endForm l ≡ some vs → Printed b l (endOf vs)
   unfolding endOf endRow endForm
-  end-printed b h = go (numeral (v 0)) refl
+  end-printed b h = go (digitString (v 0)) refl
     where
-      go : (t : Bool) → numeral (v 0) ≡ t → Printed b l (cond t (last (value 0 (v 0))) neither)
+      go : (t : Bool) → digitString (v 0) ≡ t → Printed b l (cond t (last (value 0 (v 0))) neither)
       go false e = tt
-      go true e = (numeral-below (v 0) e, sym (rw (decimal-value (v 0) e) (print-places endForm l vs 1 end-marks h)))
+      go true e = (digit-string-below (v 0) e, sym (rw (decimal-value (v 0) e) (print-places endForm l vs 1 end-marks h)))
 
 pub entry-printed : (b : Bool) (l : List ℕ) → Printed b l (readEntry b l)
 entry-printed b l = on-row (readForm (rowForm b) l) refl

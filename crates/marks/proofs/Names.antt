@@ -11,7 +11,7 @@ use lib.Seq.{sets, sets-eq, take-append-seam}
 use borrow.Author.Tests.{le-leb, leb-true}
 use Rattle.text.specs.Limits.{nameLength}
 use Rattle.text.specs.Fields.{name, letterOrDigit, all}
-use Rattle.text.specs.Buffer.{written}
+use Rattle.buffer.specs.Buffer.{written}
 use Rattle.marks.specs.declared.Label.{Label}
 use Rattle.text.proofs.SameBytes.{same-refl, same-bytes}
 use Rattle.marks.specs.Marks.{hasName, labelOf}

@@ -23,10 +23,10 @@ ghost use Rattle.marks.specs.Marks.{
   returnedOf,
   droppedOf,
 };
+use buffer::put;
 use streams::Generator;
 use streams::RecordAnswer;
 use streams::first_cause;
-use text::buffer::put;
 use text::field::is_name;
 use text::field::is_same;
 use text::limits::NAME_LENGTH;

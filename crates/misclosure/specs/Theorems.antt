@@ -5,7 +5,7 @@ use mathlib.Core.Bool.{Bool, true, false}
 use mathlib.Core.List.{List, [], _∷_, _++_, map}
 use lib.IntN.{pos, _+ℤ_}
 use lib.ListN.{length}
-use Rattle.text.specs.Limits.{numeralBound}
+use Rattle.text.specs.Limits.{decimalBound}
 use Rattle.text.specs.Fields.{name}
 use Rattle.text.specs.Scan.{lines}
 use Rattle.job_lines.specs.Forms.{Form, seeds, sigma, shot, noForm, readLine}
@@ -62,7 +62,7 @@ Linked between station (r ∷ rows) =
 unfoldable pub LevelRows : List Row → Type 0
 LevelRows [] = Unit {0}
 LevelRows (r ∷ rows) =
-    (name (r .from) ≡ true) × (name (r .to) ≡ true) × (r .low < numeralBound) × (r .step < numeralBound) × (r .low ≡ r .high) × LevelRows rows
+    (name (r .from) ≡ true) × (name (r .to) ≡ true) × (r .low < decimalBound) × (r .step < decimalBound) × (r .low ≡ r .high) × LevelRows rows
 
 -- the same shots, each with the distance that was chosen for it
 unfoldable pub chosenRows : List Row → List Shot → List Row

@@ -11,7 +11,7 @@ use Rattle.text.specs.Fields.{name}
 use Rattle.job_lines.specs.Forms.{fieldAt}
 use Rattle.listing_writer.specs.Rounding.{turnSteps}
 use Rattle.survex_leg.specs.Limits.{tapeDecimals, compassDecimals, mostTape, compassTurn}
-use Rattle.survex_leg.specs.Legs.{Said, leg, wrong, number, tapeIn, compassIn, level, stepOf, legForm, legRange, readLeg}
+use Rattle.survex_leg.specs.Legs.{Said, leg, wrong, isDecimal, tapeIn, compassIn, level, stepOf, legForm, legRange, readLeg}
 
 pub record LegFacts (f t : List ℕ) (d b : ℕ) : Type 0 where
   pub from : name f ≡ true
@@ -31,7 +31,7 @@ Holds (wrong n) = 21 ≤ n
 
 module _ (v : List (List ℕ)) where
   abbrev numbers : Bool
-  numbers = number tapeDecimals (fieldAt v 2) && number compassDecimals (fieldAt v 3)
+  numbers = isDecimal tapeDecimals (fieldAt v 2) && isDecimal compassDecimals (fieldAt v 3)
 
   formed : legForm v ≡ true → (name (fieldAt v 0) ≡ true) × (name (fieldAt v 1) ≡ true)
   unfolding legForm

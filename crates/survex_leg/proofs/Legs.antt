@@ -7,10 +7,10 @@ use lib.Dec.{leb, eqb}
 use lib.ListN.{length, getD}
 use borrow.Author.Tests.{leb-true, lt-leb, le-leb, eq-eqb, ne-eqb}
 use Rattle.text.specs.Fields.{name}
-use Rattle.text.specs.declared.field.Numeral.{Numeral}
+use Rattle.text.specs.declared.field.NumberRead.{NumberRead}
 use Rattle.job_lines.specs.Forms.{fieldAt}
 use Rattle.survex_leg.specs.Limits.{tapeDecimals, compassDecimals, mostTape, compassTurn}
-use Rattle.survex_leg.specs.Legs.{Reads, leg, wrong, number, tapeIn, compassIn, level, stepOf, legForm, legRange, readLeg}
+use Rattle.survex_leg.specs.Legs.{Reads, leg, wrong, isDecimal, tapeIn, compassIn, level, stepOf, legForm, legRange, readLeg}
 use Rattle.survex_leg.specs.Private.{NumbersOf}
 use Rattle.survex_leg.specs.declared.LegNumbers.{LegNumbers}
 
@@ -63,11 +63,11 @@ module _ (tape compass : ℕ) (flat : Bool) where
       leb-true compass compassTurn (u .0)
 
 module _ (v : List (List ℕ)) where
-  pub numbers-are : (ok x y : Bool) (tape compass : Numeral) → x ≡ name (fieldAt v 0) → y ≡ name (fieldAt v 1)
+  pub numbers-are : (ok x y : Bool) (tape compass : NumberRead) → x ≡ name (fieldAt v 0) → y ≡ name (fieldAt v 1)
       → Reads tapeDecimals (fieldAt v 2) tape → Reads compassDecimals (fieldAt v 3) compass
       → ok ≡ x && (y && (tape .ok && compass .ok)) → NumbersOf v (record { ok = ok; tape = tape .value; compass = compass .value })
   numbers-are ok x y tape compass ex ey rt rc eo =
-      let o : ok ≡ name (fieldAt v 0) && (name (fieldAt v 1) && (number tapeDecimals (fieldAt v 2) && number compassDecimals (fieldAt v 3))) =
+      let o : ok ≡ name (fieldAt v 0) && (name (fieldAt v 1) && (isDecimal tapeDecimals (fieldAt v 2) && isDecimal compassDecimals (fieldAt v 3))) =
       eo ∙ rw (ex, ey, rt .ok, rc .ok) in
       record {
         ok = o;
@@ -75,12 +75,12 @@ module _ (v : List (List ℕ)) where
         compass = λ t. rc .value ∙ ap (λ (b : Bool). cond b (compassIn v) 0) (parts (sym o ∙ t) .1);
       }
     where
-      parts : name (fieldAt v 0) && (name (fieldAt v 1) && (number tapeDecimals (fieldAt v 2) && number compassDecimals (fieldAt v 3))) ≡ true
-          → (number tapeDecimals (fieldAt v 2) ≡ true) × (number compassDecimals (fieldAt v 3) ≡ true)
+      parts : name (fieldAt v 0) && (name (fieldAt v 1) && (isDecimal tapeDecimals (fieldAt v 2) && isDecimal compassDecimals (fieldAt v 3))) ≡ true
+          → (isDecimal tapeDecimals (fieldAt v 2) ≡ true) × (isDecimal compassDecimals (fieldAt v 3) ≡ true)
       parts h =
-          let t = and-eq-true-iff (name (fieldAt v 0)) (name (fieldAt v 1) && (number tapeDecimals (fieldAt v 2) && number compassDecimals (fieldAt v 3))) .0 h in
-          let u = and-eq-true-iff (name (fieldAt v 1)) (number tapeDecimals (fieldAt v 2) && number compassDecimals (fieldAt v 3)) .0 (t .1) in
-          and-eq-true-iff (number tapeDecimals (fieldAt v 2)) (number compassDecimals (fieldAt v 3)) .0 (u .1)
+          let t = and-eq-true-iff (name (fieldAt v 0)) (name (fieldAt v 1) && (isDecimal tapeDecimals (fieldAt v 2) && isDecimal compassDecimals (fieldAt v 3))) .0 h in
+          let u = and-eq-true-iff (name (fieldAt v 1)) (isDecimal tapeDecimals (fieldAt v 2) && isDecimal compassDecimals (fieldAt v 3)) .0 (t .1) in
+          and-eq-true-iff (isDecimal tapeDecimals (fieldAt v 2)) (isDecimal compassDecimals (fieldAt v 3)) .0 (u .1)
 
   pub not-five : eqb (length v) 5 ≡ false → wrong 21 ≡ readLeg v
   unfolding readLeg legForm

@@ -13,7 +13,7 @@ use Rattle.text.specs.Fields.{all, digit, value}
 use Rattle.text.proofs.Decimal.{value-append}
 use Rattle.listing_writer.specs.Rounding.{turnSteps}
 use Rattle.survex_leg.specs.Limits.{wholeDigits, compassTurn}
-use Rattle.survex_leg.specs.Legs.{whole, pointed, decimals, digitsUpTo, number, scaled, stepOf}
+use Rattle.survex_leg.specs.Legs.{whole, pointed, decimals, digitsUpTo, isDecimal, scaled, stepOf}
 use Rattle.survex_leg.specs.Theorems.{Nearest, Theorems}
 use Rattle.survex_leg.proofs.Facts.{step-below}
 
@@ -33,8 +33,8 @@ value-from n (x ∷ xs) = step (10 ^ length xs) (value-from (n * 10 + (x - 48)) 
     step p f g h = rw (f, g, h) (omega arith)
 
 -- no more decimals than there may be
-few-decimals : (most : ℕ) (l : List ℕ) → number most l ≡ true → length (decimals l) ≤ most
-unfolding number
+few-decimals : (most : ℕ) (l : List ℕ) → isDecimal most l ≡ true → length (decimals l) ≤ most
+unfolding isDecimal
 few-decimals most l h =
     let t = and-eq-true-iff (digitsUpTo wholeDigits (whole l)) (not (pointed l) || digitsUpTo most (decimals l)) .0 h in
     go (pointed l) refl (t .1)
@@ -45,7 +45,7 @@ few-decimals most l h =
         let v = and-eq-true-iff (leb 1 (length (decimals l)) && leb (length (decimals l)) most) (all digit (decimals l)) .0 u in
         leb-true _ _ (and-eq-true-iff (leb 1 (length (decimals l))) (leb (length (decimals l)) most) .0 (v .0) .1)
 
-exact-is : (most : ℕ) (l : List ℕ) → number most l ≡ true → scaled most l * 10 ^ length (decimals l) ≡ value 0 (whole l ++ decimals l) * 10 ^ most
+exact-is : (most : ℕ) (l : List ℕ) → isDecimal most l ≡ true → scaled most l * 10 ^ length (decimals l) ≡ value 0 (whole l ++ decimals l) * 10 ^ most
 unfolding scaled
 exact-is most l h =
     let k = length (decimals l) in

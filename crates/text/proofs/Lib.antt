@@ -5,6 +5,5 @@ pub mod Forms
 pub mod Plain
 pub mod Steps
 pub mod Readings
-pub mod Writing
 pub mod SameBytes
 pub mod Theorems

@@ -1,4 +1,4 @@
--- Names and numerals are fields: they hold no separator.
+-- Names and digit strings are fields: they hold no separator.
 use Prim.Native.Nat.{ℕ, _≤_}
 use native.Mathlib.Omega.{arith}
 use mathlib.Core.Path.{_≡_, refl, _∙_}

@@ -3,11 +3,11 @@ use mathlib.Core.Path.{_≡_, sym, ap, _∙_}
 use mathlib.Core.Bool.{Bool, true, false, cond, _&&_, and-eq-true-iff}
 use mathlib.Core.List.{List}
 use Prim.Native.Nat.{ℕ}
-use Rattle.text.specs.Fields.{Spells, SpellThree, numeral, value}
-use Rattle.text.specs.declared.field.Numeral.{Numeral}
+use Rattle.text.specs.Fields.{Spells, SpellThree, digitString, value}
+use Rattle.text.specs.declared.field.NumberRead.{NumberRead}
 use Rattle.text.specs.declared.field.Three.{Three}
 
-module _ {t : Bool} {l : List ℕ} {r : Numeral} (s : Spells t l r) where
+module _ {t : Bool} {l : List ℕ} {r : NumberRead} (s : Spells t l r) where
   pub test-true : r .ok ≡ true → t ≡ true
   test-true h = sym (s .ok) ∙ h
 
@@ -17,13 +17,13 @@ module _ {t : Bool} {l : List ℕ} {r : Numeral} (s : Spells t l r) where
   pub spelled-value : r .ok ≡ true → r .value ≡ value 0 l
   spelled-value h = s .value ∙ ap (λ (b : Bool). cond b (value 0 l) 0) (test-true h)
 
--- the values of three numerals
+-- the values of three digit strings
 module _ {a b c : List ℕ} {r : Three} (s : SpellThree a b c r) (h : r .ok ≡ true) where
-  three : (numeral a && numeral b ≡ true) × (numeral c ≡ true)
-  three = and-eq-true-iff (numeral a && numeral b) (numeral c) .0 (sym (s .ok) ∙ h)
+  three : (digitString a && digitString b ≡ true) × (digitString c ≡ true)
+  three = and-eq-true-iff (digitString a && digitString b) (digitString c) .0 (sym (s .ok) ∙ h)
 
-  two : (numeral a ≡ true) × (numeral b ≡ true)
-  two = and-eq-true-iff (numeral a) (numeral b) .0 (three .0)
+  two : (digitString a ≡ true) × (digitString b ≡ true)
+  two = and-eq-true-iff (digitString a) (digitString b) .0 (three .0)
 
   pub three-first : r .first ≡ value 0 a
   three-first = s .first ∙ ap (λ (t : Bool). cond t (value 0 a) 0) (two .0)
