@@ -8,7 +8,7 @@ use Rattle.jabulghi_marks.proofs.name_at.Statement.{statement}
 use Rattle.jabulghi_marks.proofs.name_at.Tie as tie
 use Rattle.jabulghi_marks.proofs.name_at.Reads as reads
 use Rattle.jabulghi_marks.proofs.name_at.Lts as lts
-use Rattle.text.proofs.buffer.put.Reads as put-reads
+use Rattle.buffer.proofs.put.Reads as put-reads
 
 slice-aggregate-put : tie.Need-slice-aggregate-put
 slice-aggregate-put c = search needs
