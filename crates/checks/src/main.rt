@@ -22,7 +22,7 @@ fn signed(sample: i16) {
     if sample < 0 {
         word(b"-");
     }
-    io::print_decimal(STDOUT_FILENO, sample::size_of(sample) as u64);
+    io::print_decimal(STDOUT_FILENO, signs::size_of(sample) as u64);
 }
 
 // Samples, and the end of the line.

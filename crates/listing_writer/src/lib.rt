@@ -17,7 +17,7 @@ pub const TURN_STEPS: u64 = 65536;
 fn noise_size(sigma: u32, sample: i16) -> u64
     ensures { λ r. ⌜ (r ≡ noiseSize sigma (natAbs sample)) × (r < 2 ^ 37) ⌝ }
 {
-    (sigma as u64 * sample::size_of(sample) as u64 + 1024) / 2048
+    (sigma as u64 * signs::size_of(sample) as u64 + 1024) / 2048
 }
 
 pub fn noisy_distance(sigma: u32, distance: u32, sample: i16) -> u64

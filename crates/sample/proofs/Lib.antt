@@ -7,4 +7,3 @@ mod PassLaws
 pub mod Closeness
 pub mod DataSheet
 pub mod Theorems
-pub mod Sizes

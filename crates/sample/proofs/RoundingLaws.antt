@@ -13,7 +13,7 @@ use Rattle.exact.proofs.MemberLaws.{turn-keeps}
 use Rattle.radius.specs.Steps.{radiusOf, radiusLimit}
 use Rattle.radius.proofs.Ranges.{radius-of-range}
 use Rattle.angle.specs.Steps.{signedOf}
-use Rattle.angle.proofs.Signs.{natAbs-neg}
+use Rattle.signs.proofs.Sizes.{natAbs-neg}
 use Rattle.angle.proofs.Ranges.{signed-range}
 use Rattle.sample.specs.Steps.{size, rounded}
 use Rattle.sample.specs.Sample.{firstOf, secondOf}

@@ -3,7 +3,6 @@
 ghost use mathlib.Core.Path.{_≡_};
 ghost use mathlib.Core.List.{map};
 ghost use Prim.Native.Nat.{_+_, _*_, _/_, _^_, _≤_, _<_, min};
-ghost use lib.IntN.{natAbs};
 ghost use lib.ListN.{length};
 ghost use Rattle.exact.specs.Pair.{Close};
 ghost use Rattle.radius.specs.Steps.{numberBits, inverse, radiusLimit};
@@ -277,16 +276,4 @@ pub fn fill18(z: &[u64], out: &mut [i32])
         part18(&z[done..end], &mut out[2 * done..2 * end]);
         done = end;
     }
-}
-
-// The size of a sample.
-pub fn size_of(sample: i16) -> u32
-    ensures { λ r. ⌜ (r ≡ natAbs sample) × (r ≤ 32768) ⌝ }
-{
-    let wide = sample as i32;
-    if wide < 0 {
-        let negated = -wide;
-        return negated as u32;
-    }
-    wide as u32
 }

@@ -14,7 +14,7 @@ use Rattle.sample.specs.Steps.{size, rounded}
 use Rattle.sample.specs.Private.{bitsAt}
 use Rattle.sample.specs.Theorems.{largest}
 use Rattle.sample.proofs.RoundingLaws.{turned-rounded, rounded-small, few-bits, largest-range}
-use Rattle.sample.proofs.Sizes.{cast-fits, cast-reads}
+use Rattle.signs.proofs.Sizes.{cast-fits, cast-reads}
 use Rattle.sample.proofs.pair_of.Statement.{statement}
 use Rattle.sample.proofs.pair_of.Tie as tie
 

@@ -10,7 +10,7 @@ use mir.Facts.{toZ-ofZ}
 use Rattle.exact.specs.Fraction.{Fraction}
 use Rattle.exact.specs.Pair.{Close}
 use Rattle.radius.specs.Steps.{numberBits, inverse}
-use Rattle.angle.proofs.Signs.{size-fits}
+use Rattle.signs.proofs.Sizes.{size-fits}
 use Rattle.sample.specs.Steps.{fractionBits}
 use Rattle.sample.specs.Sample.{firstOf, secondOf, samplesOf, samplesAt, nineSixteenths}
 use Rattle.sample.specs.DataSheet.{thirtyThreeSixtyFourths}

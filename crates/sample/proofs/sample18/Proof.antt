@@ -9,7 +9,7 @@ use mir.Syntax.{w32}
 use mir.Facts.{toZ-ofZ}
 use Rattle.exact.specs.Pair.{Close}
 use Rattle.radius.specs.Steps.{numberBits, inverse}
-use Rattle.angle.proofs.Signs.{size-fits}
+use Rattle.signs.proofs.Sizes.{size-fits}
 use Rattle.sample.specs.Steps.{fractionBits18}
 use Rattle.sample.specs.Sample.{firstOf, secondOf, samplesOf, samplesAt, threeQuarters, wide}
 use Rattle.sample.specs.declared.Samples18.{Samples18}

@@ -16,7 +16,7 @@ use Rattle.sample.specs.Sample.{firstOf, secondOf, filled}
 use Rattle.sample.specs.Private.{underRootAt}
 use Rattle.angle.proofs.Ranges.{signed-range}
 use Rattle.sample.proofs.RoundingLaws.{rounded-small}
-use Rattle.sample.proofs.Sizes.{cast-fits, cast-reads}
+use Rattle.signs.proofs.Sizes.{cast-fits, cast-reads}
 use Rattle.sample.proofs.FillLaws.{filled-all, filled-whole, filled-next}
 use Rattle.sample.proofs.PassLaws.{Reached, radius-is}
 use Rattle.sample.proofs.sample_each.Statement.{statement}

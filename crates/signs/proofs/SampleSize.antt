@@ -1,28 +1,15 @@
--- Signed numbers in several widths: a small one in a narrower width, and the size of a sample, as the machine takes it from 16 bits by way
--- of 32.
-use Prim.Native.Nat.{suc, _^_, _≤_, _<_}
+-- The size of a sample, as the machine takes it from 16 bits by way of 32.
+use Prim.Native.Nat.{suc, _≤_}
 use native.Mathlib.Omega.{arith}
-use native.Mathlib.Nat.{zero-add, lt-of-lt-of-le, pow-le-pow-right}
+use native.Mathlib.Nat.{zero-add}
 use mathlib.Core.Path.{_≡_, sym, ap, _∙_}
 use mathlib.Core.Bool.{true, false, false≢true, true≢false}
 use lib.IntN.{ℤ, pos, negsuc, natAbs, _-ℤ_}
 use lib.Signed.{ltZ}
-use mir.Syntax.{Width, w16, w32}
-use mir.Val.{SFits, hbits, toZ, ofZ}
+use mir.Syntax.{w16, w32}
+use mir.Val.{SFits, toZ, ofZ}
 use mir.Facts.{sfits-widen, toZ-ofZ}
 use borrow.Author.Tests.{le-ltb}
-use Rattle.angle.proofs.Signs.{size-fits}
-
--- a number that fits a narrower width, cast to it from a wider one: the cast fits, and reads back
-module _ (v w : Width) (x : ℤ) (order : hbits w ≤ hbits v) (h : natAbs x < 2 ^ hbits w) where
-  same : toZ v (ofZ v x) ≡ x
-  same = toZ-ofZ (size-fits v x (lt-of-lt-of-le h (pow-le-pow-right {n = 2} (omega arith) order)))
-
-  pub cast-fits : SFits w (toZ v (ofZ v x))
-  cast-fits = rw same (size-fits w x h)
-
-  pub cast-reads : toZ w (ofZ w (toZ v (ofZ v x))) ≡ x
-  cast-reads = toZ-ofZ cast-fits ∙ same
 
 -- a sample cast to 32 bits
 abbrev wide : ℤ → ℤ

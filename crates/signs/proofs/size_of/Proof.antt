@@ -1,9 +1,9 @@
--- `sample::size_of` meets its contract.
+-- `size_of` meets its contract.
 use native.Mathlib.Omega.{arith}
 use mathlib.Core.Path.{refl}
-use Rattle.sample.proofs.Sizes.{wide-fits, negated, kept}
-use Rattle.sample.proofs.size_of.Statement.{statement}
-use Rattle.sample.proofs.size_of.Tie as tie
+use Rattle.signs.proofs.SampleSize.{wide-fits, negated, kept}
+use Rattle.signs.proofs.size_of.Statement.{statement}
+use Rattle.signs.proofs.size_of.Tie as tie
 
 cast-wide : tie.Need-cast-wide
 cast-wide c = wide-fits (c .args .sample) (c .fits .sample)
