@@ -4,7 +4,7 @@ use native.Mathlib.Omega.{arith}
 use native.Mathlib.Numerals.{add-one}
 use native.Mathlib.Nat.{pow-le-pow-right, mul-le-mul}
 use mathlib.Core.Path.{_≡_, refl, sym, ap, subst, _∙_}
-use mathlib.Core.Bool.{Bool, true, false, cond, not, _&&_, _||_, and-eq-true-iff, and-false, false≢true}
+use mathlib.Core.Bool.{Bool, true, false, cond, not, _&&_, _||_, and-false, false≢true}
 use mathlib.Core.List.{List}
 use lib.Dec.{leb}
 use lib.ListN.{length, take, drop, length-drop, drop-of-length-le}
@@ -15,6 +15,7 @@ use Rattle.text.specs.Ascii.{ascii}
 use Rattle.text.specs.Scan.{oneOf, upTo}
 use Rattle.text.specs.Fields.{all, digit, value as value·of, fewDigits, Spells}
 use Rattle.text.specs.declared.field.NumberRead.{NumberRead}
+use Rattle.text.proofs.Tests.{test, _and_, each}
 use Rattle.text.proofs.Decimal.{value-below}
 use Rattle.text.proofs.Scan.{run-length, run-take}
 use Rattle.survex_leg.specs.Limits.{wholeDigits, tapeDecimals}
@@ -40,11 +41,10 @@ module _ (most : ℕ) (l : List ℕ) where
       go : (b : Bool) → digitsUpTo most l ≡ b → cond b (value·of 0 l) 0 < decimalBound
       go false e = omega arith
       go true e =
-          let t = and-eq-true-iff (leb 1 (length l) && leb (length l) most) (all digit l) .0 e in
-          let u = and-eq-true-iff (leb 1 (length l)) (leb (length l) most) .0 (t .0) in
+          let ((some, few), digits) = each (test (leb 1 (length l)) and test (leb (length l) most) and test (all digit l)) e in
           let p : 10 ^ length l ≤ 10 ^ 10 = pow-le-pow-right (omega arith) {i = length l} {j = 10}
-          (omega (arith, leb-true (length l) most (u .1))) in
-          omega (arith, value-below 0 l (t .1), p)
+          (omega (arith, leb-true (length l) most few)) in
+          omega (arith, value-below 0 l digits, p)
 
 pub power-below : (n : ℕ) → n ≤ tapeDecimals → 10 ^ n ≤ 10 ^ tapeDecimals
 power-below n h = pow-le-pow-right (omega arith) {i = n} {j = 3} h
@@ -92,9 +92,8 @@ module _ (most : ℕ) (l : List ℕ) (point : ℕ) where
       module _ (t : d .ok ≡ true) where
         pub after-few : length l - (point + 1) ≤ most
         after-few =
-            let u = and-eq-true-iff (leb 1 (length rest) && leb (length rest) most) (all digit rest) .0 (sym (spells .ok) ∙ t) in
-            let v = and-eq-true-iff (leb 1 (length rest)) (leb (length rest) most) .0 (u .0) in
-            omega (arith, rest-size, leb-true (length rest) most (v .1))
+            let e = each (test (leb 1 (length rest)) and test (leb (length rest) most) and test (all digit rest)) (sym (spells .ok) ∙ t) in
+            omega (arith, rest-size, leb-true (length rest) most (e .0 .1))
 
         module _ (p : ℕ) (e : p ≡ 10 ^ (most - (length l - (point + 1)))) where
           pub after-below : d .value * p < decimalBound * 10 ^ tapeDecimals

@@ -4,6 +4,7 @@ use listing_writer::TURN_STEPS;
 use survex_lines::skip_blanks;
 use text::field::NumberRead;
 use text::field::Place;
+use text::field::both;
 use text::field::digits_value;
 use text::field::name_at;
 use text::field::part;
@@ -194,32 +195,13 @@ fn numbers_of(line: &[u8], f: LegFields) -> LegNumbers
 {
     let tape = decimal_of(part(line, f.tape), TAPE_DECIMALS);
     let compass = decimal_of(part(line, f.compass), COMPASS_DECIMALS);
-    let named = all_four(
-        name_at(line, f.from),
-        name_at(line, f.to),
-        tape.ok,
-        compass.ok,
-    );
+    let numbers = both(tape.ok, compass.ok);
+    let others = both(name_at(line, f.to), numbers);
     LegNumbers {
-        ok: named,
+        ok: both(name_at(line, f.from), others),
         tape: tape.value,
         compass: compass.value,
     }
-}
-
-fn all_four(a: bool, b: bool, c: bool, d: bool) -> bool
-    ensures { λ r. ⌜ r ≡ a && (b && (c && d)) ⌝ }
-{
-    if !a {
-        return false;
-    }
-    if !b {
-        return false;
-    }
-    if !c {
-        return false;
-    }
-    d
 }
 
 // Whether a clino is the single digit 0.
@@ -235,13 +217,7 @@ fn is_level(part: &[u8]) -> bool
 fn is_in_range(tape: u64, compass: u64, flat: bool) -> bool
     ensures { λ r. ⌜ r ≡ leb tape mostTape && (leb compass compassTurn && flat) ⌝ }
 {
-    if MOST_TAPE < tape {
-        return false;
-    }
-    if COMPASS_TURN < compass {
-        return false;
-    }
-    flat
+    both(tape <= MOST_TAPE, both(compass <= COMPASS_TURN, flat))
 }
 
 // The nearest of the steps of a turn, halves up; a whole turn is 0.

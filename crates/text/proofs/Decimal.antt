@@ -10,6 +10,7 @@ use lib.Dec.{leb, ltb, eqb}
 use lib.ListN.{length, getD, length-append, List·getD-append}
 use borrow.Author.Tests.{lt-ltb, le-ltb, le-leb, leb-true, ltb-true, ne-eqb}
 use Rattle.text.specs.Fields.{all, digit, digitString, value, decimalBy, decimal}
+use Rattle.text.proofs.Tests.{test, _and_, each}
 
 -- a number below 10 is one digit, whatever the fuel
 by-one : (fuel n : ℕ) → n < 10 → decimalBy fuel n ≡ (48 + n) ∷ []
@@ -134,11 +135,9 @@ pub record DigitStringParts (l : List ℕ) : Type 0 where
 pub digit-string-is : (l : List ℕ) → digitString l ≡ true → DigitStringParts l
 unfolding digitString
 digit-string-is l h =
-    let t = and-eq-true-iff (ltb 0 (length l) && leb (length l) 10 && all digit l)
-    (eqb (length l) 1 || not (eqb (getD l 0 0) 48)) .0 h in
-    let u = and-eq-true-iff (ltb 0 (length l) && leb (length l) 10) (all digit l) .0 (t .0) in
-    let v = and-eq-true-iff (ltb 0 (length l)) (leb (length l) 10) .0 (u .0) in
-    record { one = ltb-true _ _ (v .0); ten = leb-true _ _ (v .1); digits = u .1; lead = t .1 }
+    let (((some, few), digits), lead) = each (test (ltb 0 (length l)) and test (leb (length l) 10) and test (all digit l) and
+    test (eqb (length l) 1 || not (eqb (getD l 0 0) 48))) h in
+    record { one = ltb-true _ _ some; ten = leb-true _ _ few; digits = digits; lead = lead }
 
 pub digit-string-decimal : (n : ℕ) → n < 10 ^ 10 → digitString (decimal n) ≡ true
 unfolding digitString

@@ -6,4 +6,6 @@ pub mod Plain
 pub mod Steps
 pub mod Readings
 pub mod SameBytes
+pub mod Tests
+pub mod TypedFields
 pub mod Theorems

@@ -167,7 +167,8 @@ pub fn digit_string_at(line: &[u8], place: Place) -> NumberRead
     digit_string_of(part(line, place))
 }
 
-fn both(a: bool, b: bool) -> bool
+// Whether both hold.
+pub fn both(a: bool, b: bool) -> bool
     ensures { λ r. ⌜ r ≡ a && b ⌝ }
 {
     if a {
