@@ -8,8 +8,8 @@ use mathlib.Core.List.{List, [], _∷_}
 use lib.ListN.{length, take, drop}
 use lib.Dec.{leb, ltb, eqb}
 use borrow.Author.Tests.{lt-ltb, le-ltb, le-leb, lt-leb, leb-true, eqb-false}
-use Rattle.text.specs.Buffer.{written, Puts}
-use Rattle.text.proofs.Writing.{place-fits, written-fits}
+use Rattle.buffer.specs.Buffer.{written, Puts}
+use Rattle.buffer.proofs.Writing.{position-fits, written-fits}
 use Rattle.job_refusals.specs.Limits.{mostBytes}
 use Rattle.job.specs.Job.{Outcome, refused, listed, onto, outcome, start, listingOf, jobOf, answerOf, bufferAfter, outputOf}
 use Rattle.job.specs.Job.{printed, settingAfter}
@@ -141,5 +141,5 @@ printed-listed (listed bytes) out told z = go (leb (length bytes) (length out)) 
     go true e =
         let room : 0 + length bytes ≤ length out = omega (arith, leb-true (length bytes) (length out) e) in
         rw (bufferAfter, answerOf, outputOf, e)
-        (sym (place-fits out 0 bytes room ∙ zero-add (length bytes)), sym (written-fits out 0 bytes room ∙ rw (zero-add (length bytes))))
+        (sym (position-fits out 0 bytes room ∙ zero-add (length bytes)), sym (written-fits out 0 bytes room ∙ rw (zero-add (length bytes))))
     go false e = absurd (omega (arith, rw (answerOf, e) at z))

@@ -10,10 +10,10 @@ use lib.ListN.{length, take, drop, length-append, drop-of-length-le}
 use lib.Seq.{length-take-le}
 use borrow.Author.Tests.{eq-eqb, ne-eqb, eqb-true, lt-ltb, le-ltb}
 use Rattle.text.specs.Scan.{lines, firstLine}
-use Rattle.text.specs.Buffer.{written, placeAfter}
+use Rattle.buffer.specs.Buffer.{written, positionAfter}
 use Rattle.text.proofs.Decimal.{decimal-length}
 use Rattle.text.proofs.Split.{lines-from, end-within, part-line}
-use Rattle.text.proofs.Writing.{written-length, written-take, place-fits}
+use Rattle.buffer.proofs.Writing.{written-length, written-take, position-fits}
 use Rattle.job_refusals.specs.Limits.{listingRoom}
 use Rattle.job_lines.specs.Forms.{Form, readLine}
 use Rattle.listing_writer.specs.Listing.{header, endRow}
@@ -52,7 +52,7 @@ module _ (text out : List ℕ) (s : State) (at : ℕ) (g : Going text out s at) 
     x = readLine l
 
     taken-yes : refusal (s .line) x ≡ 0
-        → takenOf s x out ≡ nextState (s .line) (placeAfter out (s .used) (printed x (s .setting))) (settingAfter x (s .setting))
+        → takenOf s x out ≡ nextState (s .line) (positionAfter out (s .used) (printed x (s .setting))) (settingAfter x (s .setting))
     unfolding takenOf acceptedState
     taken-yes e = rw e
 
@@ -61,7 +61,7 @@ module _ (text out : List ℕ) (s : State) (at : ℕ) (g : Going text out s at) 
     going-on e =
         let t = steps (s .line) l (s .setting) (g .steady) e in
         let r : s .used + length (printed x (s .setting)) ≤ length out = omega (arith, t .row, g .used, g .line, g .room) in
-        rw (taken-yes e, e, place-fits out (s .used) (printed x (s .setting)) r)
+        rw (taken-yes e, e, position-fits out (s .used) (printed x (s .setting)) r)
         (record {
           code = refl;
           within = end-within text at h .1;
@@ -136,12 +136,12 @@ all-taken text out s at g h =
     record { yes = λ t. subst (λ (n : ℕ). Going text out s n) e g; no = λ t. absurd (t (g .code)) }
 
 -- the start: the header is in the buffer
-pub going-start : (text out out′ : List ℕ) (s : State) (used : ℕ) → length out ≡ listingRoom → out′ ≡ written out 0 header → used ≡ placeAfter out 0 header
+pub going-start : (text out out′ : List ℕ) (s : State) (used : ℕ) → length out ≡ listingRoom → out′ ≡ written out 0 header → used ≡ positionAfter out 0 header
     → s ≡ record { code = 0; line = 1; used = used; setting = start } → Going text out′ s 0
 unfolding start listingOf
 going-start text out out′ s used room e u f =
     let r : 0 + length header ≤ length out = omega (arith, header-length) in
-    let k : used ≡ 0 + length header = u ∙ place-fits out 0 header r in
+    let k : used ≡ 0 + length header = u ∙ position-fits out 0 header r in
     let t : take used (written out 0 header) ≡ header = ap (λ (n : ℕ). take n (written out 0 header)) k ∙ written-take out 0
     header r in
     rw (e, f)
@@ -164,13 +164,13 @@ module _ (text out : List ℕ) (s : State) (g : Going text out s (length text)) 
   pub wrote-missing : s .line < 3 → Wrote (listingOf text) (record { code = 8; line = s .line; length = 0 }) out
   wrote-missing h = rw (missing text out s (length text) g (omega arith) h) (refl, omega arith)
 
-  pub wrote-listed : (out′ : List ℕ) (n : ℕ) → 3 ≤ s .line → n ≡ placeAfter out (s .used) (endRow (s .line - 3)) → out′ ≡ written out
+  pub wrote-listed : (out′ : List ℕ) (n : ℕ) → 3 ≤ s .line → n ≡ positionAfter out (s .used) (endRow (s .line - 3)) → out′ ≡ written out
       (s .used) (endRow (s .line - 3))
       → Wrote (listingOf text) (record { code = 0; line = 0; length = n }) out′
   wrote-listed out′ n h e f =
       let w = written-take out (s .used) (endRow (s .line - 3)) end-room in
       let t : length (take (s .used) out) ≡ s .used = length-take-le (s .used) out (omega (arith, end-room)) in
-      let m : n ≡ s .used + length (endRow (s .line - 3)) = e ∙ place-fits out (s .used) (endRow (s .line - 3)) end-room in
+      let m : n ≡ s .used + length (endRow (s .line - 3)) = e ∙ position-fits out (s .used) (endRow (s .line - 3)) end-room in
       let k : n ≡ length (take (s .used) out ++ endRow (s .line - 3)) = omega
       (arith, m, t, length-append (take (s .used) out) (endRow (s .line - 3))) in
       rw (complete text out s (length text) g (omega arith) h) (

@@ -5,7 +5,7 @@ use mathlib.Core.List.{List, []}
 use lib.ListN.{length}
 use Rattle.text.specs.Limits.{nameLength}
 use Rattle.text.proofs.Plain.{name-length}
-use Rattle.text.proofs.Writing.{written-none}
+use Rattle.buffer.proofs.Writing.{written-none}
 use Rattle.job_lines.specs.Forms.{Form, shot, readLine, Printable}
 use borrow.Author.Tests.{ne-eqb}
 use Rattle.job_refusals.specs.Refusals.{refusal}

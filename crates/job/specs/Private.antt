@@ -8,7 +8,7 @@ use lib.ListN.{length, take, drop}
 use Rattle.text.specs.Limits.{nameLength}
 use Rattle.text.specs.Fields.{partOf}
 use Rattle.text.specs.Scan.{lines}
-use Rattle.text.specs.Buffer.{written, placeAfter}
+use Rattle.buffer.specs.Buffer.{written, positionAfter}
 use Rattle.job_refusals.specs.Limits.{lastLine, listingRoom, mostSigma, mostDistance, mostBearing}
 use Rattle.job_lines.specs.Forms.{Form}
 use Rattle.job_lines.specs.declared.Shot.{Shot as ShotFields}
@@ -47,7 +47,7 @@ nextState k used setting = record { code = 0; line = k + 1; used = used; setting
 
 -- an accepted line that says x: the state after it, and the buffer with what it prints
 unfoldable pub acceptedState : State → Form → List ℕ → State
-acceptedState s x out = nextState (s .line) (placeAfter out (s .used) (printed x (s .setting))) (settingAfter x (s .setting))
+acceptedState s x out = nextState (s .line) (positionAfter out (s .used) (printed x (s .setting))) (settingAfter x (s .setting))
 
 unfoldable pub acceptedBuffer : State → Form → List ℕ → List ℕ
 acceptedBuffer s x out = written out (s .used) (printed x (s .setting))

@@ -7,11 +7,10 @@ use crate::walk::write_listing;
 use job_refusals::limits::LISTING_ROOM;
 use job_refusals::limits::MOST_BYTES;
 use listing_writer::put_refused;
-use text::buffer::put;
 ghost use Prim.Native.Nat.{_≤_};
 ghost use mathlib.Core.Path.{_≡_};
 ghost use lib.ListN.{length};
-ghost use Rattle.text.specs.Buffer.{Puts};
+ghost use Rattle.buffer.specs.Buffer.{Puts};
 ghost use Rattle.job.specs.Job.{jobOf, answerOf, bufferAfter, outputOf};
 
 // The refusal code, 0 where the job is accepted; the line, 0 where no line is at fault; and the listing's length.

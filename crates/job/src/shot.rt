@@ -5,7 +5,7 @@ use listing_writer::noisy_distance;
 use listing_writer::put_shot;
 use noise::PairAnswer;
 use text::field::part;
-ghost use Rattle.text.specs.Buffer.{Puts};
+ghost use Rattle.buffer.specs.Buffer.{Puts};
 ghost use Rattle.job.specs.Private.{Ranged, rowOf};
 
 // With the sigmas and one pair.

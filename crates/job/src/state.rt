@@ -10,7 +10,7 @@ use job_refusals::seeds::seeds_answer;
 use streams::Generator;
 ghost use Prim.Native.Nat.{_≤_};
 ghost use mathlib.Core.Path.{_≡_};
-ghost use Rattle.text.specs.Buffer.{written, placeAfter};
+ghost use Rattle.buffer.specs.Buffer.{written, positionAfter};
 ghost use Rattle.job_refusals.specs.Limits.{lastLine};
 ghost use Rattle.job_lines.specs.Forms.{seedsIn, sigmaIn, shotIn, said, readLine};
 ghost use Rattle.job_refusals.specs.Refusals.{refusal};

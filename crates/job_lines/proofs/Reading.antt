@@ -8,7 +8,7 @@ use mathlib.Core.Option.{some, none}
 use lib.Dec.{leb·zero}
 use lib.ListN.{length, getD, take, List·getD-map}
 use lib.Seq.{getD-take}
-use Rattle.text.specs.Fields.{name, numeral, value, partOf}
+use Rattle.text.specs.Fields.{name, digitString, value, partOf}
 use Rattle.text.specs.Forms.{readForm, readFew, marks, fieldsAt, foundIn}
 use Rattle.text.specs.declared.form.Found.{Found}
 use Rattle.text.proofs.Steps.{few-some}
@@ -34,7 +34,7 @@ module _ (line : List ℕ) (c : Found) where
   p i = partAt line c i
 
   pub seeds-at : seedsOf (fieldsAt line (take 6 (c .places)))
-      ≡ cond (numeral (p 0) && numeral (p 1) && numeral (p 2) && (numeral (p 3) && numeral (p 4) && numeral (p 5)))
+      ≡ cond (digitString (p 0) && digitString (p 1) && digitString (p 2) && (digitString (p 3) && digitString (p 4) && digitString (p 5)))
       (seeds (value 0 (p 0)) (value 0 (p 1)) (value 0 (p 2)) (value 0 (p 3)) (value 0 (p 4)) (value 0 (p 5)))
       noForm
   unfolding seedsOf
@@ -43,12 +43,12 @@ module _ (line : List ℕ) (c : Found) where
       (rw (field-place 6 3 (omega arith), field-place 6 4 (omega arith), field-place 6 5 (omega arith)))
 
   pub sigma-at : sigmaOf (fieldsAt line (take 2 (c .places)))
-      ≡ cond (numeral (p 0) && numeral (p 1)) (sigma (value 0 (p 0)) (value 0 (p 1))) noForm
+      ≡ cond (digitString (p 0) && digitString (p 1)) (sigma (value 0 (p 0)) (value 0 (p 1))) noForm
   unfolding sigmaOf
   sigma-at = rw (field-place 2 0 (omega arith), field-place 2 1 (omega arith))
 
   pub shot-at : shotOf (fieldsAt line (take 4 (c .places)))
-      ≡ cond (name (p 0) && name (p 1) && numeral (p 2) && numeral (p 3)) (shot (p 0) (p 1) (value 0 (p 2)) (value 0 (p 3)))
+      ≡ cond (name (p 0) && name (p 1) && digitString (p 2) && digitString (p 3)) (shot (p 0) (p 1) (value 0 (p 2)) (value 0 (p 3)))
       noForm
   unfolding shotOf
   shot-at =

@@ -1,29 +1,21 @@
 -- The three forms mean what document 01 shows: a line that is printed is read as itself, and a line that is read is the one
 -- that would be printed.
-use Prim.Native.Nat.{ℕ, zero, suc, _+_}
+use Prim.Native.Nat.{ℕ}
 use native.Mathlib.Omega.{arith}
-use mathlib.Core.Path.{_≡_, refl, sym, ap, _∙_}
-use mathlib.Core.Bool.{Bool, true, false, cond, _&&_, and-eq-true-iff}
+use mathlib.Core.Path.{_≡_, refl, _∙_}
+use mathlib.Core.Bool.{Bool, true, false, cond}
 use mathlib.Core.List.{List, [], _∷_}
 use mathlib.Core.Option.{Option, some, none}
 use lib.Dec.{eqb}
-use lib.ListN.{length, getD, drop, drop-of-length-le}
-use lib.Seq.{drop-cons}
-use Rattle.text.specs.Fields.{name, numeral, value, decimal}
+use lib.ListN.{getD}
+use Rattle.text.specs.Fields.{name, digitString}
 use Rattle.text.specs.Scan.{oneOf}
 use Rattle.text.specs.Forms.{printForm, marks, readForm}
-use Rattle.text.specs.Theorems.{allPlain, formed, startsSeparate}
-use Rattle.text.proofs.Decimal.{numeral-decimal, value-decimal, decimal-value, numeral-below}
-use Rattle.text.proofs.Plain.{plains, no-plains, decimal-plain, name-plain}
-use Rattle.text.proofs.Forms.{
-  read-byte,
-  print-byte,
-  starts-same,
-  starts-other,
-  read-count,
-  read-printed as form-read,
-  printed-read as form-printed,
-}
+use Rattle.text.specs.Theorems.{formed, startsSeparate}
+use Rattle.text.proofs.Decimal.{digit-string-decimal, value-decimal}
+use Rattle.text.proofs.Forms.{read-byte, print-byte, starts-same, starts-other}
+use Rattle.text.proofs.Tests.{Tests, test, _and_, holds, Each, each}
+use Rattle.text.proofs.TypedFields.{Field, named, counted, allShown, read-back, aName, aNumber, printed-back}
 use Rattle.job_lines.specs.Forms.{
   Form,
   seeds,
@@ -97,18 +89,15 @@ all-marks = (refl, refl, refl)
 pub read-printed : (x : Form) → Printable x → readLine (printLine x) ≡ x
 unfolding Printable printLine seedsOf sigmaOf shotOf
 read-printed (seeds a0 a1 a2 b0 b1 b2) h =
-    let vs : List (List ℕ) = decimal a0 ∷ decimal a1 ∷ decimal a2 ∷ decimal b0 ∷ decimal b1 ∷ decimal b2 ∷ [] in
-    let p : allPlain vs ≡ true =
-    plains _ _ (decimal-plain a0) (plains _ _ (decimal-plain a1) (plains _ _ (decimal-plain a2)
-    (plains _ _ (decimal-plain b0) (plains _ _ (decimal-plain b1) (plains _ _ (decimal-plain b2) no-plains))))) in
-    read-seeds (printForm seedsForm vs) vs (form-read seedsForm vs (all-formed .0) p (all-marks .0))
+    let xs : List Field = counted a0 ∷ counted a1 ∷ counted a2 ∷ counted b0 ∷ counted b1 ∷ counted b2 ∷ [] in
+    read-seeds (printForm seedsForm (allShown xs)) (allShown xs) (read-back seedsForm xs (all-formed .0) tt (all-marks .0))
     ∙ rw (
-      numeral-decimal a0 (h .0),
-      numeral-decimal a1 (h .1),
-      numeral-decimal a2 (h .2),
-      numeral-decimal b0 (h .3),
-      numeral-decimal b1 (h .4),
-      numeral-decimal b2 (h .5),
+      digit-string-decimal a0 (h .0),
+      digit-string-decimal a1 (h .1),
+      digit-string-decimal a2 (h .2),
+      digit-string-decimal b0 (h .3),
+      digit-string-decimal b1 (h .4),
+      digit-string-decimal b2 (h .5),
       value-decimal a0,
       value-decimal a1,
       value-decimal a2,
@@ -117,122 +106,53 @@ read-printed (seeds a0 a1 a2 b0 b1 b2) h =
       value-decimal b2,
     )
 read-printed (sigma d b) h =
-    let vs : List (List ℕ) = decimal d ∷ decimal b ∷ [] in
-    let p : allPlain vs ≡ true = plains _ _ (decimal-plain d) (plains _ _ (decimal-plain b) no-plains) in
-    read-sigma (printForm sigmaForm vs) vs (seeds-sigma vs) (form-read sigmaForm vs (all-formed .1) p (all-marks .1))
-    ∙ rw (numeral-decimal d (h .0), numeral-decimal b (h .1), value-decimal d, value-decimal b)
+    let xs : List Field = counted d ∷ counted b ∷ [] in
+    read-sigma (printForm sigmaForm (allShown xs)) (allShown xs) (seeds-sigma (allShown xs)) (read-back sigmaForm xs (all-formed .1) tt (all-marks .1))
+    ∙ rw (digit-string-decimal d (h .0), digit-string-decimal b (h .1), value-decimal d, value-decimal b)
 read-printed (shot from to d b) h =
-    let vs : List (List ℕ) = from ∷ to ∷ decimal d ∷ decimal b ∷ [] in
-    let p : allPlain vs ≡ true =
-    plains _ _ (name-plain from (h .0))
-    (plains _ _ (name-plain to (h .1)) (plains _ _ (decimal-plain d) (plains _ _ (decimal-plain b) no-plains))) in
-    read-shot (printForm shotForm vs) vs (seeds-shot vs) (sigma-shot vs) (form-read shotForm vs (all-formed .2) p (all-marks .2))
-    ∙ rw (h .0, h .1, numeral-decimal d (h .2), numeral-decimal b (h .3), value-decimal d, value-decimal b)
+    let xs : List Field = named from ∷ named to ∷ counted d ∷ counted b ∷ [] in
+    read-shot (printForm shotForm (allShown xs)) (allShown xs) (seeds-shot (allShown xs)) (sigma-shot (allShown xs))
+    (read-back shotForm xs (all-formed .2) (h .0, (h .1, tt)) (all-marks .2))
+    ∙ rw (h .0, h .1, digit-string-decimal d (h .2), digit-string-decimal b (h .3), value-decimal d, value-decimal b)
 read-printed noForm h = absurd h
-
--- n fields from place j on, place by place
-abbrev pub places : List (List ℕ) → ℕ → ℕ → List (List ℕ)
-places vs j zero = []
-places vs j (suc n) = getD vs j [] ∷ places vs (suc j) n
-
-drop-places : (vs : List (List ℕ)) (n j : ℕ) → length vs ≡ n + j → drop j vs ≡ places vs j n
-drop-places vs zero j h = drop-of-length-le vs {i = j} (omega (arith, h))
-drop-places vs (suc n) j h = drop-cons vs j [] (omega (arith, h)) ∙ ap (λ (l : List (List ℕ)). getD vs j [] ∷ l)
-    (drop-places vs n (suc j) (omega (arith, h)))
-
--- the fields that a form readForm, place by place, give the line back
-pub print-places : (form l : List ℕ) (vs : List (List ℕ)) (n : ℕ) → n ≡ marks form → readForm form l ≡ some vs → printForm form
-    (places vs 0 n) ≡ l
-print-places form l vs n k h = ap (λ (ws : List (List ℕ)). printForm form ws)
-    (sym (drop-places vs n 0 (omega (arith, read-count form l vs h)))) ∙ form-printed form l vs h
 
 -- what was read is printed as the line
 Printed : List ℕ → Form → Type 0
 Printed l x = Printable x × (printLine x ≡ l)
 
-three-true : (a b c : Bool) → a && b && c ≡ true → (a ≡ true) × (b ≡ true) × (c ≡ true)
-three-true a b c h =
-    let t = and-eq-true-iff (a && b) c .0 h in
-    let u = and-eq-true-iff a b .0 (t .0) in (u .0, u .1, t .1)
-
-four : (a b c d : Bool) → a && b && c && d ≡ true → (a ≡ true) × (b ≡ true) × (c ≡ true) × (d ≡ true)
-four a b c d h =
-    let t = and-eq-true-iff (a && b && c) d .0 h in
-    let u = and-eq-true-iff (a && b) c .0 (t .0) in
-    let v = and-eq-true-iff a b .0 (u .0) in (v .0, v .1, u .1, t .1)
+-- where the tests of a form's fields hold, its kinds say what was read
+by-tests : (l : List ℕ) (t : Tests) (x : Form) → (cond (holds t) x noForm ≡ noForm → ⊥) → (Each t → Printed l x) → Printed l (cond (holds t) x noForm)
+by-tests l t x k f = split (holds t) refl k
+  where
+    split : (b : Bool) → holds t ≡ b → (cond b x noForm ≡ noForm → ⊥) → Printed l (cond b x noForm)
+    split false e k = absurd (k refl)
+    split true e k = f (each t e)
 
 module _ (l : List ℕ) (vs : List (List ℕ)) where
-  abbrev pub v : ℕ → List ℕ
+  abbrev v : ℕ → List ℕ
   v i = getD vs i []
+
+  abbrev number : ℕ → Tests
+  number i = test (digitString (v i))
 
   seeds-read : readForm seedsForm l ≡ some vs → (seedsOf vs ≡ noForm → ⊥) → Printed l (seedsOf vs)
   unfolding seedsOf Printed Printable printLine
-  seeds-read h k = split (three 0 && three 3) refl k
-    where
-      three : ℕ → Bool
-      three i = numeral (v i) && numeral (v (i + 1)) && numeral (v (i + 2))
-
-      x : Form
-      x = seeds (value 0 (v 0)) (value 0 (v 1)) (value 0 (v 2)) (value 0 (v 3)) (value 0 (v 4)) (value 0 (v 5))
-
-      split : (b : Bool) → three 0 && three 3 ≡ b → (cond b x noForm ≡ noForm → ⊥) → Printed l (cond b x noForm)
-      split false e k = absurd (k refl)
-      split true e k =
-          let t = and-eq-true-iff (three 0) (three 3) .0 e in
-          let m = three-true (numeral (v 0)) (numeral (v 1)) (numeral (v 2)) (t .0) in
-          let n = three-true (numeral (v 3)) (numeral (v 4)) (numeral (v 5)) (t .1) in (
-            (
-              numeral-below (v 0) (m .0),
-              numeral-below (v 1) (m .1),
-              numeral-below (v 2) (m .2),
-              numeral-below (v 3) (n .0),
-              numeral-below (v 4) (n .1),
-              numeral-below (v 5) (n .2),
-            ),
-            rw (decimal-value (v 0) (m .0), decimal-value (v 1) (m .1), decimal-value (v 2) (m .2), decimal-value (v 3) (n .0))
-                (rw (decimal-value (v 4) (n .1), decimal-value (v 5) (n .2)) (print-places seedsForm l vs 6 (all-marks .0) h)),
-          )
+  seeds-read h k = by-tests l (number 0 and number 1 and number 2 and (number 3 and number 4 and number 5)) _ k (λ t.
+      let (((a, b), c), ((d, e), f)) = t in
+      let ((a0, (a1, (a2, (b0, (b1, b2))))), same) = printed-back seedsForm l vs (aNumber ∷ aNumber ∷ aNumber ∷ aNumber ∷ aNumber ∷ aNumber ∷ []) (all-marks .0) h (a, (b, (c, (d, (e, (f, tt)))))) in
+      ((a0, a1, a2, b0, b1, b2), same))
 
   sigma-read : readForm sigmaForm l ≡ some vs → (sigmaOf vs ≡ noForm → ⊥) → Printed l (sigmaOf vs)
   unfolding sigmaOf Printed Printable printLine
-  sigma-read h k = split (numeral (v 0) && numeral (v 1)) refl k
-    where
-      x : Form
-      x = sigma (value 0 (v 0)) (value 0 (v 1))
-
-      split : (b : Bool) → numeral (v 0) && numeral (v 1) ≡ b → (cond b x noForm ≡ noForm → ⊥) → Printed l (cond b x noForm)
-      split false e k = absurd (k refl)
-      split true e k =
-          let n = and-eq-true-iff (numeral (v 0)) (numeral (v 1)) .0 e in (
-            (numeral-below (v 0) (n .0), numeral-below (v 1) (n .1)),
-            rw (decimal-value (v 0) (n .0), decimal-value (v 1) (n .1)) (print-places sigmaForm l vs 2 (all-marks .1) h),
-          )
-
-  -- four fields that give a shot are its names and the numerals of its numbers
-  pub shot-case : (shotOf vs ≡ noForm → ⊥) → Printable (shot (v 0) (v 1) (value 0 (v 2)) (value 0 (v 3)))
-      × (shotOf vs ≡ shot (v 0) (v 1) (value 0 (v 2)) (value 0 (v 3))) × (decimal (value 0 (v 2)) ≡ v 2) × (decimal (value 0 (v 3)) ≡ v 3)
-  unfolding shotOf Printable
-  shot-case k = split (name (v 0) && name (v 1) && numeral (v 2) && numeral (v 3)) refl k
-    where
-      x : Form
-      x = shot (v 0) (v 1) (value 0 (v 2)) (value 0 (v 3))
-
-      split : (b : Bool) → name (v 0) && name (v 1) && numeral (v 2) && numeral (v 3) ≡ b → (cond b x noForm ≡ noForm → ⊥)
-          → Printable x × (cond b x noForm ≡ x) × (decimal (value 0 (v 2)) ≡ v 2) × (decimal (value 0 (v 3)) ≡ v 3)
-      split false e k = absurd (k refl)
-      split true e k =
-          let n = four (name (v 0)) (name (v 1)) (numeral (v 2)) (numeral (v 3)) e in (
-            (n .0, n .1, numeral-below (v 2) (n .2), numeral-below (v 3) (n .3)),
-            refl,
-            decimal-value (v 2) (n .2),
-            decimal-value (v 3) (n .3),
-          )
+  sigma-read h k = by-tests l (number 0 and number 1) _ k (λ t.
+      let (a, b) = t in printed-back sigmaForm l vs (aNumber ∷ aNumber ∷ []) (all-marks .1) h (a, (b, tt)))
 
   shot-read : readForm shotForm l ≡ some vs → (shotOf vs ≡ noForm → ⊥) → Printed l (shotOf vs)
-  unfolding Printed printLine
-  shot-read h k =
-      let (p, e, a, b) = shot-case k in
-      rw e (p, rw (a, b) (print-places shotForm l vs 4 (all-marks .2) h))
+  unfolding shotOf Printed Printable printLine
+  shot-read h k = by-tests l (test (name (v 0)) and test (name (v 1)) and number 2 and number 3) _ k (λ t.
+      let (((a, b), c), d) = t in
+      let ((from, (to, (distance, bearing))), same) = printed-back shotForm l vs (aName ∷ aName ∷ aNumber ∷ aNumber ∷ []) (all-marks .2) h (a, (b, (c, (d, tt)))) in
+      ((from, to, distance, bearing), same))
 
 pub shot-not-none : (from to : List ℕ) (d b : ℕ) → shot from to d b ≡ noForm → ⊥
 shot-not-none from to d b e = let z : _≡_ {A = ℕ} 0 1 = cc in omega arith

@@ -5,9 +5,9 @@ use mathlib.Core.Bool.{Bool, true, cond, _&&_}
 use mathlib.Core.List.{List, [], _∷_}
 use mathlib.Core.Option.{Option, some, none}
 use lib.ListN.{getD}
-use Rattle.text.specs.Limits.{numeralBound}
+use Rattle.text.specs.Limits.{decimalBound}
 use Rattle.text.specs.Ascii.{ascii}
-use Rattle.text.specs.Fields.{name, numeral, value, decimal, partOf}
+use Rattle.text.specs.Fields.{name, digitString, value, decimal, partOf}
 use Rattle.text.specs.Forms.{printForm, readForm}
 use Rattle.job_lines.specs.declared.Seeds.{Seeds as SeedsFields}
 use Rattle.job_lines.specs.declared.Sigma.{Sigma as SigmaFields}
@@ -42,12 +42,12 @@ fieldAt fields i = getD fields i []
 abbrev pub valueAt : List (List ℕ) → ℕ → ℕ
 valueAt fields i = value 0 (fieldAt fields i)
 
-abbrev pub numeralAt : List (List ℕ) → ℕ → Bool
-numeralAt fields i = numeral (fieldAt fields i)
+abbrev pub digitStringAt : List (List ℕ) → ℕ → Bool
+digitStringAt fields i = digitString (fieldAt fields i)
 
 -- three numbers from a place on
 abbrev pub threeAt : List (List ℕ) → ℕ → Bool
-threeAt fields i = numeralAt fields i && numeralAt fields (i + 1) && numeralAt fields (i + 2)
+threeAt fields i = digitStringAt fields i && digitStringAt fields (i + 1) && digitStringAt fields (i + 2)
 
 unfoldable pub seedsOf : List (List ℕ) → Form
 seedsOf v =
@@ -56,11 +56,11 @@ seedsOf v =
     noForm
 
 unfoldable pub sigmaOf : List (List ℕ) → Form
-sigmaOf v = cond (numeralAt v 0 && numeralAt v 1) (sigma (valueAt v 0) (valueAt v 1)) noForm
+sigmaOf v = cond (digitStringAt v 0 && digitStringAt v 1) (sigma (valueAt v 0) (valueAt v 1)) noForm
 
 unfoldable pub shotOf : List (List ℕ) → Form
 shotOf v =
-    cond (name (fieldAt v 0) && name (fieldAt v 1) && numeralAt v 2 && numeralAt v 3)
+    cond (name (fieldAt v 0) && name (fieldAt v 1) && digitStringAt v 2 && digitStringAt v 3)
     (shot (fieldAt v 0) (fieldAt v 1) (valueAt v 2) (valueAt v 3))
     noForm
 
@@ -81,12 +81,12 @@ printLine (sigma d b) = printForm sigmaForm (decimal d ∷ decimal b ∷ [])
 printLine (shot from to d b) = printForm shotForm (from ∷ to ∷ decimal d ∷ decimal b ∷ [])
 printLine noForm = []
 
--- What has a line: names that are names, and numbers that have a numeral
+-- What has a line: names that are names, and numbers that have a digit string
 unfoldable pub Printable : Form → Type 0
 Printable (seeds a0 a1 a2 b0 b1 b2) =
-    (a0 < numeralBound) × (a1 < numeralBound) × (a2 < numeralBound) × (b0 < numeralBound) × (b1 < numeralBound) × (b2 < numeralBound)
-Printable (sigma d b) = (d < numeralBound) × (b < numeralBound)
-Printable (shot from to d b) = (name from ≡ true) × (name to ≡ true) × (d < numeralBound) × (b < numeralBound)
+    (a0 < decimalBound) × (a1 < decimalBound) × (a2 < decimalBound) × (b0 < decimalBound) × (b1 < decimalBound) × (b2 < decimalBound)
+Printable (sigma d b) = (d < decimalBound) × (b < decimalBound)
+Printable (shot from to d b) = (name from ≡ true) × (name to ≡ true) × (d < decimalBound) × (b < decimalBound)
 Printable noForm = ⊥
 
 -- ---- The line once read, as the code holds it

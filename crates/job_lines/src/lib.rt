@@ -1,7 +1,9 @@
-// What a line of a job says: one of the three forms, or none (document 01, "A job and its listing").
+// The lines of a job. What a line says: one of the three forms, or none (document 01, "A job and its listing").
+pub mod write;
+
 use text::field::Place;
+use text::field::digit_string_at;
 use text::field::name_at;
-use text::field::numeral_at;
 use text::field::three_at;
 use text::form::Found;
 use text::form::read_form;
@@ -68,11 +70,11 @@ fn sigma_line(line: &[u8], c: Found) -> Line
     ensures { λ r. ⌜ said (now (line .entry)) r ≡ sigmaOf (fieldsAt (now (line .entry)) (take 2 (c .places))) ⌝ }
 {
     let places = c.places;
-    let d = numeral_at(line, places[0]);
+    let d = digit_string_at(line, places[0]);
     if !d.ok {
         return Line::NoForm;
     }
-    let b = numeral_at(line, places[1]);
+    let b = digit_string_at(line, places[1]);
     if !b.ok {
         return Line::NoForm;
     }
@@ -95,11 +97,11 @@ fn shot_line(line: &[u8], c: Found) -> Line
     if !name_at(line, to) {
         return Line::NoForm;
     }
-    let d = numeral_at(line, places[2]);
+    let d = digit_string_at(line, places[2]);
     if !d.ok {
         return Line::NoForm;
     }
-    let b = numeral_at(line, places[3]);
+    let b = digit_string_at(line, places[3]);
     if !b.ok {
         return Line::NoForm;
     }

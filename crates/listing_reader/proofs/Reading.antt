@@ -6,7 +6,7 @@ use mathlib.Core.Bool.{Bool, true, false, cond, _&&_}
 use mathlib.Core.List.{List}
 use mathlib.Core.Option.{some, none}
 use lib.ListN.{take}
-use Rattle.text.specs.Fields.{name, numeral, value}
+use Rattle.text.specs.Fields.{name, digitString, value}
 use Rattle.text.specs.Forms.{readForm, readFew, marks, fieldsAt, foundIn}
 use Rattle.text.specs.declared.form.Found.{Found}
 use Rattle.text.proofs.Steps.{few-some}
@@ -54,7 +54,7 @@ module _ (b : Bool) (l : List ℕ) where
 
 -- a shot, by the places of its fields
 pub leg-at : (line : List ℕ) (c : Found) (b : Bool) → legOf (highAt b) (fieldsAt line (take (highAt b + 2) (c .places)))
-    ≡ cond (name (partAt line c 0) && name (partAt line c 1) && (numeral (partAt line c 2) && numeral (partAt line c (highAt b)) && numeral (partAt line c (highAt b + 1))))
+    ≡ cond (name (partAt line c 0) && name (partAt line c 1) && (digitString (partAt line c 2) && digitString (partAt line c (highAt b)) && digitString (partAt line c (highAt b + 1))))
     (leg (partAt line c 0) (partAt line c 1) (value 0 (partAt line c 2)) (value 0 (partAt line c (highAt b))) (value 0 (partAt line c (highAt b + 1))))
     neither
 unfolding legOf
@@ -70,7 +70,7 @@ leg-at line c b =
 
 -- the count of the last row, by its place
 pub end-at : (line : List ℕ) (c : Found)
-    → endOf (fieldsAt line (take 1 (c .places))) ≡ cond (numeral (partAt line c 0)) (last (value 0 (partAt line c 0))) neither
+    → endOf (fieldsAt line (take 1 (c .places))) ≡ cond (digitString (partAt line c 0)) (last (value 0 (partAt line c 0))) neither
 unfolding endOf
 end-at line c = rw (field-place line c 1 0 (omega arith))
 

@@ -1,23 +1,24 @@
 -- A row that is printed is read as itself, and a line that is read is the one that is printed.
-use Prim.Native.Nat.{ℕ, _+_, _<_}
+use Prim.Native.Nat.{ℕ, _<_}
 use native.Mathlib.Omega.{arith}
 use mathlib.Core.Path.{_≡_, refl, sym, ap, _∙_}
-use mathlib.Core.Bool.{Bool, true, false, cond, _&&_, false≢true}
+use mathlib.Core.Bool.{Bool, true, false, cond, false≢true}
 use mathlib.Core.List.{List, [], _∷_, _++_}
 use mathlib.Core.Option.{Option, some, none}
 use lib.ListN.{length, getD}
 use lib.Seq.{drop-append-seam}
-use Rattle.text.specs.Limits.{numeralBound}
+use Rattle.text.specs.Limits.{decimalBound}
 use Rattle.text.specs.Ascii.{ascii}
-use Rattle.text.specs.Fields.{all, name, numeral, value, decimal}
+use Rattle.text.specs.Fields.{all, name, digitString, decimal}
 use Rattle.text.specs.Scan.{oneOf, lines}
 use Rattle.text.specs.Forms.{printForm, readForm, marks, isEmpty}
 use Rattle.text.specs.Theorems.{plain, allPlain, formed, startsSeparate}
-use Rattle.text.proofs.Decimal.{numeral-decimal, value-decimal, decimal-value, numeral-below}
-use Rattle.text.proofs.Plain.{plains, no-plains, decimal-plain, name-plain, feedForm, line-printed}
+use Rattle.text.proofs.Decimal.{digit-string-decimal, value-decimal}
+use Rattle.text.proofs.Plain.{decimal-plain, feedForm, line-printed}
 use Rattle.text.proofs.Forms.{unmarked, read-mark, read-byte, starts-same, starts-other, field-is, read-count, read-printed, printed-read}
 use Rattle.text.proofs.Split.{line-first}
-use Rattle.job_lines.proofs.RoundTrip.{print-places}
+use Rattle.text.proofs.Tests.{Tests, test, _and_, holds, Each, each}
+use Rattle.text.proofs.TypedFields.{Field, named, counted, allShown, Named, all-plain, read-back, aName, aNumber, printed-back}
 use Rattle.listing_writer.specs.Listing.{header, shotRow, endRow}
 use Rattle.listing_reader.specs.Entries.{isSome, headerOf, isHeader, rowForm, endForm, highAt, Said, leg, last, neither, legOf, endOf, readEntry, rowOf}
 use Rattle.listing_reader.proofs.Reading.{header-marks, row-marks, end-marks, read-row, read-end, read-neither}
@@ -34,9 +35,9 @@ end-formed = (refl, refl)
 -- ---- a shot
 
 -- the fields of its row
-abbrev fieldsOf : Bool → List ℕ → List ℕ → ℕ → ℕ → ℕ → List (List ℕ)
-fieldsOf true f t m n s = f ∷ t ∷ decimal m ∷ decimal n ∷ decimal s ∷ []
-fieldsOf false f t m n s = f ∷ t ∷ decimal m ∷ decimal s ∷ []
+abbrev fieldsOf : Bool → List ℕ → List ℕ → ℕ → ℕ → ℕ → List Field
+fieldsOf true f t m n s = named f ∷ named t ∷ counted m ∷ counted n ∷ counted s ∷ []
+fieldsOf false f t m n s = named f ∷ named t ∷ counted m ∷ counted s ∷ []
 
 -- one distance is both
 abbrev pub Alike : Bool → ℕ → ℕ → Type 0
@@ -44,36 +45,35 @@ Alike true low high = Unit {0}
 Alike false low high = low ≡ high
 
 module _ (f t : List ℕ) (m n s : ℕ) (hf : name f ≡ true) (ht : name t ≡ true) where
-  all-plain : (b : Bool) → allPlain (fieldsOf b f t m n s) ≡ true
-  all-plain true =
-      plains _ _ (name-plain f hf) (plains _ _ (name-plain t ht) (plains _ _ (decimal-plain m) (plains _ _ (decimal-plain n) (plains _ _ (decimal-plain s) no-plains))))
-  all-plain false = plains _ _ (name-plain f hf) (plains _ _ (name-plain t ht) (plains _ _ (decimal-plain m) (plains _ _ (decimal-plain s) no-plains)))
+  are-named : (b : Bool) → Named (fieldsOf b f t m n s)
+  are-named true = (hf, (ht, tt))
+  are-named false = (hf, (ht, tt))
 
-  row-is : (b : Bool) → rowOf b f t m n s ≡ printForm (rowForm b) (fieldsOf b f t m n s)
+  row-is : (b : Bool) → rowOf b f t m n s ≡ printForm (rowForm b) (allShown (fieldsOf b f t m n s))
   unfolding rowOf shotRow rowForm
   row-is true = refl
   row-is false = refl
 
-  field-count : (b : Bool) → length (fieldsOf b f t m n s) ≡ marks (rowForm b)
+  field-count : (b : Bool) → length (allShown (fieldsOf b f t m n s)) ≡ marks (rowForm b)
   unfolding marks rowForm
   field-count true = refl
   field-count false = refl
 
   -- a row is one line, and is read as its shot
   pub row-line : (b : Bool) (rest : List ℕ) → lines (rowOf b f t m n s ++ rest) ≡ rowOf b f t m n s ∷ lines rest
-  row-line b rest = rw (row-is b) (line-printed (rowForm b) (fieldsOf b f t m n s) rest (row-formed b .1) (all-plain b) (field-count b))
+  row-line b rest = rw (row-is b) (line-printed (rowForm b) (allShown (fieldsOf b f t m n s)) rest (row-formed b .1) (all-plain (fieldsOf b f t m n s) (are-named b)) (field-count b))
 
-  fields-leg : (b : Bool) → Alike b m n → m < numeralBound → n < numeralBound → s < numeralBound → legOf (highAt b) (fieldsOf b f t m n s) ≡ leg f t m n s
+  fields-leg : (b : Bool) → Alike b m n → m < decimalBound → n < decimalBound → s < decimalBound → legOf (highAt b) (allShown (fieldsOf b f t m n s)) ≡ leg f t m n s
   unfolding legOf highAt
   fields-leg true alike hm hn hs =
-      rw (hf, ht, numeral-decimal m hm, numeral-decimal n hn, numeral-decimal s hs, value-decimal m, value-decimal n, value-decimal s)
-  fields-leg false alike hm hn hs = rw (hf, ht, numeral-decimal m hm, numeral-decimal s hs, value-decimal m, value-decimal s, ← alike)
+      rw (hf, ht, digit-string-decimal m hm, digit-string-decimal n hn, digit-string-decimal s hs, value-decimal m, value-decimal n, value-decimal s)
+  fields-leg false alike hm hn hs = rw (hf, ht, digit-string-decimal m hm, digit-string-decimal s hs, value-decimal m, value-decimal s, ← alike)
 
-  pub row-read : (b : Bool) → Alike b m n → m < numeralBound → n < numeralBound → s < numeralBound → readEntry b (rowOf b f t m n s) ≡ leg f t m n s
+  pub row-read : (b : Bool) → Alike b m n → m < decimalBound → n < decimalBound → s < decimalBound → readEntry b (rowOf b f t m n s) ≡ leg f t m n s
   row-read b alike hm hn hs =
       ap (readEntry b) (row-is b)
-      ∙ read-row b (printForm (rowForm b) (fieldsOf b f t m n s)) (fieldsOf b f t m n s)
-      (read-printed (rowForm b) (fieldsOf b f t m n s) (row-formed b .0) (all-plain b) (field-count b))
+      ∙ read-row b (printForm (rowForm b) (allShown (fieldsOf b f t m n s))) (allShown (fieldsOf b f t m n s))
+      (read-back (rowForm b) (fieldsOf b f t m n s) (row-formed b .0) (are-named b) (field-count b))
       ∙ fields-leg b alike hm hn hs
 
 -- ---- the end
@@ -83,11 +83,8 @@ module _ (n : ℕ) where
   unfolding endRow endForm
   end-is = refl
 
-  end-plain : allPlain (decimal n ∷ []) ≡ true
-  end-plain = plains _ _ (decimal-plain n) no-plains
-
   pub end-line : (rest : List ℕ) → lines (endRow n ++ rest) ≡ endRow n ∷ lines rest
-  end-line rest = rw end-is (line-printed endForm (decimal n ∷ []) rest (end-formed .1) end-plain end-marks)
+  end-line rest = rw end-is (line-printed endForm (decimal n ∷ []) rest (end-formed .1) (all-plain (counted n ∷ []) tt) end-marks)
 
   -- it has two fields and no more: after the second stands the line feed
   no-third : (form : List ℕ) → readForm (35 ∷ 32 ∷ form) (decimal n ++ (10 ∷ [])) ≡ none
@@ -120,11 +117,11 @@ module _ (n : ℕ) where
   pub end-said : (b : Bool) → readEntry b (endRow n) ≡ endOf (decimal n ∷ [])
   end-said b =
       read-end b (endRow n) (decimal n ∷ []) (no-row b)
-      (ap (readForm endForm) end-is ∙ read-printed endForm (decimal n ∷ []) (end-formed .0) end-plain end-marks)
+      (ap (readForm endForm) end-is ∙ read-back endForm (counted n ∷ []) (end-formed .0) tt end-marks)
 
-  pub end-read : (b : Bool) → n < numeralBound → readEntry b (endRow n) ≡ last n
+  pub end-read : (b : Bool) → n < decimalBound → readEntry b (endRow n) ≡ last n
   unfolding endOf
-  end-read b h = end-said b ∙ rw (numeral-decimal n h, value-decimal n)
+  end-read b h = end-said b ∙ rw (digit-string-decimal n h, value-decimal n)
 
 -- ---- the header
 
@@ -160,49 +157,39 @@ header-is b l h = go (readForm (headerOf b) l) refl h
 
 abbrev pub Printed : Bool → List ℕ → Said → Type 0
 Printed b l (leg f t m n s) =
-    (name f ≡ true) × (name t ≡ true) × (m < numeralBound) × (n < numeralBound) × (s < numeralBound) × Alike b m n × (l ≡ rowOf b f t m n s)
-Printed b l (last n) = (n < numeralBound) × (l ≡ endRow n)
+    (name f ≡ true) × (name t ≡ true) × (m < decimalBound) × (n < decimalBound) × (s < decimalBound) × Alike b m n × (l ≡ rowOf b f t m n s)
+Printed b l (last n) = (n < decimalBound) × (l ≡ endRow n)
 Printed b l neither = Unit {0}
-
--- the tests of a row's fields
-tests-true : (a b c d e : Bool) → a && b && (c && d && e) ≡ true → (a ≡ true) × (b ≡ true) × (c ≡ true) × (d ≡ true) × (e ≡ true)
-tests-true true true true true true h = (refl, refl, refl, refl, refl)
-tests-true true true true true false h = absurd (false≢true h)
-tests-true true true true false e h = absurd (false≢true h)
-tests-true true true false d e h = absurd (false≢true h)
-tests-true true false c d e h = absurd (false≢true h)
-tests-true false b c d e h = absurd (false≢true h)
 
 module _ (l : List ℕ) (vs : List (List ℕ)) where
   abbrev v : ℕ → List ℕ
   v i = getD vs i []
 
-  row-same : (b : Bool) → readForm (rowForm b) l ≡ some vs → numeral (v 2) ≡ true → numeral (v (highAt b)) ≡ true → numeral (v (highAt b + 1)) ≡ true
-      → Alike b (value 0 (v 2)) (value 0 (v (highAt b))) × (l ≡ rowOf b (v 0) (v 1) (value 0 (v 2)) (value 0 (v (highAt b))) (value 0 (v (highAt b + 1))))
-  unfolding highAt rowOf shotRow rowForm
-  row-same true h p q r =
-      (tt, sym (rw (decimal-value (v 2) p, decimal-value (v 3) q, decimal-value (v 4) r) (print-places (rowForm true) l vs 5 (row-marks true) h)))
-  row-same false h p q r = (refl, sym (rw (decimal-value (v 2) p, decimal-value (v 3) r) (print-places (rowForm false) l vs 4 (row-marks false) h)))
+  -- where the tests of a line's fields hold, their kinds say what was read
+  by-tests : (b : Bool) (t : Tests) (x : Said) → (Each t → Printed b l x) → Printed b l (cond (holds t) x neither)
+  by-tests b t x f = split (holds t) refl
+    where
+      split : (y : Bool) → holds t ≡ y → Printed b l (cond y x neither)
+      split false e = tt
+      split true e = f (each t e)
+
+  abbrev number : ℕ → Tests
+  number i = test (digitString (v i))
 
   row-printed : (b : Bool) → readForm (rowForm b) l ≡ some vs → Printed b l (legOf (highAt b) vs)
-  unfolding legOf
-  row-printed b h = split (name (v 0) && name (v 1) && (numeral (v 2) && numeral (v (highAt b)) && numeral (v (highAt b + 1)))) refl
-    where
-      split : (t : Bool) → name (v 0) && name (v 1) && (numeral (v 2) && numeral (v (highAt b)) && numeral (v (highAt b + 1))) ≡ t
-          → Printed b l (cond t (leg (v 0) (v 1) (value 0 (v 2)) (value 0 (v (highAt b))) (value 0 (v (highAt b + 1)))) neither)
-      split false e = tt
-      split true e =
-          let (f, t, m, n, s) = tests-true (name (v 0)) (name (v 1)) (numeral (v 2)) (numeral (v (highAt b))) (numeral (v (highAt b + 1))) e in
-          let (alike, same) = row-same b h m n s in
-          (f, t, numeral-below _ m, numeral-below _ n, numeral-below _ s, alike, same)
+  unfolding legOf highAt rowOf shotRow rowForm
+  row-printed true h = by-tests true (test (name (v 0)) and test (name (v 1)) and (number 2 and number 3 and number 4)) _ (λ t.
+      let ((f, g), ((m, n), s)) = t in
+      let ((hf, (hg, (hm, (hn, hs)))), same) = printed-back (rowForm true) l vs (aName ∷ aName ∷ aNumber ∷ aNumber ∷ aNumber ∷ []) (row-marks true) h (f, (g, (m, (n, (s, tt))))) in
+      (hf, hg, hm, hn, hs, tt, sym same))
+  row-printed false h = by-tests false (test (name (v 0)) and test (name (v 1)) and (number 2 and number 2 and number 3)) _ (λ t.
+      let ((f, g), ((m, n), s)) = t in
+      let ((hf, (hg, (hm, hs))), same) = printed-back (rowForm false) l vs (aName ∷ aName ∷ aNumber ∷ aNumber ∷ []) (row-marks false) h (f, (g, (m, (s, tt)))) in
+      (hf, hg, hm, hm, hs, refl, sym same))
 
   end-printed : (b : Bool) → readForm endForm l ≡ some vs → Printed b l (endOf vs)
   unfolding endOf endRow endForm
-  end-printed b h = go (numeral (v 0)) refl
-    where
-      go : (t : Bool) → numeral (v 0) ≡ t → Printed b l (cond t (last (value 0 (v 0))) neither)
-      go false e = tt
-      go true e = (numeral-below (v 0) e, sym (rw (decimal-value (v 0) e) (print-places endForm l vs 1 end-marks h)))
+  end-printed b h = by-tests b (number 0) _ (λ t. let (hn, same) = printed-back endForm l vs (aNumber ∷ []) end-marks h (t, tt) in (hn, sym same))
 
 pub entry-printed : (b : Bool) (l : List ℕ) → Printed b l (readEntry b l)
 entry-printed b l = on-row (readForm (rowForm b) l) refl

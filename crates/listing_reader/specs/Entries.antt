@@ -7,7 +7,7 @@ use mathlib.Core.Option.{Option, some, none}
 use Rattle.text.specs.Ascii.{ascii}
 use Rattle.text.specs.Fields.{name, decimal, partOf}
 use Rattle.text.specs.Forms.{printForm, readForm}
-use Rattle.job_lines.specs.Forms.{fieldAt, numeralAt, valueAt}
+use Rattle.job_lines.specs.Forms.{fieldAt, digitStringAt, valueAt}
 use Rattle.listing_writer.specs.Listing.{header, shotRow}
 use Rattle.listing_reader.specs.declared.Entry.{Entry}
 use Rattle.listing_reader.specs.declared.Entry.the-variants.{Shot, End, NoEntry}
@@ -48,12 +48,12 @@ highAt true = 3
 -- a shot by the fields of its row, the longest distance in field h and the step after it
 unfoldable pub legOf : ℕ → List (List ℕ) → Said
 legOf h v =
-    cond (name (fieldAt v 0) && name (fieldAt v 1) && (numeralAt v 2 && numeralAt v h && numeralAt v (h + 1)))
+    cond (name (fieldAt v 0) && name (fieldAt v 1) && (digitStringAt v 2 && digitStringAt v h && digitStringAt v (h + 1)))
     (leg (fieldAt v 0) (fieldAt v 1) (valueAt v 2) (valueAt v h) (valueAt v (h + 1)))
     neither
 
 unfoldable pub endOf : List (List ℕ) → Said
-endOf v = cond (numeralAt v 0) (last (valueAt v 0)) neither
+endOf v = cond (digitStringAt v 0) (last (valueAt v 0)) neither
 
 abbrev pub orElse : Option (List (List ℕ)) → (List (List ℕ) → Said) → Said → Said
 orElse (some fields) f other = f fields

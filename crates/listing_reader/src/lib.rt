@@ -1,8 +1,8 @@
 // What a line of a listing says: a shot, or the end with its count (document 01, "A job and its listing"; document 02, Jobs 13 and 14). `between`
 // tells the kind of the listing: whether distances lie between two readings.
 use text::field::Place;
+use text::field::digit_string_at;
 use text::field::name_at;
-use text::field::numeral_at;
 use text::field::three_at;
 use text::form::Found;
 use text::form::read_form;
@@ -92,7 +92,7 @@ fn end_entry(line: &[u8], c: Found) -> Entry
     ensures { λ r. ⌜ tells (now (line .entry)) r ≡ endOf (fieldsAt (now (line .entry)) (take 1 (c .places))) ⌝ }
 {
     let places = c.places;
-    let count = numeral_at(line, places[0]);
+    let count = digit_string_at(line, places[0]);
     if !count.ok {
         return Entry::NoEntry;
     }

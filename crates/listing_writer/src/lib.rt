@@ -1,12 +1,12 @@
 // The rows of a listing, and the noise on a shot's distance and bearing (document 01, "A job and its listing"). A row is written into
-// a lent buffer from a place on; the place after it is returned.
-use text::buffer::put;
-use text::buffer::put_field;
-use text::buffer::put_numeral;
+// the caller's buffer from a position on; the position after it is returned.
+use buffer::put;
+use buffer::put_decimal;
+use buffer::put_field;
 ghost use mathlib.Core.Path.{_≡_};
 ghost use Prim.Native.Nat.{_^_, _<_};
 ghost use lib.IntN.{natAbs};
-ghost use Rattle.text.specs.Buffer.{Puts};
+ghost use Rattle.buffer.specs.Buffer.{Puts};
 ghost use Rattle.listing_writer.specs.Rounding.{noiseSize, noisyDistance, noisyBearing};
 ghost use Rattle.listing_writer.specs.Listing.{header, shotRow, endRow, refusedRow};
 
@@ -51,8 +51,8 @@ pub fn put_shot(out: &mut [u8], at: usize, from: &[u8], to: &[u8], mm: u64, step
 {
     let a = put_field(out, at, from, b' ');
     let b = put_field(out, a, to, b' ');
-    let c = put_numeral(out, b, mm, b' ');
-    put_numeral(out, c, step, b'\n')
+    let c = put_decimal(out, b, mm, b' ');
+    put_decimal(out, c, step, b'\n')
 }
 
 pub fn put_header(out: &mut [u8]) -> usize
@@ -66,7 +66,7 @@ pub fn put_end(out: &mut [u8], at: usize, count: u32) -> usize
     ensures { λ r. ⌜ Puts (now (out .entry)) at (endRow count) r (now (out .exit)) ⌝ }
 {
     let a = put_field(out, at, b"END", b' ');
-    put_numeral(out, a, count as u64, b'\n')
+    put_decimal(out, a, count as u64, b'\n')
 }
 
 // The one line of a refused text.
@@ -74,6 +74,6 @@ pub fn put_refused(out: &mut [u8], code: u32, line: u64) -> usize
     ensures { λ r. ⌜ Puts (now (out .entry)) 0 (refusedRow code line) r (now (out .exit)) ⌝ }
 {
     let a = put_field(out, 0, b"REFUSED", b' ');
-    let b = put_numeral(out, a, code as u64, b' ');
-    put_numeral(out, b, line, b'\n')
+    let b = put_decimal(out, a, code as u64, b' ');
+    put_decimal(out, b, line, b'\n')
 }

@@ -8,7 +8,7 @@ use mathlib.Core.List.{List, [], _∷_, _++_, append-assoc, append-nil}
 use lib.Dec.{eqb}
 use lib.ListN.{length, length-append, length-map}
 use borrow.Author.Tests.{eqb-true, eqb-false}
-use Rattle.text.specs.Limits.{numeralBound}
+use Rattle.text.specs.Limits.{decimalBound}
 use Rattle.text.specs.Fields.{name, decimal}
 use Rattle.text.specs.Scan.{lines}
 use Rattle.text.specs.Forms.{isEmpty, printForm}
@@ -54,8 +54,8 @@ alike-ordered true low high a h = h
 alike-ordered false low high a h = a
 
 -- a shot whose row is printed, an accepted shot, and an accepted end
-pub outcome-row : (b : Bool) (k : ℕ) (station f t : List ℕ) (m n s : ℕ) (rest : List ℕ) → name f ≡ true → name t ≡ true → m < numeralBound → n < numeralBound
-    → s < numeralBound → Alike b m n → outcome b k station (lines (rowOf b f t m n s ++ rest)) ≡ cond (eqb (refusal k station (leg f t m n s)) 0)
+pub outcome-row : (b : Bool) (k : ℕ) (station f t : List ℕ) (m n s : ℕ) (rest : List ℕ) → name f ≡ true → name t ≡ true → m < decimalBound → n < decimalBound
+    → s < decimalBound → Alike b m n → outcome b k station (lines (rowOf b f t m n s ++ rest)) ≡ cond (eqb (refusal k station (leg f t m n s)) 0)
     (onto (record { low = m; high = n; step = s }) (outcome b (k + 1) t (lines rest)))
     (refused (refusal k station (leg f t m n s)) k)
 unfolding outcome
@@ -326,7 +326,7 @@ outcome-equal : (rows : List Row) → EqualRows rows → (k n : ℕ) (station : 
 unfolding EqualRows rowsText
 outcome-equal [] h k n station = outcome-last k n station
 outcome-equal (r ∷ rows) (hf, ht, hd, hs, same, h) k n station =
-    let far : r .high < numeralBound = omega (arith, hd, same) in
+    let far : r .high < decimalBound = omega (arith, hd, same) in
     let by : (b : Bool) → Alike b (r .low) (r .high) → outcome b k station (lines (rowsText b (r ∷ rows) ++ endRow n)) ≡ _ =
     λ b alike. ap (λ (l : List ℕ). outcome b k station (lines l)) (append-assoc (rowText b r) (rowsText b rows) (endRow n))
     ∙ outcome-row b k station (r .from) (r .to) (r .low) (r .high) (r .step) (rowsText b rows ++ endRow n) hf ht hd far hs alike in

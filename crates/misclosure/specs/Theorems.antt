@@ -5,7 +5,7 @@ use mathlib.Core.Bool.{Bool, true, false}
 use mathlib.Core.List.{List, [], _∷_, _++_, map}
 use lib.IntN.{pos, _+ℤ_}
 use lib.ListN.{length}
-use Rattle.text.specs.Limits.{numeralBound}
+use Rattle.text.specs.Limits.{decimalBound}
 use Rattle.text.specs.Fields.{name}
 use Rattle.listing_writer.specs.Listing.{endRow}
 use Rattle.listing_reader.specs.Entries.{headerOf, rowOf}
@@ -66,7 +66,7 @@ Linked between station (r ∷ rows) = LinkedRow between station r × Linked betw
 unfoldable pub EqualRows : List Row → Type 0
 EqualRows [] = Unit {0}
 EqualRows (r ∷ rows) =
-    (name (r .from) ≡ true) × (name (r .to) ≡ true) × (r .low < numeralBound) × (r .step < numeralBound) × (r .low ≡ r .high) × EqualRows rows
+    (name (r .from) ≡ true) × (name (r .to) ≡ true) × (r .low < decimalBound) × (r .step < decimalBound) × (r .low ≡ r .high) × EqualRows rows
 
 -- the same shots, each with the distance that was chosen for it
 unfoldable pub chosenRows : List Row → List Shot → List Row

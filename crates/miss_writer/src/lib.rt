@@ -1,17 +1,17 @@
 // What the program misses prints: east and north in whole millimetres, the lowest and the highest of each where distances lie between two readings, or
 // why the listing is refused.
+use buffer::put;
+use buffer::put_decimal;
+use buffer::put_field;
 use listing_writer::put_refused;
 use misclosure::Ends;
 use misclosure::intervals;
 use misclosure::is_between;
 use misclosure::misclosure;
-use text::buffer::put;
-use text::buffer::put_field;
-use text::buffer::put_numeral;
 ghost use Prim.Native.Nat.{_≤_};
 ghost use mathlib.Core.List.{[], _∷_, _++_};
 ghost use lib.ListN.{length};
-ghost use Rattle.text.specs.Buffer.{Puts};
+ghost use Rattle.buffer.specs.Buffer.{Puts};
 ghost use mathlib.Core.Bool.{true, false};
 ghost use Rattle.misclosure.specs.Misclosure.{listingOf, missOf, intervalsOf};
 ghost use Rattle.miss_writer.specs.Output.{signedDecimal, sumRows, endsRow, intervalRows, missOutput, intervalsOutput, outputOf};
@@ -27,9 +27,9 @@ fn put_signed(out: &mut [u8], at: usize, n: i64, end: u8) -> usize
         let next = put(out, at, b"-");
         let below = n + 1;
         let size = -below;
-        return put_numeral(out, next, size as u64 + 1, end);
+        return put_decimal(out, next, size as u64 + 1, end);
     }
-    put_numeral(out, at, n as u64, end)
+    put_decimal(out, at, n as u64, end)
 }
 
 fn put_sums(out: &mut [u8], east: i64, north: i64) -> usize

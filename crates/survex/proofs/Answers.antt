@@ -9,7 +9,7 @@ use mathlib.Core.List.{List, [], _∷_}
 use lib.ListN.{length}
 use borrow.Author.Tests.{le-leb, lt-leb}
 use Rattle.text.specs.Scan.{lines}
-use Rattle.text.proofs.Writing.{written-fits}
+use Rattle.buffer.proofs.Writing.{written-fits}
 use Rattle.job_lines.specs.Forms.{shot, printLine}
 use Rattle.job.specs.Job.{Outcome, refused, listed, answerOf, bufferAfter}
 use Rattle.job.proofs.Answered.{Told, onto-told, answer-within, printed-refused}
@@ -20,7 +20,7 @@ use Rattle.survex.specs.Survex.{isData, legLine, onLeg, legsFrom, survex
 use Rattle.survex.specs.Private.{Converts}
 use Rattle.survex.specs.declared.LegsAnswer.{LegsAnswer}
 
--- a refusal has a number
+-- a refusal has a code
 leg-told : (k : ℕ) (l : List ℕ) (rest : Outcome) → Told rest → Told (onLeg k (legLine l) rest)
 unfolding legLine
 leg-told k l rest h = go (fed l)

@@ -24,10 +24,10 @@ use Rattle.job.proofs.Theorems as job-theorems
 use Rattle.survex_lines.specs.Lines.{leftOf, fed, remains}
 use Rattle.survex_leg.specs.Legs.{Said, leg, wrong, words, readLeg}
 use Rattle.survex_leg.proofs.Facts.{leg-facts}
-use Rattle.survex_shot.proofs.Lines.{shot-length}
+use Rattle.job_lines.proofs.ShotLines.{shot-length}
 use Rattle.survex.specs.Survex.{dataForm, found, isData, legLine, onLeg, legsFrom, survexFrom, survexOf}
 use Rattle.survex.specs.Theorems.{remaining, shotOf, shotsIn, Fit, AllFit, Theorems}
-use Rattle.survex.proofs.ShotLines.{name-short}
+use Rattle.text.proofs.Plain.{name-length}
 
 abbrev shots : List (List ℕ) → List Form
 shots ls = map (λ l. shotOf (legLine l)) ls
@@ -164,8 +164,8 @@ fit-length (sigma d b) h = absurd h
 fit-length (shot f t d b) h = omega (
   arith,
   shot-length f t d b,
-  name-short f (h .0) .1,
-  name-short t (h .1) .1,
+  name-length f (h .0),
+  name-length t (h .1),
   decimal-length 6 d (omega (arith, h .2)),
   decimal-length 4 b (omega (arith, h .3)),
 )
@@ -217,8 +217,8 @@ line-length (sigma d b) h = omega (
 line-length (shot f t d b) h = omega (
   arith,
   shot-length f t d b,
-  name-short f (h .0) .1,
-  name-short t (h .1) .1,
+  name-length f (h .0),
+  name-length t (h .1),
   decimal-length 9 d (h .2),
   decimal-length 9 b (h .3),
 )

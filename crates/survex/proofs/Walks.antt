@@ -10,10 +10,10 @@ use lib.ListN.{length, take, drop, length-append}
 use native.Mathlib.Decide.{decLt}
 use borrow.Author.Tests.{le-leb, lt-leb}
 use Rattle.text.specs.Scan.{lines}
-use Rattle.text.specs.Buffer.{written}
+use Rattle.buffer.specs.Buffer.{written}
 use Rattle.text.specs.Forms.{marks, readForm, readFew, foundIn}
 use Rattle.text.specs.declared.form.Found.{Found}
-use Rattle.text.proofs.Writing.{written-on}
+use Rattle.buffer.proofs.Writing.{written-on}
 use Rattle.job_lines.specs.Forms.{shot, printLine}
 use Rattle.job.specs.Job.{Outcome, refused, listed, onto, answerOf}
 use Rattle.job.proofs.Going.{onto-onto}

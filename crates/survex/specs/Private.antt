@@ -1,4 +1,4 @@
--- What the private functions return, and what they keep.
+-- For private functions; no public contract cites these.
 use Prim.Native.Nat.{ℕ, _+_, _≤_}
 use mathlib.Core.Path.{_≡_}
 use mathlib.Core.Bool.{true, false, cond, _&&_}
@@ -6,7 +6,7 @@ use mathlib.Core.List.{List}
 use lib.Dec.{leb, eqb}
 use lib.ListN.{length, drop}
 use Rattle.text.specs.Scan.{lines}
-use Rattle.text.specs.Buffer.{written}
+use Rattle.buffer.specs.Buffer.{written}
 use Rattle.job_lines.specs.Forms.{shot, printLine}
 use Rattle.job.specs.Job.{Outcome, refused, listed}
 use Rattle.survex_leg.specs.Legs.{Said, leg, wrong}
@@ -18,7 +18,7 @@ use Rattle.survex.specs.declared.walk.DataLine.{DataLine}
 
 -- ---- What is measured
 
--- so many bytes in a room: number 0; or too many for it: number 10
+-- so many bytes in a room: code 0; or too many for it: code 10
 unfoldable pub measuredOf : ℕ → ℕ → Measured
 measuredOf room total = cond (leb total room) (record { code = 0; used = total }) (record { code = 10; used = 0 })
 
@@ -26,7 +26,7 @@ unfoldable pub grownOf : ℕ → Measured → ℕ → Measured
 grownOf room m n =
     cond (eqb (m .code) 0 && leb (m .used + n) room) (record { code = 0; used = m .used + n }) (record { code = 10; used = 0 })
 
--- what a leg leaves: its number; or what is measured after its line, and the buffer with it
+-- what a leg leaves: its refusal code; or what is measured after its line, and the buffer with it
 abbrev pub Takes : Said → ℕ → Measured → Taken → List ℕ → List ℕ → Type 0
 Takes (leg from to d b) room m r out out′ =
     (r .code ≡ 0) × (r .next ≡ grownOf room m (length (printLine (shot from to d b)))) ×

@@ -42,7 +42,7 @@ unfoldable pub survexFrom : ℕ → List (List ℕ) → Outcome
 survexFrom k [] = refused 21 k
 survexFrom k (l ∷ ls) = cond (remains l) (cond (isData l) (legsFrom (k + 1) ls) (refused 21 k)) (survexFrom (k + 1) ls)
 
--- a text: refused with a number and a line, or its shot lines
+-- a text: refused with a code and a line, or its shot lines
 unfoldable pub survexOf : List ℕ → Outcome
 survexOf text = survexFrom 1 (lines text)
 

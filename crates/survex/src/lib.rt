@@ -6,19 +6,19 @@ use listing_writer::put_refused;
 ghost use Prim.Native.Nat.{_≤_};
 ghost use mathlib.Core.Path.{_≡_};
 ghost use lib.ListN.{length};
-ghost use Rattle.text.specs.Buffer.{Puts};
+ghost use Rattle.buffer.specs.Buffer.{Puts};
 ghost use Rattle.job.specs.Job.{bufferAfter, outputOf};
 ghost use Rattle.survex.specs.Survex.{survexOf, legsAnswer};
 
-// The number, 0 where the text is accepted; the line, 0 where no line is at fault; and the length of the shot lines.
+// The refusal code, 0 where the text is accepted; the line, 0 where no line is at fault; and the length of the shot lines.
 pub struct LegsAnswer {
     pub code: u32,
     pub line: usize,
     pub length: usize,
 }
 
-// Writes the shot lines of a text's legs. They are measured first, by way of a spare byte, so that the buffer lent is written only
-// where they fit.
+// Writes the shot lines of a text's legs. They are measured first, by way of a spare byte, so that the caller's buffer is written
+// only where they fit.
 pub fn legs(text: &[u8], out: &mut [u8]) -> LegsAnswer
     ensures { λ r. ⌜ r ≡ legsAnswer (survexOf (now (text .entry))) (length (now (out .entry))) ⌝ }
     ensures { λ _. ⌜ now (out .exit) ≡ bufferAfter (survexOf (now (text .entry))) (now (out .entry)) ⌝ }

@@ -1,10 +1,10 @@
 // A Survex text from its first line to its last.
 use crate::LegsAnswer;
+use buffer::put;
+use job_lines::write::shot_line;
 use survex_leg::LegLine;
 use survex_leg::leg_of;
 use survex_lines::line_from;
-use survex_shot::shot_line;
-use text::buffer::put;
 use text::form::read_form;
 ghost use mathlib.Core.Path.{_≡_};
 ghost use lib.ListN.{drop};
@@ -14,13 +14,13 @@ ghost use Rattle.survex_leg.specs.Legs.{words, readLeg};
 ghost use Rattle.survex.specs.Survex.{found, dataForm, survexOf, legsFrom};
 ghost use Rattle.survex.specs.Private.{grownOf, Takes, DataFound, Starts, Converts};
 
-// How many bytes the legs so far have, where they fit: number 0; else number 10, and no bytes.
+// How many bytes the legs so far have, where they fit: code 0; else code 10, and no bytes.
 pub struct Measured {
     pub code: u32,
     pub used: usize,
 }
 
-// The number of a leg, 0 where it is accepted, and what is measured after it.
+// The refusal code of a leg, 0 where it is accepted, and what is measured after it.
 pub struct Taken {
     pub code: u32,
     pub next: Measured,
@@ -52,7 +52,7 @@ fn grown(room: usize, m: Measured, n: usize) -> Measured
     }
 }
 
-// One leg: its shot line, as much of it as fits the buffer lent.
+// One leg: its shot line, as much of it as fits the buffer.
 fn take_leg(line: &[u8], room: usize, m: Measured, out: &mut [u8]) -> Taken
     ensures { λ r. ⌜ Takes (readLeg (words (now (line .entry)))) room m r (now (out .entry)) (now (out .exit)) ⌝ }
 {
@@ -152,7 +152,7 @@ fn walk(text: &[u8], first: usize, start: usize, room: usize, out: &mut [u8]) ->
     }
 }
 
-// Converts a text, measured against a room; where it fits that room, the buffer lent has as much of it as fits there.
+// Converts a text, measured against a room; where it fits that room, the buffer has as much of it as fits there.
 pub fn convert(text: &[u8], room: usize, out: &mut [u8]) -> LegsAnswer
     ensures { λ r. ⌜ Converts (survexOf (now (text .entry))) room r (now (out .entry)) (now (out .exit)) ⌝ }
 {

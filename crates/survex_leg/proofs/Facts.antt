@@ -1,17 +1,18 @@
--- What a leg once read holds: names, a distance and a bearing within their ranges; and the numbers of a refusal.
+-- What a leg once read holds: names, a distance and a bearing within their ranges; and the codes of a refusal.
 use Prim.Native.Nat.{ℕ, _≤_, _<_}
 use native.Mathlib.Omega.{arith}
 use mathlib.Core.Path.{_≡_, refl, subst}
-use mathlib.Core.Bool.{Bool, true, false, cond, _&&_, and-eq-true-iff}
+use mathlib.Core.Bool.{Bool, true, false, cond, _&&_}
 use mathlib.Core.List.{List}
 use lib.Dec.{leb, eqb}
 use lib.ListN.{length}
 use borrow.Author.Tests.{leb-true}
 use Rattle.text.specs.Fields.{name}
+use Rattle.text.proofs.Tests.{test, _and_, each}
 use Rattle.job_lines.specs.Forms.{fieldAt}
 use Rattle.listing_writer.specs.Rounding.{turnSteps}
 use Rattle.survex_leg.specs.Limits.{tapeDecimals, compassDecimals, mostTape, compassTurn}
-use Rattle.survex_leg.specs.Legs.{Said, leg, wrong, number, tapeIn, compassIn, level, stepOf, legForm, legRange, readLeg}
+use Rattle.survex_leg.specs.Legs.{Said, leg, wrong, isDecimal, tapeIn, compassIn, level, stepOf, legForm, legRange, readLeg}
 
 pub record LegFacts (f t : List ℕ) (d b : ℕ) : Type 0 where
   pub from : name f ≡ true
@@ -30,19 +31,16 @@ Holds (leg f t d b) = LegFacts f t d b
 Holds (wrong n) = 21 ≤ n
 
 module _ (v : List (List ℕ)) where
-  abbrev numbers : Bool
-  numbers = number tapeDecimals (fieldAt v 2) && number compassDecimals (fieldAt v 3)
-
   formed : legForm v ≡ true → (name (fieldAt v 0) ≡ true) × (name (fieldAt v 1) ≡ true)
   unfolding legForm
   formed h =
-      let t = and-eq-true-iff (eqb (length v) 5) (name (fieldAt v 0) && (name (fieldAt v 1) && numbers)) .0 h in
-      let u = and-eq-true-iff (name (fieldAt v 0)) (name (fieldAt v 1) && numbers) .0 (t .1) in
-      (u .0, and-eq-true-iff (name (fieldAt v 1)) numbers .0 (u .1) .0)
+      let (five, (from, (to, rest))) = each (test (eqb (length v) 5) and (test (name (fieldAt v 0)) and (test (name (fieldAt v 1)) and
+      test (isDecimal tapeDecimals (fieldAt v 2) && isDecimal compassDecimals (fieldAt v 3))))) h in
+      (from, to)
 
   ranged : legRange v ≡ true → tapeIn v ≤ mostTape
   unfolding legRange
-  ranged h = leb-true (tapeIn v) mostTape (and-eq-true-iff (leb (tapeIn v) mostTape) (leb (compassIn v) compassTurn && level (fieldAt v 4)) .0 h .0)
+  ranged h = leb-true (tapeIn v) mostTape (each (test (leb (tapeIn v) mostTape) and test (leb (compassIn v) compassTurn && level (fieldAt v 4))) h .0)
 
   pub said-holds : Holds (readLeg v)
   unfolding readLeg Holds

@@ -1,37 +1,19 @@
 -- What a leg's fields say, from what its readers found.
-use Prim.Native.Nat.{ℕ, _≤_, _<_}
+use Prim.Native.Nat.{ℕ, _≤_}
 use mathlib.Core.Path.{_≡_, refl, sym, ap, _∙_}
-use mathlib.Core.Bool.{Bool, true, false, cond, not, _&&_, and-eq-true-iff, and-false, true≢false, false≢true}
+use mathlib.Core.Bool.{Bool, true, false, cond, _&&_, and-false}
 use mathlib.Core.List.{List}
 use lib.Dec.{leb, eqb}
 use lib.ListN.{length, getD}
-use borrow.Author.Tests.{leb-true, lt-leb, le-leb, eq-eqb, ne-eqb}
+use borrow.Author.Tests.{leb-true, eq-eqb, ne-eqb}
 use Rattle.text.specs.Fields.{name}
-use Rattle.text.specs.declared.field.Numeral.{Numeral}
+use Rattle.text.specs.declared.field.NumberRead.{NumberRead}
+use Rattle.text.proofs.Tests.{test, _and_, each}
 use Rattle.job_lines.specs.Forms.{fieldAt}
 use Rattle.survex_leg.specs.Limits.{tapeDecimals, compassDecimals, mostTape, compassTurn}
-use Rattle.survex_leg.specs.Legs.{Reads, leg, wrong, number, tapeIn, compassIn, level, stepOf, legForm, legRange, readLeg}
+use Rattle.survex_leg.specs.Legs.{Reads, leg, wrong, isDecimal, tapeIn, compassIn, level, stepOf, legForm, legRange, readLeg}
 use Rattle.survex_leg.specs.Private.{NumbersOf}
 use Rattle.survex_leg.specs.declared.LegNumbers.{LegNumbers}
-
--- a conjunction of four, by the first that fails
-pub four-1 : (a b c d : Bool) → not a ≡ true → false ≡ a && (b && (c && d))
-four-1 true b c d e = absurd (false≢true e)
-four-1 false b c d e = refl
-
-pub four-2 : (a b c d : Bool) → not b ≡ true → false ≡ a && (b && (c && d))
-four-2 a true c d e = absurd (false≢true e)
-four-2 a false c d e = sym (and-false a)
-
-pub four-3 : (a b c d : Bool) → not c ≡ true → false ≡ a && (b && (c && d))
-four-3 a b true d e = absurd (false≢true e)
-four-3 a b false d e = sym (ap (λ (t : Bool). a && t) (and-false b) ∙ and-false a)
-
-pub four-4 : (a b c d : Bool) → not a ≡ false → not b ≡ false → not c ≡ false → d ≡ a && (b && (c && d))
-four-4 true true true d e f g = refl
-four-4 false b c d e f g = absurd (true≢false e)
-four-4 true false c d e f g = absurd (true≢false f)
-four-4 true true false d e f g = absurd (true≢false g)
 
 -- a clino
 pub level-not : (l : List ℕ) → (length l ≡ 1 → ⊥) → false ≡ level l
@@ -42,32 +24,20 @@ pub level-byte : (l : List ℕ) → length l ≡ 1 → eqb (getD l 0 0) 48 ≡ l
 unfolding level
 level-byte l h = rw (eq-eqb (length l) 1 h)
 
--- the ranges, by the first that is left
+-- the ranges
 module _ (tape compass : ℕ) (flat : Bool) where
   abbrev fits : Bool
   fits = leb tape mostTape && (leb compass compassTurn && flat)
 
-  pub range-1 : mostTape < tape → false ≡ fits
-  range-1 h = rw (lt-leb tape mostTape h)
-
-  pub range-2 : compassTurn < compass → false ≡ fits
-  range-2 h = rw (lt-leb compass compassTurn h) (sym (and-false (leb tape mostTape)))
-
-  pub range-3 : tape ≤ mostTape → compass ≤ compassTurn → flat ≡ fits
-  range-3 h k = rw (le-leb tape mostTape h, le-leb compass compassTurn k)
-
   pub range-compass : fits ≡ true → compass ≤ compassTurn
-  range-compass e =
-      let t = and-eq-true-iff (leb tape mostTape) (leb compass compassTurn && flat) .0 e in
-      let u = and-eq-true-iff (leb compass compassTurn) flat .0 (t .1) in
-      leb-true compass compassTurn (u .0)
+  range-compass e = leb-true compass compassTurn (each (test (leb tape mostTape) and (test (leb compass compassTurn) and test flat)) e .1 .0)
 
 module _ (v : List (List ℕ)) where
-  pub numbers-are : (ok x y : Bool) (tape compass : Numeral) → x ≡ name (fieldAt v 0) → y ≡ name (fieldAt v 1)
+  pub numbers-are : (ok x y : Bool) (tape compass : NumberRead) → x ≡ name (fieldAt v 0) → y ≡ name (fieldAt v 1)
       → Reads tapeDecimals (fieldAt v 2) tape → Reads compassDecimals (fieldAt v 3) compass
       → ok ≡ x && (y && (tape .ok && compass .ok)) → NumbersOf v (record { ok = ok; tape = tape .value; compass = compass .value })
   numbers-are ok x y tape compass ex ey rt rc eo =
-      let o : ok ≡ name (fieldAt v 0) && (name (fieldAt v 1) && (number tapeDecimals (fieldAt v 2) && number compassDecimals (fieldAt v 3))) =
+      let o : ok ≡ name (fieldAt v 0) && (name (fieldAt v 1) && (isDecimal tapeDecimals (fieldAt v 2) && isDecimal compassDecimals (fieldAt v 3))) =
       eo ∙ rw (ex, ey, rt .ok, rc .ok) in
       record {
         ok = o;
@@ -75,12 +45,9 @@ module _ (v : List (List ℕ)) where
         compass = λ t. rc .value ∙ ap (λ (b : Bool). cond b (compassIn v) 0) (parts (sym o ∙ t) .1);
       }
     where
-      parts : name (fieldAt v 0) && (name (fieldAt v 1) && (number tapeDecimals (fieldAt v 2) && number compassDecimals (fieldAt v 3))) ≡ true
-          → (number tapeDecimals (fieldAt v 2) ≡ true) × (number compassDecimals (fieldAt v 3) ≡ true)
-      parts h =
-          let t = and-eq-true-iff (name (fieldAt v 0)) (name (fieldAt v 1) && (number tapeDecimals (fieldAt v 2) && number compassDecimals (fieldAt v 3))) .0 h in
-          let u = and-eq-true-iff (name (fieldAt v 1)) (number tapeDecimals (fieldAt v 2) && number compassDecimals (fieldAt v 3)) .0 (t .1) in
-          and-eq-true-iff (number tapeDecimals (fieldAt v 2)) (number compassDecimals (fieldAt v 3)) .0 (u .1)
+      parts : name (fieldAt v 0) && (name (fieldAt v 1) && (isDecimal tapeDecimals (fieldAt v 2) && isDecimal compassDecimals (fieldAt v 3))) ≡ true
+          → (isDecimal tapeDecimals (fieldAt v 2) ≡ true) × (isDecimal compassDecimals (fieldAt v 3) ≡ true)
+      parts h = each (test (name (fieldAt v 0)) and (test (name (fieldAt v 1)) and (test (isDecimal tapeDecimals (fieldAt v 2)) and test (isDecimal compassDecimals (fieldAt v 3))))) h .1 .1
 
   pub not-five : eqb (length v) 5 ≡ false → wrong 21 ≡ readLeg v
   unfolding readLeg legForm

@@ -4,21 +4,22 @@ use native.Mathlib.Omega.{arith}
 use native.Mathlib.Numerals.{add-one}
 use native.Mathlib.Nat.{pow-le-pow-right, mul-le-mul}
 use mathlib.Core.Path.{_≡_, refl, sym, ap, subst, _∙_}
-use mathlib.Core.Bool.{Bool, true, false, cond, not, _&&_, _||_, and-eq-true-iff, and-false, false≢true}
+use mathlib.Core.Bool.{Bool, true, false, cond, not, _&&_, _||_, and-false, false≢true}
 use mathlib.Core.List.{List}
 use lib.Dec.{leb}
 use lib.ListN.{length, take, drop, length-drop, drop-of-length-le}
 use lib.Seq.{take-all}
 use borrow.Author.Tests.{le-leb, lt-leb, lt-ltb, le-ltb, leb-true}
-use Rattle.text.specs.Limits.{numeralLength, numeralBound}
+use Rattle.text.specs.Limits.{mostDigits, decimalBound}
 use Rattle.text.specs.Ascii.{ascii}
 use Rattle.text.specs.Scan.{oneOf, upTo}
 use Rattle.text.specs.Fields.{all, digit, value as value·of, fewDigits, Spells}
-use Rattle.text.specs.declared.field.Numeral.{Numeral}
+use Rattle.text.specs.declared.field.NumberRead.{NumberRead}
+use Rattle.text.proofs.Tests.{test, _and_, each}
 use Rattle.text.proofs.Decimal.{value-below}
 use Rattle.text.proofs.Scan.{run-length, run-take}
 use Rattle.survex_leg.specs.Limits.{wholeDigits, tapeDecimals}
-use Rattle.survex_leg.specs.Legs.{whole, pointed, decimals, digitsUpTo, number, scaled, Reads}
+use Rattle.survex_leg.specs.Legs.{whole, pointed, decimals, digitsUpTo, isDecimal, scaled, Reads}
 use Rattle.survex_leg.specs.Private.{DecimalsOf, joinedOf}
 
 -- why so many digits are too few or too many, and when they decide
@@ -29,27 +30,26 @@ module _ (most : ℕ) (l : List ℕ) where
   pub digits-many : most < length l → digitsUpTo most l ≡ false
   digits-many h = rw (lt-leb (length l) most h, and-false (leb 1 (length l)))
 
-  pub digits-few : 1 ≤ length l → length l ≤ most → most ≤ numeralLength → fewDigits l ≡ digitsUpTo most l
+  pub digits-few : 1 ≤ length l → length l ≤ most → most ≤ mostDigits → fewDigits l ≡ digitsUpTo most l
   unfolding fewDigits
   digits-few h k m = rw (le-leb 1 (length l) h, le-leb (length l) most k, le-leb (length l) 10 (omega arith))
 
   -- what they spell is below a bound
-  pub digits-below : most ≤ numeralLength → (r : Numeral) → Spells (digitsUpTo most l) l r → r .value < numeralBound
+  pub digits-below : most ≤ mostDigits → (r : NumberRead) → Spells (digitsUpTo most l) l r → r .value < decimalBound
   digits-below m r s = rw (s .value) (go (digitsUpTo most l) refl)
     where
-      go : (b : Bool) → digitsUpTo most l ≡ b → cond b (value·of 0 l) 0 < numeralBound
+      go : (b : Bool) → digitsUpTo most l ≡ b → cond b (value·of 0 l) 0 < decimalBound
       go false e = omega arith
       go true e =
-          let t = and-eq-true-iff (leb 1 (length l) && leb (length l) most) (all digit l) .0 e in
-          let u = and-eq-true-iff (leb 1 (length l)) (leb (length l) most) .0 (t .0) in
+          let ((some, few), digits) = each (test (leb 1 (length l)) and test (leb (length l) most) and test (all digit l)) e in
           let p : 10 ^ length l ≤ 10 ^ 10 = pow-le-pow-right (omega arith) {i = length l} {j = 10}
-          (omega (arith, leb-true (length l) most (u .1))) in
-          omega (arith, value-below 0 l (t .1), p)
+          (omega (arith, leb-true (length l) most few)) in
+          omega (arith, value-below 0 l digits, p)
 
 pub power-below : (n : ℕ) → n ≤ tapeDecimals → 10 ^ n ≤ 10 ^ tapeDecimals
 power-below n h = pow-le-pow-right (omega arith) {i = n} {j = 3} h
 
-pub product-below : (a p : ℕ) → a < numeralBound → p ≤ 1000 → a * p < 10 ^ 13
+pub product-below : (a p : ℕ) → a < decimalBound → p ≤ 1000 → a * p < 10 ^ 13
 product-below a p h k =
     let b : a ≤ 9999999999 = omega arith in
     let t : a * p ≤ 9999999999 * 1000 = mul-le-mul b k in
@@ -66,7 +66,7 @@ module _ (most : ℕ) (l : List ℕ) (point : ℕ) where
         below = omega arith;
       }
 
-  module _ (h : point < length l) (m : most ≤ tapeDecimals) (d : Numeral)
+  module _ (h : point < length l) (m : most ≤ tapeDecimals) (d : NumberRead)
       (s : Spells (digitsUpTo most (take (length l - (point + 1)) (drop (point + 1) l))) (take (length l - (point + 1)) (drop (point + 1) l)) d)
     where
       abbrev rest : List ℕ
@@ -92,12 +92,11 @@ module _ (most : ℕ) (l : List ℕ) (point : ℕ) where
       module _ (t : d .ok ≡ true) where
         pub after-few : length l - (point + 1) ≤ most
         after-few =
-            let u = and-eq-true-iff (leb 1 (length rest) && leb (length rest) most) (all digit rest) .0 (sym (spells .ok) ∙ t) in
-            let v = and-eq-true-iff (leb 1 (length rest)) (leb (length rest) most) .0 (u .0) in
-            omega (arith, rest-size, leb-true (length rest) most (v .1))
+            let e = each (test (leb 1 (length rest)) and test (leb (length rest) most) and test (all digit rest)) (sym (spells .ok) ∙ t) in
+            omega (arith, rest-size, leb-true (length rest) most (e .0 .1))
 
         module _ (p : ℕ) (e : p ≡ 10 ^ (most - (length l - (point + 1)))) where
-          pub after-below : d .value * p < numeralBound * 10 ^ tapeDecimals
+          pub after-below : d .value * p < decimalBound * 10 ^ tapeDecimals
           after-below =
               let q : p ≤ 1000 = omega (arith, e, power-below (most - (length l - (point + 1))) (omega arith)) in
               product-below (d .value) p (digits-below most rest (omega arith) d spells) q
@@ -110,11 +109,11 @@ module _ (most : ℕ) (l : List ℕ) (point : ℕ) where
                 below = after-below;
               }
 
-pub joined-below : (a p n : ℕ) → a < numeralBound → n ≤ tapeDecimals → p ≡ 10 ^ n → a * p < 10 ^ 13
+pub joined-below : (a p n : ℕ) → a < decimalBound → n ≤ tapeDecimals → p ≡ 10 ^ n → a * p < 10 ^ 13
 joined-below a p n h k e = product-below a p h (omega (arith, e, power-below n k))
 
 -- both together
-module _ (w f : Numeral) (most : ℕ) where
+module _ (w f : NumberRead) (most : ℕ) where
   pub joined-first : w .ok ≡ false → record { ok = false; value = 0 } ≡ joinedOf w f most
   unfolding joinedOf
   joined-first e = rw e
@@ -141,10 +140,10 @@ module _ (most : ℕ) (l : List ℕ) (point : ℕ) (e : point ≡ 0 + length (up
       let n : point - 0 ≡ length (whole l) = omega (arith, e) in
       ap (λ (k : ℕ). take k l) n ∙ run-take (oneOf (ascii ".")) l
 
-  pub number-is : (w f r : Numeral) → Spells (digitsUpTo wholeDigits (take (point - 0) (drop 0 l))) (take (point - 0) (drop 0 l)) w
+  pub decimal-is : (w f r : NumberRead) → Spells (digitsUpTo wholeDigits (take (point - 0) (drop 0 l))) (take (point - 0) (drop 0 l)) w
       → DecimalsOf most l point f → r ≡ joinedOf w f most → Reads most l r
-  unfolding number scaled joinedOf
-  number-is w f r sw df er =
+  unfolding isDecimal scaled joinedOf
+  decimal-is w f r sw df er =
       let s = subst (λ (k : List ℕ). Spells (digitsUpTo wholeDigits k) k w) whole-is sw in
       let d = subst (λ (k : ℕ). DecimalsOf most l k f) point-is df in
       rw er (go (w .ok) (f .ok) refl refl (s .ok) (d .ok) (s .value) (d .value))
@@ -156,7 +155,7 @@ module _ (most : ℕ) (l : List ℕ) (point : ℕ) (e : point ≡ 0 + length (up
           → Reads most l (cond (a && b) (record { ok = true; value = w .value * 10 ^ most + f .value }) (record { ok = false; value = 0 }))
       go true true x y p q v u =
           let a : w .value ≡ value·of 0 (whole l) = v ∙ ap (λ (b : Bool). cond b (value·of 0 (whole l)) 0) (sym p) in
-          let t : number most l ≡ true = rw (← p, ← q) in
+          let t : isDecimal most l ≡ true = rw (← p, ← q) in
           record { ok = sym t; value = rw (a, u refl) (sym (ap (λ (b : Bool). cond b (scaled most l) 0) t)) }
       go true false x y p q v u = record { ok = rw (← p, ← q); value = rw (← p, ← q) }
       go false b x y p q v u = record { ok = rw (← p); value = rw (← p) }

@@ -4,7 +4,7 @@ use native.Mathlib.Omega.{arith}
 use native.Mathlib.Nat.{pow-succ'}
 use lib.Pow.{pow-add}
 use mathlib.Core.Path.{_≡_, refl, sym, ap, _∙_}
-use mathlib.Core.Bool.{Bool, true, false, not, _&&_, _||_, and-eq-true-iff}
+use mathlib.Core.Bool.{Bool, true, false, not, _||_}
 use mathlib.Core.List.{List, [], _∷_, _++_}
 use lib.Dec.{leb}
 use lib.ListN.{length, drop-of-length-le}
@@ -12,8 +12,9 @@ use borrow.Author.Tests.{leb-true, ltb-false}
 use Rattle.text.specs.Fields.{all, digit, value}
 use Rattle.text.proofs.Decimal.{value-append}
 use Rattle.listing_writer.specs.Rounding.{turnSteps}
+use Rattle.text.proofs.Tests.{test, _and_, each}
 use Rattle.survex_leg.specs.Limits.{wholeDigits, compassTurn}
-use Rattle.survex_leg.specs.Legs.{whole, pointed, decimals, digitsUpTo, number, scaled, stepOf}
+use Rattle.survex_leg.specs.Legs.{whole, pointed, decimals, digitsUpTo, isDecimal, scaled, stepOf}
 use Rattle.survex_leg.specs.Theorems.{Nearest, Theorems}
 use Rattle.survex_leg.proofs.Facts.{step-below}
 
@@ -33,19 +34,16 @@ value-from n (x ∷ xs) = step (10 ^ length xs) (value-from (n * 10 + (x - 48)) 
     step p f g h = rw (f, g, h) (omega arith)
 
 -- no more decimals than there may be
-few-decimals : (most : ℕ) (l : List ℕ) → number most l ≡ true → length (decimals l) ≤ most
-unfolding number
+few-decimals : (most : ℕ) (l : List ℕ) → isDecimal most l ≡ true → length (decimals l) ≤ most
+unfolding isDecimal
 few-decimals most l h =
-    let t = and-eq-true-iff (digitsUpTo wholeDigits (whole l)) (not (pointed l) || digitsUpTo most (decimals l)) .0 h in
-    go (pointed l) refl (t .1)
+    go (pointed l) refl (each (test (digitsUpTo wholeDigits (whole l)) and test (not (pointed l) || digitsUpTo most (decimals l))) h .1)
   where
     go : (b : Bool) → pointed l ≡ b → not b || digitsUpTo most (decimals l) ≡ true → length (decimals l) ≤ most
     go false e u = omega (arith, ap length (drop-of-length-le l {i = suc (length (whole l))} (omega (arith, ltb-false (length (whole l)) (length l) e))))
-    go true e u =
-        let v = and-eq-true-iff (leb 1 (length (decimals l)) && leb (length (decimals l)) most) (all digit (decimals l)) .0 u in
-        leb-true _ _ (and-eq-true-iff (leb 1 (length (decimals l))) (leb (length (decimals l)) most) .0 (v .0) .1)
+    go true e u = leb-true _ _ (each (test (leb 1 (length (decimals l))) and test (leb (length (decimals l)) most) and test (all digit (decimals l))) u .0 .1)
 
-exact-is : (most : ℕ) (l : List ℕ) → number most l ≡ true → scaled most l * 10 ^ length (decimals l) ≡ value 0 (whole l ++ decimals l) * 10 ^ most
+exact-is : (most : ℕ) (l : List ℕ) → isDecimal most l ≡ true → scaled most l * 10 ^ length (decimals l) ≡ value 0 (whole l ++ decimals l) * 10 ^ most
 unfolding scaled
 exact-is most l h =
     let k = length (decimals l) in

@@ -8,7 +8,7 @@ use lib.ListN.{length, getD, drop}
 use Rattle.text.specs.Ascii.{ascii, byte}
 use Rattle.text.specs.Scan.{oneOf, upTo, before}
 use Rattle.text.specs.Fields.{all, within, digit, name, value, partOf}
-use Rattle.text.specs.declared.field.Numeral.{Numeral}
+use Rattle.text.specs.declared.field.NumberRead.{NumberRead}
 use Rattle.job_lines.specs.Forms.{fieldAt}
 use Rattle.listing_writer.specs.Rounding.{turnSteps}
 use Rattle.survex_lines.specs.Lines.{blank}
@@ -42,18 +42,18 @@ decimals l = drop (suc (length (whole l))) l
 abbrev pub digitsUpTo : ℕ → List ℕ → Bool
 digitsUpTo most l = within 1 most (length l) && all digit l
 
--- a number of at most so many decimals
-unfoldable pub number : ℕ → List ℕ → Bool
-number most l = digitsUpTo wholeDigits (whole l) && (not (pointed l) || digitsUpTo most (decimals l))
+-- whether it is a number of at most so many decimals
+unfoldable pub isDecimal : ℕ → List ℕ → Bool
+isDecimal most l = digitsUpTo wholeDigits (whole l) && (not (pointed l) || digitsUpTo most (decimals l))
 
 -- what it says, in units of the last of these decimals
 unfoldable pub scaled : ℕ → List ℕ → ℕ
 scaled most l = value 0 (whole l) * 10 ^ most + value 0 (decimals l) * 10 ^ (most - length (decimals l))
 
 -- ok where it is one, and what it says
-pub record Reads (most : ℕ) (l : List ℕ) (r : Numeral) : Type 0 where
-  pub ok : r .ok ≡ number most l
-  pub value : r .value ≡ cond (number most l) (scaled most l) 0
+pub record Reads (most : ℕ) (l : List ℕ) (r : NumberRead) : Type 0 where
+  pub ok : r .ok ≡ isDecimal most l
+  pub value : r .value ≡ cond (isDecimal most l) (scaled most l) 0
 
 -- ---- The leg
 
@@ -76,13 +76,13 @@ compassIn v = scaled compassDecimals (fieldAt v 3)
 unfoldable pub legForm : List (List ℕ) → Bool
 legForm v =
     eqb (length v) 5 &&
-    (name (fieldAt v 0) && (name (fieldAt v 1) && (number tapeDecimals (fieldAt v 2) && number compassDecimals (fieldAt v 3))))
+    (name (fieldAt v 0) && (name (fieldAt v 1) && (isDecimal tapeDecimals (fieldAt v 2) && isDecimal compassDecimals (fieldAt v 3))))
 
 -- both in their ranges, and a level shot; else 22, "a number out of range, or any other clino"
 unfoldable pub legRange : List (List ℕ) → Bool
 legRange v = leb (tapeIn v) mostTape && (leb (compassIn v) compassTurn && level (fieldAt v 4))
 
--- What a leg says: a shot, or the number of its refusal
+-- What a leg says: a shot, or its refusal code
 pub data Said : Type 0 where
   leg : List ℕ → List ℕ → ℕ → ℕ → Said
   wrong : ℕ → Said

@@ -1,4 +1,4 @@
--- What the private functions return.
+-- For private functions; no public contract cites these.
 use Prim.Native.Nat.{ℕ, suc, _+_, _-_, _*_, _^_, _<_}
 use mathlib.Core.Path.{_≡_}
 use mathlib.Core.Bool.{true, false, cond, not, _&&_, _||_}
@@ -6,14 +6,14 @@ use mathlib.Core.List.{List}
 use lib.Dec.{ltb, eqb}
 use lib.ListN.{length, drop}
 use Rattle.text.specs.Scan.{upTo}
-use Rattle.text.specs.Limits.{numeralBound}
+use Rattle.text.specs.Limits.{decimalBound}
 use Rattle.text.specs.Fields.{name, value, partOf}
 use Rattle.text.specs.declared.field.Place.{Place}
-use Rattle.text.specs.declared.field.Numeral.{Numeral}
+use Rattle.text.specs.declared.field.NumberRead.{NumberRead}
 use Rattle.job_lines.specs.Forms.{fieldAt}
 use Rattle.survex_lines.specs.Lines.{blank, notBlank}
 use Rattle.survex_leg.specs.Limits.{tapeDecimals, compassDecimals}
-use Rattle.survex_leg.specs.Legs.{words, digitsUpTo, number, tapeIn, compassIn}
+use Rattle.survex_leg.specs.Legs.{words, digitsUpTo, isDecimal, tapeIn, compassIn}
 use Rattle.survex_leg.specs.declared.LegFields.{LegFields}
 use Rattle.survex_leg.specs.declared.LegNumbers.{LegNumbers}
 
@@ -33,18 +33,18 @@ pub record Fielded (line : List ℕ) (r : LegFields) : Type 0 where
   pub clino : partOf line (r .clino) ≡ fieldAt (words line) 4
 
 -- the decimals after a point
-pub record DecimalsOf (most : ℕ) (l : List ℕ) (point : ℕ) (r : Numeral) : Type 0 where
+pub record DecimalsOf (most : ℕ) (l : List ℕ) (point : ℕ) (r : NumberRead) : Type 0 where
   pub ok : r .ok ≡ not (ltb point (length l)) || digitsUpTo most (drop (suc point) l)
   pub value : r .ok ≡ true → r .value ≡ value 0 (drop (suc point) l) * 10 ^ (most - length (drop (suc point) l))
-  pub below : r .value < numeralBound * 10 ^ tapeDecimals
+  pub below : r .value < decimalBound * 10 ^ tapeDecimals
 
 -- both where both are numbers, and nothing else
-unfoldable pub joinedOf : Numeral → Numeral → ℕ → Numeral
+unfoldable pub joinedOf : NumberRead → NumberRead → ℕ → NumberRead
 joinedOf w f most =
     cond (w .ok && f .ok) (record { ok = true; value = w .value * 10 ^ most + f .value }) (record { ok = false; value = 0 })
 
 -- names and numbers of a leg's fields
 pub record NumbersOf (v : List (List ℕ)) (r : LegNumbers) : Type 0 where
-  pub ok : r .ok ≡ name (fieldAt v 0) && (name (fieldAt v 1) && (number tapeDecimals (fieldAt v 2) && number compassDecimals (fieldAt v 3)))
+  pub ok : r .ok ≡ name (fieldAt v 0) && (name (fieldAt v 1) && (isDecimal tapeDecimals (fieldAt v 2) && isDecimal compassDecimals (fieldAt v 3)))
   pub tape : r .ok ≡ true → r .tape ≡ tapeIn v
   pub compass : r .ok ≡ true → r .compass ≡ compassIn v

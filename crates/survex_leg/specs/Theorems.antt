@@ -7,7 +7,7 @@ use lib.ListN.{length}
 use Rattle.text.specs.Fields.{value}
 use Rattle.listing_writer.specs.Rounding.{turnSteps}
 use Rattle.survex_leg.specs.Limits.{compassTurn}
-use Rattle.survex_leg.specs.Legs.{whole, decimals, number, scaled, stepOf}
+use Rattle.survex_leg.specs.Legs.{whole, decimals, isDecimal, scaled, stepOf}
 
 -- how far two whole numbers are apart
 abbrev pub apart : ℕ → ℕ → ℕ
@@ -26,5 +26,5 @@ pub record Theorems : Type 0 where
   pub whole-turn : stepOf compassTurn ≡ 0
   pub step-below : (c : ℕ) → stepOf c < turnSteps
   -- a tape is exact: the number that its digits spell, with as many decimals as it has, times the units that a whole one has
-  pub exact : (most : ℕ) (l : List ℕ) → number most l ≡ true
+  pub exact : (most : ℕ) (l : List ℕ) → isDecimal most l ≡ true
       → scaled most l * 10 ^ length (decimals l) ≡ value 0 (whole l ++ decimals l) * 10 ^ most

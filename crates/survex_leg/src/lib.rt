@@ -2,8 +2,9 @@
 use job_lines::Shot;
 use listing_writer::TURN_STEPS;
 use survex_lines::skip_blanks;
-use text::field::Numeral;
+use text::field::NumberRead;
 use text::field::Place;
+use text::field::both;
 use text::field::digits_value;
 use text::field::name_at;
 use text::field::part;
@@ -12,7 +13,7 @@ ghost use Prim.Native.Nat.{_*_, _^_, _≤_, _<_};
 ghost use mathlib.Core.Path.{_≡_};
 ghost use mathlib.Core.Bool.{_&&_, not};
 ghost use lib.Dec.{leb, ltb};
-ghost use Rattle.text.specs.Limits.{numeralLength, numeralBound};
+ghost use Rattle.text.specs.Limits.{mostDigits, decimalBound};
 ghost use Rattle.text.specs.Fields.{Spells};
 ghost use Rattle.survex_leg.specs.Limits.{tapeDecimals, mostTape, compassTurn};
 ghost use Rattle.survex_leg.specs.Legs.{words, digitsUpTo, Reads, level, stepOf, readLeg, legIn};
@@ -49,7 +50,7 @@ pub struct LegNumbers {
     pub compass: u64,
 }
 
-// What a line of a leg says: the shot, or the number of its refusal.
+// What a line of a leg says: the shot, or its refusal code.
 pub enum LegLine {
     Leg(Shot),
     Wrong(u32),
@@ -95,18 +96,18 @@ fn fields_of(line: &[u8]) -> LegFields
 }
 
 // The number that 1 to `most` digits spell.
-fn digits_up_to(part: &[u8], most: usize) -> Numeral
-    requires { ⌜ most ≤ numeralLength ⌝ }
+fn digits_up_to(part: &[u8], most: usize) -> NumberRead
+    requires { ⌜ most ≤ mostDigits ⌝ }
     ensures { λ r. ⌜ Spells (digitsUpTo most (now (part .entry))) (now (part .entry)) r ⌝ }
 {
     if part.len() < 1 {
-        return Numeral {
+        return NumberRead {
             ok: false,
             value: 0,
         };
     }
     if most < part.len() {
-        return Numeral {
+        return NumberRead {
             ok: false,
             value: 0,
         };
@@ -131,53 +132,53 @@ fn power_of_ten(n: usize) -> u64
 }
 
 // The decimals after a point, at most so many, in units of the last of these; none where the point is the end.
-fn decimals_after(part: &[u8], point: usize, most: usize) -> Numeral
+fn decimals_after(part: &[u8], point: usize, most: usize) -> NumberRead
     requires { ⌜ most ≤ tapeDecimals ⌝ }
     ensures { λ r. ⌜ DecimalsOf most (now (part .entry)) point r ⌝ }
 {
     let n = part.len();
     if n <= point {
-        return Numeral { ok: true, value: 0 };
+        return NumberRead { ok: true, value: 0 };
     }
     let start = point + 1;
     let digits = digits_up_to(&part[start..n], most);
     if !digits.ok {
-        return Numeral {
+        return NumberRead {
             ok: false,
             value: 0,
         };
     }
-    Numeral {
+    NumberRead {
         ok: true,
         value: digits.value * power_of_ten(most - (n - start)),
     }
 }
 
-fn joined(whole: Numeral, fraction: Numeral, most: usize) -> Numeral
+fn joined(whole: NumberRead, fraction: NumberRead, most: usize) -> NumberRead
     requires { ⌜ most ≤ tapeDecimals ⌝ }
-    requires { ⌜ (whole .value < numeralBound) × (fraction .value < numeralBound * 10 ^ tapeDecimals) ⌝ }
+    requires { ⌜ (whole .value < decimalBound) × (fraction .value < decimalBound * 10 ^ tapeDecimals) ⌝ }
     ensures { λ r. ⌜ r ≡ joinedOf whole fraction most ⌝ }
 {
     if !whole.ok {
-        return Numeral {
+        return NumberRead {
             ok: false,
             value: 0,
         };
     }
     if !fraction.ok {
-        return Numeral {
+        return NumberRead {
             ok: false,
             value: 0,
         };
     }
-    Numeral {
+    NumberRead {
         ok: true,
         value: whole.value * power_of_ten(most) + fraction.value,
     }
 }
 
 // A number of at most so many decimals, in units of the last of these.
-fn number_of(part: &[u8], most: usize) -> Numeral
+fn decimal_of(part: &[u8], most: usize) -> NumberRead
     requires { ⌜ most ≤ tapeDecimals ⌝ }
     ensures { λ r. ⌜ Reads most (now (part .entry)) r ⌝ }
 {
@@ -192,34 +193,15 @@ fn numbers_of(line: &[u8], f: LegFields) -> LegNumbers
     requires { ⌜ Fielded (now line) f ⌝ }
     ensures { λ r. ⌜ NumbersOf (words (now (line .entry))) r ⌝ }
 {
-    let tape = number_of(part(line, f.tape), TAPE_DECIMALS);
-    let compass = number_of(part(line, f.compass), COMPASS_DECIMALS);
-    let named = all_four(
-        name_at(line, f.from),
-        name_at(line, f.to),
-        tape.ok,
-        compass.ok,
-    );
+    let tape = decimal_of(part(line, f.tape), TAPE_DECIMALS);
+    let compass = decimal_of(part(line, f.compass), COMPASS_DECIMALS);
+    let numbers = both(tape.ok, compass.ok);
+    let others = both(name_at(line, f.to), numbers);
     LegNumbers {
-        ok: named,
+        ok: both(name_at(line, f.from), others),
         tape: tape.value,
         compass: compass.value,
     }
-}
-
-fn all_four(a: bool, b: bool, c: bool, d: bool) -> bool
-    ensures { λ r. ⌜ r ≡ a && (b && (c && d)) ⌝ }
-{
-    if !a {
-        return false;
-    }
-    if !b {
-        return false;
-    }
-    if !c {
-        return false;
-    }
-    d
 }
 
 // Whether a clino is the single digit 0.
@@ -235,13 +217,7 @@ fn is_level(part: &[u8]) -> bool
 fn is_in_range(tape: u64, compass: u64, flat: bool) -> bool
     ensures { λ r. ⌜ r ≡ leb tape mostTape && (leb compass compassTurn && flat) ⌝ }
 {
-    if MOST_TAPE < tape {
-        return false;
-    }
-    if COMPASS_TURN < compass {
-        return false;
-    }
-    flat
+    both(tape <= MOST_TAPE, both(compass <= COMPASS_TURN, flat))
 }
 
 // The nearest of the steps of a turn, halves up; a whole turn is 0.

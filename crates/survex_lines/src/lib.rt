@@ -120,7 +120,7 @@ pub fn line_at(text: &[u8], at: usize) -> Remaining
     }
 }
 
-// A reader over a lent Survex text: the text and a position in it (the form that document 01 names).
+// A reader over the caller's Survex text: the text and a position in it (the form that document 01 names).
 pub struct Reader<'a> {
     pub text: &'a [u8],
     pub at: usize,

@@ -9,7 +9,8 @@ use mathlib.Core.List.{List, [], _∷_, _++_, append-assoc, append-nil}
 use lib.Dec.{leb, ltb, eqb}
 use lib.ListN.{length, getD, length-append, List·getD-append}
 use borrow.Author.Tests.{lt-ltb, le-ltb, le-leb, leb-true, ltb-true, ne-eqb}
-use Rattle.text.specs.Fields.{all, digit, numeral, value, decimalBy, decimal}
+use Rattle.text.specs.Fields.{all, digit, digitString, value, decimalBy, decimal}
+use Rattle.text.proofs.Tests.{test, _and_, each}
 
 -- a number below 10 is one digit, whatever the fuel
 by-one : (fuel n : ℕ) → n < 10 → decimalBy fuel n ≡ (48 + n) ∷ []
@@ -124,25 +125,23 @@ value-decimal =
 both : {a b : Bool} → a ≡ true → b ≡ true → a && b ≡ true
 both {a} {b} p q = rw (p, q)
 
--- what a numeral is, part by part
-pub record NumeralParts (l : List ℕ) : Type 0 where
+-- what a digit string is, part by part
+pub record DigitStringParts (l : List ℕ) : Type 0 where
   pub one : 0 < length l
   pub ten : length l ≤ 10
   pub digits : all digit l ≡ true
   pub lead : eqb (length l) 1 || not (eqb (getD l 0 0) 48) ≡ true
 
-pub numeral-is : (l : List ℕ) → numeral l ≡ true → NumeralParts l
-unfolding numeral
-numeral-is l h =
-    let t = and-eq-true-iff (ltb 0 (length l) && leb (length l) 10 && all digit l)
-    (eqb (length l) 1 || not (eqb (getD l 0 0) 48)) .0 h in
-    let u = and-eq-true-iff (ltb 0 (length l) && leb (length l) 10) (all digit l) .0 (t .0) in
-    let v = and-eq-true-iff (ltb 0 (length l)) (leb (length l) 10) .0 (u .0) in
-    record { one = ltb-true _ _ (v .0); ten = leb-true _ _ (v .1); digits = u .1; lead = t .1 }
+pub digit-string-is : (l : List ℕ) → digitString l ≡ true → DigitStringParts l
+unfolding digitString
+digit-string-is l h =
+    let (((some, few), digits), lead) = each (test (ltb 0 (length l)) and test (leb (length l) 10) and test (all digit l) and
+    test (eqb (length l) 1 || not (eqb (getD l 0 0) 48))) h in
+    record { one = ltb-true _ _ some; ten = leb-true _ _ few; digits = digits; lead = lead }
 
-pub numeral-decimal : (n : ℕ) → n < 10 ^ 10 → numeral (decimal n) ≡ true
-unfolding numeral
-numeral-decimal n h =
+pub digit-string-decimal : (n : ℕ) → n < 10 ^ 10 → digitString (decimal n) ≡ true
+unfolding digitString
+digit-string-decimal n h =
     both (both (both (lt-ltb 0 _ (decimal-some n)) (le-leb _ 10 (decimal-length 9 n h))) (decimal-digits n)) (lead (decLt 0 n))
   where
     lead : Dec (0 < n) → eqb (length (decimal n)) 1 || not (eqb (getD (decimal n) 0 0) 48) ≡ true
@@ -178,11 +177,11 @@ zero-alone : (n : ℕ) → eqb (suc (suc n)) 1 || not (eqb 48 48) ≡ true → �
 zero-alone n z = false≢true (rw (ne-eqb (suc (suc n)) 1 (λ e. omega (arith, e))) at z)
 
 -- What is read is what would be printed.
-pub decimal-value : (l : List ℕ) → numeral l ≡ true → decimal (value 0 l) ≡ l
+pub decimal-value : (l : List ℕ) → digitString l ≡ true → decimal (value 0 l) ≡ l
 unfolding all value
-decimal-value [] h = let n = numeral-is [] h in absurd (omega (arith, n .one))
+decimal-value [] h = let n = digit-string-is [] h in absurd (omega (arith, n .one))
 decimal-value (x ∷ xs) h =
-    let n = numeral-is (x ∷ xs) h in
+    let n = digit-string-is (x ∷ xs) h in
     let v = and-eq-true-iff (digit x) (all digit xs) .0 (n .digits) in
     let r = digit-range x (v .0) in
     first xs (v .1) (n .lead) (r .0) (r .1) (decLt 48 x)
@@ -206,9 +205,9 @@ value-below n (x ∷ xs) h =
     (omega arith) in
     rw (pow-succ' 10 (length xs)) (omega arith)
 
-pub numeral-below : (l : List ℕ) → numeral l ≡ true → value 0 l < 10 ^ 10
-numeral-below l h =
-    let n = numeral-is l h in
+pub digit-string-below : (l : List ℕ) → digitString l ≡ true → value 0 l < 10 ^ 10
+digit-string-below l h =
+    let n = digit-string-is l h in
     let b = value-below 0 l (n .digits) in
     let p : 10 ^ length l ≤ 10 ^ 10 = pow-le-pow-right (omega arith) (n .ten) in
     omega arith

@@ -5,6 +5,7 @@ pub mod Forms
 pub mod Plain
 pub mod Steps
 pub mod Readings
-pub mod Writing
 pub mod SameBytes
+pub mod Tests
+pub mod TypedFields
 pub mod Theorems

@@ -1,4 +1,4 @@
--- Names and numerals are fields: they hold no separator.
+-- Names and digit strings are fields: they hold no separator.
 use Prim.Native.Nat.{ℕ, _≤_}
 use native.Mathlib.Omega.{arith}
 use mathlib.Core.Path.{_≡_, refl, _∙_}
@@ -11,6 +11,7 @@ use Rattle.text.specs.Fields.{all, digit, letter, letterOrDigit, name, d
 use Rattle.text.specs.Scan.{oneOf, separator, lineFeed, lines}
 use Rattle.text.specs.Forms.{printForm, marks, isEmpty}
 use Rattle.text.specs.Theorems.{plain, allPlain, noFeed}
+use Rattle.text.proofs.Tests.{test, _and_, each}
 use Rattle.text.proofs.Scan.{all-weaker}
 use Rattle.text.proofs.Decimal.{decimal-digits, digit-range}
 use Rattle.text.proofs.Forms.{print-mark, print-byte, marks-mark, marks-byte}
@@ -43,15 +44,12 @@ letter-above x h = first (leb 65 x) refl (leb 97 x) refl h
 pub name-plain : (v : List ℕ) → name v ≡ true → plain v ≡ true
 unfolding plain name
 name-plain v h =
-    let t = and-eq-true-iff (ltb 0 (length v) && leb (length v) 12) (all letterOrDigit v) .0 h in
-    all-weaker letterOrDigit (λ b. not (separator b)) (λ x t. above x (letter-above x t)) v (t .1)
+    all-weaker letterOrDigit (λ b. not (separator b)) (λ x t. above x (letter-above x t)) v
+    (each (test (ltb 0 (length v)) and test (leb (length v) 12) and test (all letterOrDigit v)) h .1)
 
 pub name-length : (l : List ℕ) → name l ≡ true → length l ≤ 12
 unfolding name
-name-length l h =
-    let t = and-eq-true-iff (ltb 0 (length l) && leb (length l) 12) (all letterOrDigit l) .0 h in
-    let u = and-eq-true-iff (ltb 0 (length l)) (leb (length l) 12) .0 (t .0) in
-    leb-true (length l) 12 (u .1)
+name-length l h = leb-true (length l) 12 (each (test (ltb 0 (length l)) and test (leb (length l) 12) and test (all letterOrDigit l)) h .0 .1)
 
 pub decimal-plain : (n : ℕ) → plain (decimal n) ≡ true
 unfolding plain

@@ -11,7 +11,7 @@ use lib.ListN.{length, getD, take, drop, length-append, drop-of-length-le}
 use lib.Seq.{drop-cons, take-append-seam}
 use native.Mathlib.Decide.{decLt}
 use borrow.Author.Tests.{lt-leb, le-leb, eq-eqb, ne-eqb, lt-ltb, le-ltb}
-use Rattle.text.specs.Fields.{all, value, digit, numeral}
+use Rattle.text.specs.Fields.{all, value, digit, digitString}
 use Rattle.text.specs.Scan.{oneOf, upTo}
 
 pub ahead : (l : List ℕ) (i : ℕ) → i < length l → drop i l ≡ getD l i 0 ∷ drop (i + 1) l
@@ -106,24 +106,24 @@ pub part-none : (b : Bool) (n : ℕ) (l : List ℕ) → n ≡ 0 → [] ≡ cond 
 part-none true n l e = rw e
 part-none false n l e = refl
 
--- why a field is no numeral, or when its digits decide
+-- why a field is no digit string, or when its digits decide
 module _ (l : List ℕ) where
-  pub numeral-short : length l < 1 → false ≡ numeral l
-  unfolding numeral
-  numeral-short h = rw (le-ltb 0 (length l) (omega arith))
+  pub digit-string-short : length l < 1 → false ≡ digitString l
+  unfolding digitString
+  digit-string-short h = rw (le-ltb 0 (length l) (omega arith))
 
-  pub numeral-long : 10 < length l → false ≡ numeral l
-  unfolding numeral
-  numeral-long h = rw (lt-leb (length l) 10 h, and-false (ltb 0 (length l)))
+  pub digit-string-long : 10 < length l → false ≡ digitString l
+  unfolding digitString
+  digit-string-long h = rw (lt-leb (length l) 10 h, and-false (ltb 0 (length l)))
 
-  pub numeral-zero : 1 < length l → getD l 0 0 ≡ 48 → false ≡ numeral l
-  unfolding numeral
-  numeral-zero h e = rw (ne-eqb (length l) 1 (λ t. omega (arith, t)), e)
+  pub digit-string-zero : 1 < length l → getD l 0 0 ≡ 48 → false ≡ digitString l
+  unfolding digitString
+  digit-string-zero h e = rw (ne-eqb (length l) 1 (λ t. omega (arith, t)), e)
       (sym (and-false (ltb 0 (length l) && leb (length l) 10 && all digit l)))
 
-  pub numeral-digits : 0 < length l → length l ≤ 10 → (1 < length l → getD l 0 0 ≡ 48 → ⊥) → all digit l ≡ numeral l
-  unfolding numeral
-  numeral-digits h k z = rw (lt-ltb 0 (length l) h, le-leb (length l) 10 k) (lead (decLt 1 (length l)))
+  pub digit-string-digits : 0 < length l → length l ≤ 10 → (1 < length l → getD l 0 0 ≡ 48 → ⊥) → all digit l ≡ digitString l
+  unfolding digitString
+  digit-string-digits h k z = rw (lt-ltb 0 (length l) h, le-leb (length l) 10 k) (lead (decLt 1 (length l)))
     where
       lead : Dec (1 < length l) → all digit l ≡ all digit l && (eqb (length l) 1 || not (eqb (getD l 0 0) 48))
       lead (yes p) = rw (ne-eqb (getD l 0 0) 48 (z p), or-true (eqb (length l) 1), and-true)

@@ -1,12 +1,12 @@
 -- The theorems of specs/Theorems.antt.
 use Rattle.text.specs.Theorems.{Theorems}
-use Rattle.text.proofs.Decimal.{numeral-decimal, value-decimal, decimal-value, decimal-head}
+use Rattle.text.proofs.Decimal.{digit-string-decimal, value-decimal, decimal-value, decimal-head}
 use Rattle.text.proofs.Forms.{read-printed, printed-read}
 use Rattle.text.proofs.Split.{line-first, line-last, join-lines}
 
 pub theorems : Theorems
 theorems = record {
-  numbers = λ n h. (numeral-decimal n h, value-decimal n);
+  numbers = λ n h. (digit-string-decimal n h, value-decimal n);
   digits = decimal-value;
   no-leading-zero = decimal-head;
   read-printed = read-printed;

@@ -1,14 +1,14 @@
--- Names and numerals (document 01, "A job and its listing"): their printers and their readers, over lists of bytes.
+-- Names and digit strings (document 01, "A job and its listing"): their printers and their readers, over lists of bytes.
 use Prim.Native.Nat.{ℕ, zero, suc, _+_, _-_, _*_, _/_, _%_}
 use mathlib.Core.Path.{_≡_}
 use mathlib.Core.Bool.{Bool, true, false, cond, not, _&&_, _||_}
 use mathlib.Core.List.{List, [], _∷_, _++_}
 use lib.Dec.{leb, ltb, eqb}
 use lib.ListN.{length, getD, take, drop}
-use Rattle.text.specs.Limits.{nameLength, numeralLength}
+use Rattle.text.specs.Limits.{nameLength, mostDigits}
 use Rattle.text.specs.Ascii.{byte}
 use Rattle.text.specs.declared.field.Place.{Place}
-use Rattle.text.specs.declared.field.Numeral.{Numeral}
+use Rattle.text.specs.declared.field.NumberRead.{NumberRead}
 use Rattle.text.specs.declared.field.Three.{Three}
 
 -- the bytes of the list all pass the test
@@ -34,13 +34,13 @@ unfoldable pub name : List ℕ → Bool
 name l = ltb 0 (length l) && leb (length l) nameLength && all letterOrDigit l
 
 -- "Numbers are 1 to 10 digits, with no leading zero except 0 itself"
-unfoldable pub numeral : List ℕ → Bool
-numeral l =
-    ltb 0 (length l) && leb (length l) numeralLength && all digit l && (eqb (length l) 1 || not (eqb (getD l 0 0) (byte "0")))
+unfoldable pub digitString : List ℕ → Bool
+digitString l =
+    ltb 0 (length l) && leb (length l) mostDigits && all digit l && (eqb (length l) 1 || not (eqb (getD l 0 0) (byte "0")))
 
--- digits alone, as many as a numeral may have
+-- digits alone, as many as a digit string may have
 unfoldable pub fewDigits : List ℕ → Bool
-fewDigits l = leb (length l) numeralLength && all digit l
+fewDigits l = leb (length l) mostDigits && all digit l
 
 -- the number that digits spell after those of n
 unfoldable pub value : ℕ → List ℕ → ℕ
@@ -61,16 +61,16 @@ unfoldable pub partOf : List ℕ → Place → List ℕ
 partOf line p = cond (leb (p .to) (length line)) (take (p .to - p .from) (drop (p .from) line)) []
 
 -- ok as the test says, and then the number that the digits spell
-pub record Spells (test : Bool) (digits : List ℕ) (r : Numeral) : Type 0 where
+pub record Spells (test : Bool) (digits : List ℕ) (r : NumberRead) : Type 0 where
   pub ok : r .ok ≡ test
   pub value : r .value ≡ cond test (value 0 digits) 0
 
--- three fields: ok where all are numerals, and what each spells
+-- three fields: ok where all are digit strings, and what each spells
 pub record SpellThree (x y z : List ℕ) (r : Three) : Type 0 where
-  pub ok : r .ok ≡ numeral x && numeral y && numeral z
-  pub first : r .first ≡ cond (numeral x) (value 0 x) 0
-  pub second : r .second ≡ cond (numeral y) (value 0 y) 0
-  pub third : r .third ≡ cond (numeral z) (value 0 z) 0
+  pub ok : r .ok ≡ digitString x && digitString y && digitString z
+  pub first : r .first ≡ cond (digitString x) (value 0 x) 0
+  pub second : r .second ≡ cond (digitString y) (value 0 y) 0
+  pub third : r .third ≡ cond (digitString z) (value 0 z) 0
 
 -- two names are the same bytes
 unfoldable pub same : List ℕ → List ℕ → Bool

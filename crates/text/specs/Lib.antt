@@ -3,6 +3,5 @@ pub mod Ascii
 pub mod Scan
 pub mod Fields
 pub mod Forms
-pub mod Buffer
 pub mod Theorems
 pub mod Private

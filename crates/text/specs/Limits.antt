@@ -6,13 +6,13 @@ abbrev pub nameLength : ℕ
 nameLength = 12
 
 -- "Numbers are 1 to 10 digits"
-abbrev pub numeralLength : ℕ
-numeralLength = 10
+abbrev pub mostDigits : ℕ
+mostDigits = 10
 
 -- the fields of a form that is read
 abbrev pub formFields : ℕ
 formFields = 6
 
--- numbers below this have a numeral
-abbrev pub numeralBound : ℕ
-numeralBound = 10 ^ numeralLength
+-- numbers below this have a digit string
+abbrev pub decimalBound : ℕ
+decimalBound = 10 ^ mostDigits

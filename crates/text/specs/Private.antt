@@ -1,16 +1,13 @@
--- What the private functions return.
-use Prim.Native.Nat.{ℕ, _+_, _≤_}
-use mathlib.Core.Path.{_≡_}
+-- For private functions; no public contract cites these.
+use Prim.Native.Nat.{ℕ, _+_}
 use mathlib.Core.Bool.{true, false, cond}
 use mathlib.Core.List.{List}
 use lib.Dec.{leb, eqb}
 use lib.ListN.{length, getD, drop, set}
 use Rattle.text.specs.Limits.{formFields}
 use Rattle.text.specs.Scan.{field}
-use Rattle.text.specs.Fields.{decimal}
 use Rattle.text.specs.Forms.{mark}
 use Rattle.text.specs.declared.form.Found.{Found}
-use Rattle.text.specs.declared.buffer.Digits.{Digits}
 
 -- one byte of a form: # takes the next field, any other byte is the line's next
 unfoldable pub formStep : ℕ → List ℕ → Found → Found
@@ -22,9 +19,3 @@ formStep f line c =
     (record { ok = true; at = end; count = c .count + 1; places = set (c .places) (c .count) (record { from = c .at; to = end }) }))
     (cond (leb (length line) (c .at)) none
     (record { ok = eqb (getD line (c .at) 0) f; at = c .at + 1; count = c .count; places = c .places }))
-
--- the digits of n, from an index of twenty bytes on
-pub record SpelledIn (n : ℕ) (r : Digits) : Type 0 where
-  pub digits : drop (r .from) (r .bytes) ≡ decimal n
-  pub most : r .from ≤ 20
-  pub size : length (r .bytes) ≡ 20

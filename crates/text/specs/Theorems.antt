@@ -5,10 +5,10 @@ use mathlib.Core.Bool.{Bool, true, false, cond, not, _&&_}
 use mathlib.Core.List.{List, [], _∷_, _++_}
 use mathlib.Core.Option.{some}
 use lib.ListN.{length, getD}
-use Rattle.text.specs.Limits.{numeralBound}
+use Rattle.text.specs.Limits.{decimalBound}
 use Rattle.text.specs.Ascii.{byte}
 use Rattle.text.specs.Scan.{separator, lineFeed, lines}
-use Rattle.text.specs.Fields.{all, numeral, value, decimal}
+use Rattle.text.specs.Fields.{all, digitString, value, decimal}
 use Rattle.text.specs.Forms.{mark, marks, printForm, readForm}
 
 -- a field that holds no separator
@@ -38,9 +38,9 @@ join [] = []
 join (l ∷ ls) = l ++ join ls
 
 pub record Theorems : Type 0 where
-  -- "no leading zero except 0 itself": what is printed is a numeral and is read as itself, and what is read is what is printed
-  pub numbers : (n : ℕ) → n < numeralBound → (numeral (decimal n) ≡ true) × (value 0 (decimal n) ≡ n)
-  pub digits : (l : List ℕ) → numeral l ≡ true → decimal (value 0 l) ≡ l
+  -- "no leading zero except 0 itself": what is printed is a digit string and is read as itself, and what is read is what is printed
+  pub numbers : (n : ℕ) → n < decimalBound → (digitString (decimal n) ≡ true) × (value 0 (decimal n) ≡ n)
+  pub digits : (l : List ℕ) → digitString l ≡ true → decimal (value 0 l) ≡ l
   pub no-leading-zero : (n : ℕ) → 0 < n → byte "0" < getD (decimal n) 0 0
   -- a form that is printed is read as its fields, and a line that is read is the one that is printed
   pub read-printed : (form : List ℕ) (vs : List (List ℕ)) → formed form ≡ true → allPlain vs ≡ true → length vs ≡ marks form

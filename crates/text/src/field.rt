@@ -1,12 +1,12 @@
-// The fields of a line: names and numerals. Each reader takes the field as a part of the lent text.
+// The fields of a line: names and digit strings. Each reader takes the field as a part of the caller's text.
+use crate::limits::MOST_DIGITS;
 use crate::limits::NAME_LENGTH;
-use crate::limits::NUMERAL_LENGTH;
 ghost use Prim.Native.Nat.{_≤_};
 ghost use mathlib.Core.Path.{_≡_};
 ghost use mathlib.Core.Bool.{_&&_};
 ghost use lib.ListN.{length};
-ghost use Rattle.text.specs.Limits.{numeralLength};
-ghost use Rattle.text.specs.Fields.{within, all, digit, letterOrDigit, name, same, numeral, fewDigits, partOf, Spells, SpellThree};
+ghost use Rattle.text.specs.Limits.{mostDigits};
+ghost use Rattle.text.specs.Fields.{within, all, digit, letterOrDigit, name, same, digitString, fewDigits, partOf, Spells, SpellThree};
 
 // Where a field stands in its line.
 pub struct Place {
@@ -14,13 +14,13 @@ pub struct Place {
     pub to: usize,
 }
 
-// What stands in a field: ok where it is a numeral, and then its value.
-pub struct Numeral {
+// A number read from a field: ok where the field has the form asked for, and then its value.
+pub struct NumberRead {
     pub ok: bool,
     pub value: u64,
 }
 
-// What stands in three fields: ok where all three are numerals, and the value of each.
+// What stands in three fields: ok where all three are digit strings, and the value of each.
 pub struct Three {
     pub ok: bool,
     pub first: u64,
@@ -98,8 +98,8 @@ pub fn name_at(line: &[u8], place: Place) -> bool
 }
 
 // The number that so few digits spell.
-fn spelled(part: &[u8]) -> Numeral
-    requires { ⌜ length (now part) ≤ numeralLength ⌝ }
+fn spelled(part: &[u8]) -> NumberRead
+    requires { ⌜ length (now part) ≤ mostDigits ⌝ }
     ensures { λ r. ⌜ Spells (all digit (now (part .entry))) (now (part .entry)) r ⌝ }
 {
     let mut value: u64 = 0;
@@ -107,7 +107,7 @@ fn spelled(part: &[u8]) -> Numeral
     while i < part.len() {
         let b = part[i];
         if !is_within(b'0', b'9', b) {
-            return Numeral {
+            return NumberRead {
                 ok: false,
                 value: 0,
             };
@@ -115,22 +115,22 @@ fn spelled(part: &[u8]) -> Numeral
         value = value * 10 + (b - b'0') as u64;
         i += 1;
     }
-    Numeral { ok: true, value }
+    NumberRead { ok: true, value }
 }
 
-// The numeral in a field: digits with no leading zero except 0 itself.
-pub fn numeral_of(part: &[u8]) -> Numeral
-    ensures { λ r. ⌜ Spells (numeral (now (part .entry))) (now (part .entry)) r ⌝ }
+// The digit string in a field: digits with no leading zero except 0 itself.
+pub fn digit_string_of(part: &[u8]) -> NumberRead
+    ensures { λ r. ⌜ Spells (digitString (now (part .entry))) (now (part .entry)) r ⌝ }
 {
     let n = part.len();
     if n < 1 {
-        return Numeral {
+        return NumberRead {
             ok: false,
             value: 0,
         };
     }
-    if NUMERAL_LENGTH < n {
-        return Numeral {
+    if MOST_DIGITS < n {
+        return NumberRead {
             ok: false,
             value: 0,
         };
@@ -139,7 +139,7 @@ pub fn numeral_of(part: &[u8]) -> Numeral
         return spelled(part);
     }
     if part[0] == b'0' {
-        return Numeral {
+        return NumberRead {
             ok: false,
             value: 0,
         };
@@ -147,12 +147,12 @@ pub fn numeral_of(part: &[u8]) -> Numeral
     spelled(part)
 }
 
-// The number that a field of digits spells, as many digits as a numeral may have; zeros may lead.
-pub fn digits_value(part: &[u8]) -> Numeral
+// The number that a field of digits spells, as many digits as a digit string may have; zeros may lead.
+pub fn digits_value(part: &[u8]) -> NumberRead
     ensures { λ r. ⌜ Spells (fewDigits (now (part .entry))) (now (part .entry)) r ⌝ }
 {
-    if NUMERAL_LENGTH < part.len() {
-        return Numeral {
+    if MOST_DIGITS < part.len() {
+        return NumberRead {
             ok: false,
             value: 0,
         };
@@ -160,14 +160,15 @@ pub fn digits_value(part: &[u8]) -> Numeral
     spelled(part)
 }
 
-// The numeral at a place.
-pub fn numeral_at(line: &[u8], place: Place) -> Numeral
-    ensures { λ r. ⌜ Spells (numeral (partOf (now (line .entry)) place)) (partOf (now (line .entry)) place) r ⌝ }
+// The digit string at a place.
+pub fn digit_string_at(line: &[u8], place: Place) -> NumberRead
+    ensures { λ r. ⌜ Spells (digitString (partOf (now (line .entry)) place)) (partOf (now (line .entry)) place) r ⌝ }
 {
-    numeral_of(part(line, place))
+    digit_string_of(part(line, place))
 }
 
-fn both(a: bool, b: bool) -> bool
+// Whether both hold.
+pub fn both(a: bool, b: bool) -> bool
     ensures { λ r. ⌜ r ≡ a && b ⌝ }
 {
     if a {
@@ -176,13 +177,13 @@ fn both(a: bool, b: bool) -> bool
     false
 }
 
-// The numerals at three places.
+// The digit strings at three places.
 pub fn three_at(line: &[u8], first: Place, second: Place, third: Place) -> Three
     ensures { λ r. ⌜ SpellThree (partOf (now (line .entry)) first) (partOf (now (line .entry)) second) (partOf (now (line .entry)) third) r ⌝ }
 {
-    let x = numeral_at(line, first);
-    let y = numeral_at(line, second);
-    let z = numeral_at(line, third);
+    let x = digit_string_at(line, first);
+    let y = digit_string_at(line, second);
+    let z = digit_string_at(line, third);
     Three {
         ok: both(both(x.ok, y.ok), z.ok),
         first: x.value,

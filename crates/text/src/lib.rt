@@ -1,5 +1,4 @@
-// Text: names, numerals, forms and lines in lent bytes, and bytes written into a lent buffer.
-pub mod buffer;
+// Names, digit strings, forms and lines, read in the caller's bytes.
 pub mod field;
 pub mod form;
 pub mod limits;

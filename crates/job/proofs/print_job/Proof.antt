@@ -1,7 +1,7 @@
 -- `print_job` leaves the listing that `list` wrote, or writes the one line of a refused job.
 use native.Mathlib.Omega.{arith}
 use lib.ListN.{length}
-use Rattle.text.proofs.Writing.{puts-within}
+use Rattle.buffer.proofs.Writing.{puts-within}
 use mathlib.Core.Path.{sym, ap, _∙_}
 use Rattle.job.specs.Job.{jobOf, outputOf}
 use Rattle.job.specs.declared.JobAnswer.{JobAnswer}

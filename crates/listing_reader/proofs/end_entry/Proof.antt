@@ -6,20 +6,20 @@ use Rattle.listing_reader.proofs.Reading.{end-at}
 use Rattle.listing_reader.proofs.end_entry.Statement.{statement}
 use Rattle.listing_reader.proofs.end_entry.Tie as tie
 
-array-copy-out-numeral-at : tie.Need-array-copy-out-numeral-at
-array-copy-out-numeral-at c = omega arith
+array-copy-out-digit-string-at : tie.Need-array-copy-out-digit-string-at
+array-copy-out-digit-string-at c = omega arith
 
-numeral-at-requires : tie.Need-numeral-at-requires
-numeral-at-requires c κs = tt
+digit-string-at-requires : tie.Need-digit-string-at-requires
+digit-string-at-requires c κs = tt
 
 returns : tie.Need-returns
-returns c = rw (end-at, test-false (c .before .before .numeral-at .ensures) (not-true _ (c .if1 .taken)))
+returns c = rw (end-at, test-false (c .before .before .digit-string-at .ensures) (not-true _ (c .if1 .taken)))
 
 returns-2 : tie.Need-returns-2
 returns-2 c =
-    let count = c .before .before .numeral-at .ensures in
+    let count = c .before .before .digit-string-at .ensures in
     let t = not-false _ (c .if1 .left) in
     rw (end-at, test-true count t, spelled-value count t)
 
 pub end-entry-spec : {M : Type 1} → statement M
-end-entry-spec = tie.close (tie.spec array-copy-out-numeral-at numeral-at-requires returns returns-2)
+end-entry-spec = tie.close (tie.spec array-copy-out-digit-string-at digit-string-at-requires returns returns-2)

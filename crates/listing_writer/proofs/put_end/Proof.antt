@@ -3,7 +3,7 @@ use mathlib.Core.Path.{_∙_, refl}
 use mathlib.Core.List.{[], _∷_, _++_}
 use Rattle.text.specs.Ascii.{ascii}
 use Rattle.text.specs.Fields.{decimal}
-use Rattle.text.proofs.Writing.{then-puts}
+use Rattle.buffer.proofs.Writing.{then-puts}
 use Rattle.listing_writer.proofs.Rows.{end-parts}
 use Rattle.listing_writer.proofs.put_end.Statement.{statement}
 use Rattle.listing_writer.proofs.put_end.Tie as tie
@@ -14,18 +14,18 @@ slice-aggregate-put-field c = refl
 put-field-requires : tie.Need-put-field-requires
 put-field-requires c κs = tt
 
-put-numeral-requires : tie.Need-put-numeral-requires
-put-numeral-requires c κs = tt
+put-decimal-requires : tie.Need-put-decimal-requires
+put-decimal-requires c κs = tt
 
 same-length : tie.Need-same-length
-same-length c = c .before .before .put-numeral .kept .0 ∙ c .before .before .before .before .before .before .put-field .kept .0
+same-length c = c .before .before .put-decimal .kept .0 ∙ c .before .before .before .before .before .before .put-field .kept .0
 
 returns : tie.Need-returns
 returns c =
     let at = c .before .before .before .before .before .before .before .before .before .before in
     rw (← end-parts (at .args .count))
     (then-puts (at .args .out .now) (at .args .at) (ascii "END" ++ (32 ∷ [])) (decimal (at .args .count) ++ (10 ∷ []))
-    (c .before .before .before .before .before .before .put-field .ensures) (c .before .before .put-numeral .ensures))
+    (c .before .before .before .before .before .before .put-field .ensures) (c .before .before .put-decimal .ensures))
 
 pub put-end-spec : {M : Type 1} → statement M
 put-end-spec =
@@ -33,6 +33,6 @@ put-end-spec =
     (tie.spec
     slice-aggregate-put-field
     put-field-requires
-    put-numeral-requires
+    put-decimal-requires
     same-length
     returns)

@@ -2,7 +2,7 @@
 use mathlib.Core.List.{[], _∷_, _++_}
 use Rattle.text.specs.Ascii.{ascii}
 use Rattle.text.specs.Fields.{decimal}
-use Rattle.text.proofs.Writing.{then-puts}
+use Rattle.buffer.proofs.Writing.{then-puts}
 use Rattle.listing_writer.proofs.Rows.{refused-parts}
 use borrow.Author.Needs.{needs}
 use Rattle.listing_writer.proofs.put_refused.Statement.{statement}
@@ -14,11 +14,11 @@ slice-aggregate-put-field c = search needs
 put-field-requires : tie.Need-put-field-requires
 put-field-requires c κs = search needs
 
-put-numeral-requires : tie.Need-put-numeral-requires
-put-numeral-requires c κs = search needs
+put-decimal-requires : tie.Need-put-decimal-requires
+put-decimal-requires c κs = search needs
 
-put-numeral-requires-2 : tie.Need-put-numeral-requires-2
-put-numeral-requires-2 c κs = search needs
+put-decimal-requires-2 : tie.Need-put-decimal-requires-2
+put-decimal-requires-2 c κs = search needs
 
 same-length : tie.Need-same-length
 same-length c = search needs
@@ -30,10 +30,10 @@ returns c =
     let line = start .args .line in
     let first = c .before .before .before .before .before .before .before .before .before .before .put-field .ensures in
     let second = then-puts (start .args .out .now) 0 (ascii "REFUSED" ++ (32 ∷ [])) (decimal code ++ (32 ∷ [])) first
-    (c .before .before .before .before .before .before .put-numeral .ensures) in
+    (c .before .before .before .before .before .before .put-decimal .ensures) in
     rw (← refused-parts code line)
     (then-puts (start .args .out .now) 0 ((ascii "REFUSED" ++ (32 ∷ [])) ++ (decimal code ++ (32 ∷ []))) (decimal line ++ (10 ∷ []))
-    second (c .before .before .put-numeral2 .ensures))
+    second (c .before .before .put-decimal2 .ensures))
 
 pub put-refused-spec : {M : Type 1} → statement M
 put-refused-spec =
@@ -41,7 +41,7 @@ put-refused-spec =
     (tie.spec
     slice-aggregate-put-field
     put-field-requires
-    put-numeral-requires
-    put-numeral-requires-2
+    put-decimal-requires
+    put-decimal-requires-2
     same-length
     returns)

@@ -2,7 +2,7 @@
 use mathlib.Core.Path.{_∙_}
 use mathlib.Core.List.{[], _∷_, _++_}
 use Rattle.text.specs.Fields.{decimal}
-use Rattle.text.proofs.Writing.{then-puts}
+use Rattle.buffer.proofs.Writing.{then-puts}
 use Rattle.listing_writer.proofs.Rows.{row-parts}
 use Rattle.listing_writer.proofs.put_shot.Statement.{statement}
 use Rattle.listing_writer.proofs.put_shot.Tie as tie
@@ -13,14 +13,14 @@ put-field-requires c κs = tt
 put-field-requires-2 : tie.Need-put-field-requires-2
 put-field-requires-2 c κs = tt
 
-put-numeral-requires : tie.Need-put-numeral-requires
-put-numeral-requires c κs = tt
+put-decimal-requires : tie.Need-put-decimal-requires
+put-decimal-requires c κs = tt
 
-put-numeral-requires-2 : tie.Need-put-numeral-requires-2
-put-numeral-requires-2 c κs = tt
+put-decimal-requires-2 : tie.Need-put-decimal-requires-2
+put-decimal-requires-2 c κs = tt
 
 same-length : tie.Need-same-length
-same-length c = c .before .before .put-numeral2 .kept .0 ∙ c .before .before .before .before .before .before .put-numeral .kept .0 ∙ c .before .before .before .before .before .before .before .before .before .before .put-field2 .kept .0 ∙ c .before .before .before .before .before .before .before .before .before .before .before .before .before .before .put-field .kept .0
+same-length c = c .before .before .put-decimal2 .kept .0 ∙ c .before .before .before .before .before .before .put-decimal .kept .0 ∙ c .before .before .before .before .before .before .before .before .before .before .put-field2 .kept .0 ∙ c .before .before .before .before .before .before .before .before .before .before .before .before .before .before .put-field .kept .0
 
 returns : tie.Need-returns
 returns c =
@@ -34,8 +34,8 @@ returns c =
     (then-puts out (at .args .at) (f ++ t ++ m) s
     (then-puts out (at .args .at) (f ++ t) m
     (then-puts out (at .args .at) f t (c .before .before .before .before .before .before .before .before .before .before .before .before .before .before .put-field .ensures) (c .before .before .before .before .before .before .before .before .before .before .put-field2 .ensures))
-    (c .before .before .before .before .before .before .put-numeral .ensures))
-    (c .before .before .put-numeral2 .ensures))
+    (c .before .before .before .before .before .before .put-decimal .ensures))
+    (c .before .before .put-decimal2 .ensures))
 
 pub put-shot-spec : {M : Type 1} → statement M
 put-shot-spec =
@@ -43,7 +43,7 @@ put-shot-spec =
     (tie.spec
     put-field-requires
     put-field-requires-2
-    put-numeral-requires
-    put-numeral-requires-2
+    put-decimal-requires
+    put-decimal-requires-2
     same-length
     returns)

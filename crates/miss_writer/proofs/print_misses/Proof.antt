@@ -1,8 +1,8 @@
 -- `print_misses` writes what the kind of the listing asks for.
 use native.Mathlib.Omega.{arith}
 use mathlib.Core.Path.{sym, _∙_}
-use Rattle.text.specs.Buffer.{Puts}
-use Rattle.text.proofs.Writing.{puts-within}
+use Rattle.buffer.specs.Buffer.{Puts}
+use Rattle.buffer.proofs.Writing.{puts-within}
 use Rattle.miss_writer.specs.Output.{outputOf}
 use Rattle.miss_writer.proofs.Printed.{output-between, output-single}
 use borrow.Author.Needs.{needs}

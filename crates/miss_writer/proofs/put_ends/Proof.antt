@@ -3,7 +3,7 @@ use mathlib.Core.List.{[], _∷_, _++_}
 use mir.Syntax.{w64}
 use mir.Val.{SFits}
 use mir.Facts.{toZ-ofZ}
-use Rattle.text.proofs.Writing.{then-puts}
+use Rattle.buffer.proofs.Writing.{then-puts}
 use Rattle.miss_writer.specs.Output.{signedDecimal}
 use Rattle.miss_writer.proofs.Printed.{ends-parts}
 use borrow.Author.Needs.{needs}

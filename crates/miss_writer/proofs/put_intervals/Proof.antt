@@ -1,6 +1,6 @@
 -- `put_intervals` writes `intervalRows`, row by row.
 use Rattle.text.specs.Ascii.{ascii}
-use Rattle.text.proofs.Writing.{then-puts}
+use Rattle.buffer.proofs.Writing.{then-puts}
 use Rattle.miss_writer.specs.Output.{endsRow, intervalRows}
 use borrow.Author.Needs.{needs}
 use Rattle.miss_writer.proofs.put_intervals.Statement.{statement}

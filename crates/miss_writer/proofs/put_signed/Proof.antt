@@ -5,7 +5,7 @@ use mathlib.Core.List.{[], _∷_, _++_}
 use borrow.Author.Needs.{needs}
 use Rattle.text.specs.Ascii.{ascii}
 use Rattle.text.specs.Fields.{decimal}
-use Rattle.text.proofs.Writing.{then-puts}
+use Rattle.buffer.proofs.Writing.{then-puts}
 use Rattle.miss_writer.proofs.SignedDecimal.{below, above}
 use Rattle.miss_writer.proofs.put_signed.Statement.{statement}
 use Rattle.miss_writer.proofs.put_signed.Tie as tie
@@ -22,18 +22,18 @@ add-below c = below _ (c .before .before .before .before .before .before .before
 sub-size : tie.Need-sub-size
 sub-size c = below _ (c .before .before .before .before .before .before .before .fits .n) (c .before .before .before .before .before .if1 .taken) .size-fits
 
-cast-put-numeral : tie.Need-cast-put-numeral
-cast-put-numeral c =
+cast-put-decimal : tie.Need-cast-put-decimal
+cast-put-decimal c =
     let s = below _ (c .before .before .before .before .before .before .before .before .fits .n) (c .before .before .before .before .before .before .if1 .taken) in
     rw (s .size) (tt, omega (arith, s .few))
 
-add-put-numeral : tie.Need-add-put-numeral
-add-put-numeral c =
+add-put-decimal : tie.Need-add-put-decimal
+add-put-decimal c =
     let s = below _ (c .before .before .before .before .before .before .before .before .fits .n) (c .before .before .before .before .before .before .if1 .taken) in
     rw (s .size) (omega (arith, s .few))
 
-put-numeral-requires : tie.Need-put-numeral-requires
-put-numeral-requires c κs = tt
+put-decimal-requires : tie.Need-put-decimal-requires
+put-decimal-requires c κs = tt
 
 same-length : tie.Need-same-length
 same-length c = search needs
@@ -42,17 +42,17 @@ returns : tie.Need-returns
 returns c =
     let start = c .before .before .before .before .before .before .before .before .before .before .before in
     let s = below (start .args .n) (start .fits .n) (c .before .before .before .before .before .before .before .before .before .if1 .taken) in
-    let digits = rw (s .size) at (c .before .before .put-numeral .ensures) in
+    let digits = rw (s .size) at (c .before .before .put-decimal .ensures) in
     rw (s .digits)
     (then-puts (start .args .out .now) (start .args .at) (ascii "-") (decimal (s .value + 1) ++ (start .args .end ∷ [])) (c .before .before .before .before .before .before .put .ensures) digits)
 
-cast-put-numeral-2 : tie.Need-cast-put-numeral-2
-cast-put-numeral-2 c =
+cast-put-decimal-2 : tie.Need-cast-put-decimal-2
+cast-put-decimal-2 c =
     let s = above _ (c .before .before .before .fits .n) (c .before .if1 .left) in
     rw (s .size) (tt, omega (arith, s .few))
 
-put-numeral-requires-2 : tie.Need-put-numeral-requires-2
-put-numeral-requires-2 c κs = tt
+put-decimal-requires-2 : tie.Need-put-decimal-requires-2
+put-decimal-requires-2 c κs = tt
 
 same-length-2 : tie.Need-same-length-2
 same-length-2 c = search needs
@@ -61,7 +61,7 @@ returns-2 : tie.Need-returns-2
 returns-2 c =
     let start = c .before .before .before .before .before .before in
     let s = above (start .args .n) (start .fits .n) (c .before .before .before .before .if1 .left) in
-    rw (s .digits) (rw (s .size) at (c .before .before .put-numeral2 .ensures))
+    rw (s .digits) (rw (s .size) at (c .before .before .put-decimal2 .ensures))
 
 pub put-signed-spec : {M : Type 1} → statement M
 put-signed-spec =
@@ -71,12 +71,12 @@ put-signed-spec =
     put-requires
     add-below
     sub-size
-    cast-put-numeral
-    add-put-numeral
-    put-numeral-requires
+    cast-put-decimal
+    add-put-decimal
+    put-decimal-requires
     same-length
     returns
-    cast-put-numeral-2
-    put-numeral-requires-2
+    cast-put-decimal-2
+    put-decimal-requires-2
     same-length-2
     returns-2)

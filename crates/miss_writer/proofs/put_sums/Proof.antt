@@ -3,7 +3,7 @@ use mathlib.Core.List.{[], _∷_, _++_}
 use borrow.Author.Needs.{needs}
 use mir.Facts.{toZ-ofZ}
 use Rattle.text.specs.Ascii.{ascii}
-use Rattle.text.proofs.Writing.{then-puts}
+use Rattle.buffer.proofs.Writing.{then-puts}
 use Rattle.miss_writer.specs.Output.{signedDecimal}
 use Rattle.miss_writer.proofs.Printed.{sum-parts}
 use Rattle.miss_writer.proofs.put_sums.Statement.{statement}

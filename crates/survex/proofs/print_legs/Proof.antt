@@ -2,7 +2,7 @@
 use native.Mathlib.Omega.{arith}
 use mathlib.Core.Path.{sym, ap, _∙_}
 use lib.ListN.{length}
-use Rattle.text.proofs.Writing.{puts-within}
+use Rattle.buffer.proofs.Writing.{puts-within}
 use Rattle.job.specs.Job.{outputOf}
 use Rattle.job.proofs.Answered.{printed-listed, printed-refused}
 use Rattle.survex.specs.Survex.{survexOf}

@@ -12,42 +12,50 @@ use Rattle.survex_leg.proofs.numbers_of.Tie as tie
 part-requires : tie.Need-part-requires
 part-requires c κs = search needs
 
-number-of-requires : tie.Need-number-of-requires
-number-of-requires c κs = search needs
+decimal-of-requires : tie.Need-decimal-of-requires
+decimal-of-requires c κs = search needs
 
 part-requires-2 : tie.Need-part-requires-2
 part-requires-2 c κs = search needs
 
-number-of-requires-2 : tie.Need-number-of-requires-2
-number-of-requires-2 c κs = search needs
+decimal-of-requires-2 : tie.Need-decimal-of-requires-2
+decimal-of-requires-2 c κs = search needs
+
+both-requires : tie.Need-both-requires
+both-requires c κs = search needs
 
 name-at-requires : tie.Need-name-at-requires
 name-at-requires c κs = search needs
 
+both-requires-2 : tie.Need-both-requires-2
+both-requires-2 c κs = search needs
+
 name-at-requires-2 : tie.Need-name-at-requires-2
 name-at-requires-2 c κs = search needs
 
-all-four-requires : tie.Need-all-four-requires
-all-four-requires c κs = search needs
+both-requires-3 : tie.Need-both-requires-3
+both-requires-3 c κs = search needs
 
 returns : tie.Need-returns
 returns c =
-    let a = c .before .before .before .before .before .before .before .before in
+    let a = c .before .before .before .before .before .before .before .before .before .before in
     numbers-are (words (a .args .line .now)) _ _ _ _ _
-    (c .before .before .name-at .ensures ∙ ap name (a .pre .from)) (c .before .name-at2 .ensures ∙ ap name (a .pre .to))
-    (subst (λ (l : List ℕ). Reads 3 l (c .before .before .before .before .before .number-of .result)) (c .before .before .before .before .before .before .part .ensures ∙ a .pre .tape) (c .before .before .before .before .before .number-of .ensures))
-    (subst (λ (l : List ℕ). Reads 2 l (c .before .before .before .number-of2 .result)) (c .before .before .before .before .part2 .ensures ∙ a .pre .compass) (c .before .before .before .number-of2 .ensures))
-    (c .all-four .ensures)
+    (c .before .name-at2 .ensures ∙ ap name (a .pre .from)) (c .before .before .before .name-at .ensures ∙ ap name (a .pre .to))
+    (subst (λ (l : List ℕ). Reads 3 l (c .before .before .before .before .before .before .before .decimal-of .result)) (c .before .before .before .before .before .before .before .before .part .ensures ∙ a .pre .tape) (c .before .before .before .before .before .before .before .decimal-of .ensures))
+    (subst (λ (l : List ℕ). Reads 2 l (c .before .before .before .before .before .decimal-of2 .result)) (c .before .before .before .before .before .before .part2 .ensures ∙ a .pre .compass) (c .before .before .before .before .before .decimal-of2 .ensures))
+    (rw (c .both3 .ensures, c .before .before .both2 .ensures, c .before .before .before .before .both .ensures))
 
 pub numbers-of-spec : {M : Type 1} → statement M
 numbers-of-spec =
     tie.close
     (tie.spec
     part-requires
-    number-of-requires
+    decimal-of-requires
     part-requires-2
-    number-of-requires-2
+    decimal-of-requires-2
+    both-requires
     name-at-requires
+    both-requires-2
     name-at-requires-2
-    all-four-requires
+    both-requires-3
     returns)

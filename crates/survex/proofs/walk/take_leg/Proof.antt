@@ -3,7 +3,7 @@ use native.Mathlib.Omega.{arith}
 use mathlib.Core.Path.{refl, sym, ap, _∙_}
 use Rattle.survex_leg.specs.Legs.{legIn}
 use Rattle.survex_leg.proofs.Facts.{wrong-facts}
-use Rattle.survex_shot.proofs.Lines.{shot-bytes, shot-part}
+use Rattle.job_lines.proofs.ShotLines.{shot-bytes, shot-part}
 use Rattle.survex.proofs.ShotLines.{leg-short}
 use borrow.Author.Needs.{needs}
 use Rattle.survex.proofs.walk.take_leg.Statement.{statement}

@@ -1,7 +1,8 @@
 -- `text::field::spelled` meets its contract.
-use Prim.Native.Nat.{_-_, _^_, _≤_, _<_}
+use Prim.Native.Nat.{ℕ, _+_, _-_, _*_, _^_, _≤_, _<_}
 use native.Mathlib.Omega.{arith}
 use mathlib.Core.Path.{sym, _∙_, _≡_}
+use mathlib.Core.Bool.{true}
 use lib.ListN.{length, getD, drop}
 use borrow.Author.Tests.{not-true, not-false}
 use borrow.Author.Needs.{needs}
@@ -36,45 +37,34 @@ returns c =
     (sym (c .before .is-within .ensures) ∙ not-true _ (c .if1 .taken)) in
     record { ok = e; value = rw (← e) }
 
-mul-value : tie.Need-mul-value Inv-loop μ-loop
+-- the byte read is a digit, and the number has one more
+abbrev byte-read : tie.Else1 Inv-loop μ-loop → ℕ
+byte-read c = let at = c .before .before .before .before in getD (at .before .before .args .part .now) (at .loop .i) 0
+
+a-digit : (c : tie.Else1 Inv-loop μ-loop) → digit (byte-read c) ≡ true
 unfolding digit
-mul-value c =
+a-digit c = sym (c .before .is-within .ensures) ∙ not-false _ (c .if1 .left)
+
+in-range : (c : tie.Else1 Inv-loop μ-loop) → (48 ≤ byte-read c) × (byte-read c ≤ 57)
+in-range c = digit-range (byte-read c) (a-digit c)
+
+more : (c : tie.Else1 Inv-loop μ-loop) → let at = c .before .before .before .before .loop in
+    (at .value * 10 + (byte-read c - 48) < 10 ^ (at .i + 1)) × (10 ^ at .i ≤ 10 ^ 9)
+more c =
     let at = c .before .before .before .before in
-    let d = digit-range (getD (at .before .before .args .part .now) (at .loop .i) 0)
-    (sym (c .before .is-within .ensures) ∙ not-false _ (c .if1 .left)) in
-    let m = digits-below (at .loop .i) (at .loop .value) (getD (at .before .before .args .part .now) (at .loop .i) 0 - 48)
-    (omega (arith, at .before .before .pre)) (at .loop .inv .3) (omega (arith, d .1)) in
-    omega (arith, m .1)
+    digits-below (at .loop .i) (at .loop .value) (byte-read c - 48) (omega (arith, at .before .before .pre)) (at .loop .inv .3) (omega (arith, in-range c .1))
+
+mul-value : tie.Need-mul-value Inv-loop μ-loop
+mul-value c = omega (arith, more c .1)
 
 sub-value : tie.Need-sub-value Inv-loop μ-loop
-unfolding digit
-sub-value c =
-    let at = c .before .before .before .before in
-    let d = digit-range (getD (at .before .before .args .part .now) (at .loop .i) 0)
-    (sym (c .before .is-within .ensures) ∙ not-false _ (c .if1 .left)) in
-    let m = digits-below (at .loop .i) (at .loop .value) (getD (at .before .before .args .part .now) (at .loop .i) 0 - 48)
-    (omega (arith, at .before .before .pre)) (at .loop .inv .3) (omega (arith, d .1)) in
-    d .0
+sub-value c = in-range c .0
 
 cast-value : tie.Need-cast-value Inv-loop μ-loop
-unfolding digit
-cast-value c =
-    let at = c .before .before .before .before in
-    let d = digit-range (getD (at .before .before .args .part .now) (at .loop .i) 0)
-    (sym (c .before .is-within .ensures) ∙ not-false _ (c .if1 .left)) in
-    let m = digits-below (at .loop .i) (at .loop .value) (getD (at .before .before .args .part .now) (at .loop .i) 0 - 48)
-    (omega (arith, at .before .before .pre)) (at .loop .inv .3) (omega (arith, d .1)) in
-    omega (arith, d .1)
+cast-value c = omega (arith, in-range c .1)
 
 add-value : tie.Need-add-value Inv-loop μ-loop
-unfolding digit
-add-value c =
-    let at = c .before .before .before .before in
-    let d = digit-range (getD (at .before .before .args .part .now) (at .loop .i) 0)
-    (sym (c .before .is-within .ensures) ∙ not-false _ (c .if1 .left)) in
-    let m = digits-below (at .loop .i) (at .loop .value) (getD (at .before .before .args .part .now) (at .loop .i) 0 - 48)
-    (omega (arith, at .before .before .pre)) (at .loop .inv .3) (omega (arith, d .1)) in
-    omega (arith, m .1, d .1)
+add-value c = omega (arith, more c .1, in-range c .1)
 
 add-i : tie.Need-add-i Inv-loop μ-loop
 add-i c = search needs
@@ -83,18 +73,13 @@ loop-less : tie.Need-loop-less Inv-loop μ-loop
 loop-less c = search needs
 
 loop-again : tie.Need-loop-again Inv-loop μ-loop
-unfolding digit
 loop-again c =
     let at = c .before .before .before .before in
-    let d = digit-range (getD (at .before .before .args .part .now) (at .loop .i) 0)
-    (sym (c .before .is-within .ensures) ∙ not-false _ (c .if1 .left)) in
-    let m = digits-below (at .loop .i) (at .loop .value) (getD (at .before .before .args .part .now) (at .loop .i) 0 - 48)
-    (omega (arith, at .before .before .pre)) (at .loop .inv .3) (omega (arith, d .1)) in
     let test = c .before .before .before .loop-test .taken in (
       omega arith,
-      all-step digit _ (at .loop .i) (at .loop .inv .1) test (sym (c .before .is-within .ensures) ∙ not-false _ (c .if1 .left)),
+      all-step digit _ (at .loop .i) (at .loop .inv .1) test (a-digit c),
       at .loop .inv .2 ∙ value-ahead _ (at .loop .i) (at .loop .value) test,
-      m .0,
+      more c .0,
     )
 
 returns-2 : tie.Need-returns-2 Inv-loop μ-loop

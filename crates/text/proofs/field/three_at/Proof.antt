@@ -2,14 +2,14 @@
 use Rattle.text.proofs.field.three_at.Statement.{statement}
 use Rattle.text.proofs.field.three_at.Tie as tie
 
-numeral-at-requires : tie.Need-numeral-at-requires
-numeral-at-requires c κs = tt
+digit-string-at-requires : tie.Need-digit-string-at-requires
+digit-string-at-requires c κs = tt
 
-numeral-at-requires-2 : tie.Need-numeral-at-requires-2
-numeral-at-requires-2 c κs = tt
+digit-string-at-requires-2 : tie.Need-digit-string-at-requires-2
+digit-string-at-requires-2 c κs = tt
 
-numeral-at-requires-3 : tie.Need-numeral-at-requires-3
-numeral-at-requires-3 c κs = tt
+digit-string-at-requires-3 : tie.Need-digit-string-at-requires-3
+digit-string-at-requires-3 c κs = tt
 
 both-requires : tie.Need-both-requires
 both-requires c κs = tt
@@ -19,9 +19,9 @@ both-requires-2 c κs = tt
 
 returns : tie.Need-returns
 returns c =
-    let x = c .before .before .before .before .numeral-at .ensures in
-    let y = c .before .before .before .numeral-at2 .ensures in
-    let z = c .before .before .numeral-at3 .ensures in
+    let x = c .before .before .before .before .digit-string-at .ensures in
+    let y = c .before .before .before .digit-string-at2 .ensures in
+    let z = c .before .before .digit-string-at3 .ensures in
     record {
       ok = rw (c .both2 .ensures, c .before .both .ensures, x .ok, y .ok, z .ok);
       first = x .value;
@@ -33,9 +33,9 @@ pub three-at-spec : {M : Type 1} → statement M
 three-at-spec =
     tie.close
     (tie.spec
-    numeral-at-requires
-    numeral-at-requires-2
-    numeral-at-requires-3
+    digit-string-at-requires
+    digit-string-at-requires-2
+    digit-string-at-requires-3
     both-requires
     both-requires-2
     returns)
