@@ -43,7 +43,8 @@ fn units(in18: bool, f: u64, g: u64) -> u32
     requires { ⌜ (f < radiusLimit) × (g ≤ 2 ^ 30) ⌝ }
     ensures { λ r. ⌜ r ≡ size (bitsOf in18) f g ⌝ }
 {
-    ((f * scale(in18) * g + HALF) / UNIT) as u32
+    let scale = scale(in18);
+    ((f * scale * g + HALF) / UNIT) as u32
 }
 
 struct Pair {

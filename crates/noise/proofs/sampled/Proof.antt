@@ -1,8 +1,11 @@
 -- `sampled` is `sampledOf`: each return rewrites with the refusal code of the two draws.
+use mathlib.Core.Path.{ap, ap₂, _∙_}
+use lib.IntN.{ℤ}
 use borrow.Author.Needs.{needs}
 use borrow.Author.Tests.{ne-eqb}
 use mir.Facts.{toZ-ofZ}
 use mir.Syntax.{w16}
+use Rattle.box_muller.specs.declared.Samples.{Samples}
 use Rattle.noise.proofs.sampled.Statement.{statement}
 use Rattle.noise.proofs.sampled.Tie as tie
 
@@ -14,10 +17,13 @@ sample-requires c κs = search needs
 
 returns-2 : tie.Need-returns-2
 returns-2 c =
+    let next = c .before .before .before .before .before .args .drawn .next in
     let told = c .struct-told .given in
-    let first = toZ-ofZ {w = w16} {z = c .before .sample .result .first} (record { sfits = told .1 .0 .1 }) in
-    let second = toZ-ofZ {w = w16} {z = c .before .sample .result .second} (record { sfits = told .1 .1 .0 .1 }) in
-    rw (first, second, c .before .sample .ensures .0, c .before .before .if1 .left)
+    let s = c .before .sample .result in
+    let is = c .before .sample .ensures .0 in
+    let first = toZ-ofZ {w = w16} {z = s .first} (record { sfits = told .1 .0 .1 }) ∙ ap (λ (r : Samples). r .first) is in
+    let second = toZ-ofZ {w = w16} {z = s .second} (record { sfits = told .1 .1 .0 .1 }) ∙ ap (λ (r : Samples). r .second) is in
+    rw (c .before .before .if1 .left) (ap₂ (λ (x y : ℤ). record { code = 0; first = x; second = y; next = next }) first second)
 
 pub sampled-spec : {M : Type 1} → statement M
 sampled-spec = tie.close (tie.spec returns sample-requires returns-2)

@@ -1,8 +1,11 @@
 -- `sampled18` is `sampledOf`: each return rewrites with the refusal code of the two draws.
+use mathlib.Core.Path.{ap, ap₂, _∙_}
+use lib.IntN.{ℤ}
 use borrow.Author.Needs.{needs}
 use borrow.Author.Tests.{ne-eqb}
 use mir.Facts.{toZ-ofZ}
 use mir.Syntax.{w32}
+use Rattle.box_muller.specs.declared.Samples18.{Samples18}
 use Rattle.noise.proofs.bits18.sampled18.Statement.{statement}
 use Rattle.noise.proofs.bits18.sampled18.Tie as tie
 
@@ -14,10 +17,13 @@ sample18-requires c κs = search needs
 
 returns-2 : tie.Need-returns-2
 returns-2 c =
+    let next = c .before .before .before .before .before .args .drawn .next in
     let told = c .struct-told .given in
-    let first = toZ-ofZ {w = w32} {z = c .before .sample18 .result .first} (record { sfits = told .1 .0 .1 }) in
-    let second = toZ-ofZ {w = w32} {z = c .before .sample18 .result .second} (record { sfits = told .1 .1 .0 .1 }) in
-    rw (first, second, c .before .sample18 .ensures .0, c .before .before .if1 .left)
+    let s = c .before .sample18 .result in
+    let is = c .before .sample18 .ensures .0 in
+    let first = toZ-ofZ {w = w32} {z = s .first} (record { sfits = told .1 .0 .1 }) ∙ ap (λ (r : Samples18). r .first) is in
+    let second = toZ-ofZ {w = w32} {z = s .second} (record { sfits = told .1 .1 .0 .1 }) ∙ ap (λ (r : Samples18). r .second) is in
+    rw (c .before .before .if1 .left) (ap₂ (λ (x y : ℤ). record { code = 0; first = x; second = y; next = next }) first second)
 
 pub sampled18-spec : {M : Type 1} → statement M
 sampled18-spec = tie.close (tie.spec returns sample18-requires returns-2)
