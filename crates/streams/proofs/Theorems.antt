@@ -74,9 +74,9 @@ pub fit-minima : (u : Stream) → (fit u ≡ true) ↔ Minima u
 unfolding fit
 fit-minima u = (
   λ h.
-      let (p, r) = and-eq-true-iff (leb 2 (u .s0)) (leb 8 (u .s1) && leb 16 (u .s2)) .0 h in
-      let (q, w) = and-eq-true-iff (leb 8 (u .s1)) (leb 16 (u .s2)) .0 r in
-      record { s0-least = leb-true 2 (u .s0) p; s1-least = leb-true 8 (u .s1) q; s2-least = leb-true 16 (u .s2) w },
+      let (p, r) = and-eq-true-iff (leb _ (u .s0)) _ .0 h in
+      let (q, w) = and-eq-true-iff (leb _ (u .s1)) _ .0 r in
+      omega (arith, leb-true _ (u .s0) p, leb-true _ (u .s1) q, leb-true _ (u .s2) w),
   λ m. rw (le-leb 2 (u .s0) (m .s0-least), le-leb 8 (u .s1) (m .s1-least), le-leb 16 (u .s2) (m .s2-least)),
 )
 
