@@ -1,6 +1,7 @@
 #!/usr/bin/env python3
 """Recomputes the seven tables with mpmath at 200 bits and compares them with the sources: crate `tables` (src/logarithms.rt,
-cosines.rt, sines.rt, specs/Values.antt) and the matches of crates `log_coarse_lookup`, `log_fine_lookup` and `rotation_lookup`.
+cosines.rt, sines.rt, specs/Values.antt), and the matches of crates `log_coarse_lookup` (with specs/Private.antt), `log_fine_lookup` and
+`rotation_lookup`.
 
   python3 tools/tables.py           compare the sources with the recomputed tables
   python3 tools/tables.py --write   write the tables and the arms of the matches anew (then run `rt fmt`)
@@ -16,6 +17,7 @@ mp.prec = 200
 CRATES = pathlib.Path(__file__).resolve().parent.parent / "crates"
 CRATE = CRATES / "tables"
 LISTS = CRATE / "specs" / "Values.antt"
+ARMS = CRATES / "log_coarse_lookup" / "specs" / "Private.antt"
 
 
 def nearest(exact, scale):
@@ -61,9 +63,10 @@ def parted(width):
 
 
 RECIPROCALS = [-(-(2**31) // h) for h in range(256, 512)]
+COARSE_ARMS = beside(RECIPROCALS, ENTRIES["LOG_COARSE"], 40)
 # (crate, function, how an entry is written, entries)
 MATCHES = [
-    ("log_coarse_lookup", "nth", parted(40), beside(RECIPROCALS, ENTRIES["LOG_COARSE"], 40)),
+    ("log_coarse_lookup", "nth", parted(40), COARSE_ARMS),
     ("log_fine_lookup", "nth", str, ENTRIES["LOG_FINE"]),
     ("rotation_lookup", "nth_coarse", parted(32), beside(ENTRIES["COS_COARSE"], ENTRIES["SIN_COARSE"], 32)),
     ("rotation_lookup", "nth_fine", parted(32), beside(ENTRIES["COS_FINE"], ENTRIES["SIN_FINE"], 32)),
@@ -126,6 +129,12 @@ def lists():
     return "\n".join(out) + "\n"
 
 
+def with_arms(text):
+    """The text of ARMS with its list, the last of the file, written anew."""
+    body = rows([f"0x{x:016x}" for x in COARSE_ARMS] + ["[]"], " ∷ ", "    ")
+    return text.split("\narms =\n")[0] + "\narms =\n" + "\n".join(body).removesuffix(" ∷") + "\n"
+
+
 def read(text, start, end):
     """The numbers of the text between two marks."""
     body = text.split(start, 1)[1].split(end, 1)[0]
@@ -137,6 +146,7 @@ def compare():
     for file, const, name, _, entries in TABLES:
         found.append((const, read(path(file).read_text(), f"{const}: [u64; {len(entries)}] = [", "]"), entries))
         found.append((name, read(antt, f"\n{name} =", "[]"), entries))
+    found.append(("arms", read(ARMS.read_text(), "\narms =", "[]"), COARSE_ARMS))
     for crate, function, _, entries in MATCHES:
         found.append((f"{crate}::{function}", read_arms(crate, function), entries))
     for where, numbers, entries in found:
@@ -155,6 +165,7 @@ if __name__ == "__main__":
         for name in ("logarithms", "cosines", "sines"):
             path(name).write_text(source(name))
         LISTS.write_text(lists())
+        ARMS.write_text(with_arms(ARMS.read_text()))
         for match in MATCHES:
             write_arms(*match)
     elif sys.argv[1:]:

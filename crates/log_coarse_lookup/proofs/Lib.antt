@@ -1,2 +1,3 @@
--- A quotient by way of a reciprocal.
+-- The arms of the match, and a quotient by way of a reciprocal.
+pub mod Arms
 pub mod Quotients

@@ -4,10 +4,10 @@
 ghost use mathlib.Core.Path.{_≡_};
 ghost use Prim.Native.Nat.{_/_, _%_, _^_};
 ghost use lib.ListN.{getD};
-ghost use Rattle.tables.specs.Private.{NoKey, beside};
-ghost use Rattle.tables.specs.Values.{logCoarseList};
+ghost use Rattle.tables.specs.Private.{NoKey};
 ghost use Rattle.tables.specs.Tables.{logCoarse, entryOf};
 ghost use Rattle.log_coarse_lookup.specs.Reciprocals.{reciprocals};
+ghost use Rattle.log_coarse_lookup.specs.Private.{arms};
 
 // What a reciprocal counts.
 const UPPER: u64 = 1 << 40;
@@ -15,14 +15,14 @@ const UPPER: u64 = 1 << 40;
 // What the last arm of the match gives: a number that is none of the other arms' is past the table.
 fn past(n: u64) -> u64
     requires { ⌜ NoKey 256 n ⌝ }
-    ensures { λ r. ⌜ r ≡ getD (beside 40 reciprocals logCoarseList) n 0 ⌝ }
+    ensures { λ r. ⌜ r ≡ getD arms n 0 ⌝ }
 {
     0
 }
 
 // The entries of A, from 0 on, and the reciprocals above them.
 fn nth(n: u64) -> u64
-    ensures { λ r. ⌜ r ≡ getD (beside 40 reciprocals logCoarseList) n 0 ⌝ }
+    ensures { λ r. ⌜ r ≡ getD arms n 0 ⌝ }
 {
     match n {
         0 => 0x800000_0000000000,

@@ -1,5 +1,5 @@
 -- `log_coarse_lookup::arm` meets its contract, by the definition's two cases: below the table, and from its first entry on.
-use mathlib.Core.Path.{_≡_, refl, sym, _∙_}
+use mathlib.Core.Path.{_≡_, refl, sym, ap, _∙_}
 use Prim.Native.Nat.{ℕ, _-_, _^_, _≤_, _<_}
 use native.Mathlib.Omega.{arith}
 use lib.ListN.{getD}
@@ -10,6 +10,7 @@ use Rattle.tables.proofs.Arms.{parts}
 use Rattle.tables.proofs.Bounds.{bounds}
 use Rattle.tables.proofs.Entries.{entry-below, entry-at}
 use Rattle.log_coarse_lookup.specs.Reciprocals.{reciprocals}
+use Rattle.log_coarse_lookup.proofs.Arms.{arms-are}
 use Rattle.log_coarse_lookup.proofs.arm.Statement.{statement}
 use Rattle.log_coarse_lookup.proofs.arm.Tie as tie
 
@@ -29,7 +30,7 @@ returns-2 : tie.Need-returns-2
 returns-2 c =
     let h : ℕ = c .before .before .args .h in
     let low : 256 ≤ h = omega arith in
-    let both = parts 40 reciprocals logCoarseList refl (h - 256) _ (small h low) (c .nth .ensures) in
+    let both = parts 40 reciprocals logCoarseList refl (h - 256) _ (small h low) (c .nth .ensures ∙ ap (λ l. getD l (h - 256) 0) arms-are) in
     (both .0 ∙ sym (entry-at reciprocals 256 h low), both .1 ∙ entry-is h low)
 
 pub arm-spec : {M : Type 1} → statement M
