@@ -4,6 +4,7 @@ mod state;
 mod walk;
 
 use crate::walk::write_listing;
+use buffer::put;
 use job_refusals::limits::LISTING_ROOM;
 use job_refusals::limits::MOST_BYTES;
 use listing_writer::put_refused;
