@@ -2,6 +2,7 @@
 pub mod write;
 
 use text::field::Place;
+use text::field::both;
 use text::field::digit_string_at;
 use text::field::name_at;
 use text::field::three_at;
@@ -49,11 +50,8 @@ fn seeds_line(line: &[u8], c: Found) -> Line
 {
     let places = c.places;
     let a = three_at(line, places[0], places[1], places[2]);
-    if !a.ok {
-        return Line::NoForm;
-    }
     let b = three_at(line, places[3], places[4], places[5]);
-    if !b.ok {
+    if !both(a.ok, b.ok) {
         return Line::NoForm;
     }
     Line::Seeds(Seeds {
@@ -71,11 +69,8 @@ fn sigma_line(line: &[u8], c: Found) -> Line
 {
     let places = c.places;
     let d = digit_string_at(line, places[0]);
-    if !d.ok {
-        return Line::NoForm;
-    }
     let b = digit_string_at(line, places[1]);
-    if !b.ok {
+    if !both(d.ok, b.ok) {
         return Line::NoForm;
     }
     Line::Sigma(Sigma {
@@ -91,18 +86,10 @@ fn shot_line(line: &[u8], c: Found) -> Line
     let places = c.places;
     let from = places[0];
     let to = places[1];
-    if !name_at(line, from) {
-        return Line::NoForm;
-    }
-    if !name_at(line, to) {
-        return Line::NoForm;
-    }
     let d = digit_string_at(line, places[2]);
-    if !d.ok {
-        return Line::NoForm;
-    }
     let b = digit_string_at(line, places[3]);
-    if !b.ok {
+    let named = both(name_at(line, from), name_at(line, to));
+    if !both(both(named, d.ok), b.ok) {
         return Line::NoForm;
     }
     Line::Shot(Shot {

@@ -6,6 +6,7 @@ use mathlib.Core.Bool.{Bool, true, false, not, _||_}
 use mathlib.Core.List.{List, [], _∷_}
 use lib.Dec.{ltb}
 use lib.ListN.{length, take, drop, length-drop, drop-of-length-le}
+use lib.Seq.{length-take-le}
 use borrow.Author.Tests.{lt-ltb, le-ltb}
 use Rattle.text.specs.Ascii.{ascii}
 use Rattle.text.specs.Scan.{oneOf, upTo, lineFeed, lines, firstLine}
@@ -66,29 +67,32 @@ unfolding fed
 fed-is l n e =
     let m : n ≡ length (upTo lineFeed l) = omega (arith, e) in ap (λ (k : ℕ). ltb k (length l)) m
 
+-- the places that `kept_of` finds lie in the line, whatever stops it
+module _ (stops l : List ℕ) (stop : ℕ) (e : stop ≡ 0 + length (upTo (oneOf stops) (drop 0 l))) where
+  pub stop-within : stop ≤ length l
+  stop-within = omega (arith, e, run-length (oneOf stops) l)
+
+  module _ (from : ℕ) (f : from ≡ 0 + length (upTo notBlank (drop 0 (take (stop - 0) (drop 0 l))))) where
+    pub from-within : from ≤ stop
+    from-within = omega (arith, f, run-length notBlank (take (stop - 0) l), length-take-le (stop - 0) l (omega (arith, stop-within)))
+
+    pub to-within : (n : ℕ) → n ≡ length (trimEnd (take (stop - from) (drop from l))) → from + n ≤ length l
+    to-within n g =
+        let size : length (take (stop - from) (drop from l)) ≡ stop - from = length-take-le (stop - from) (drop from l) (omega (arith, length-drop from l, stop-within)) in
+        omega (arith, g, trim-length (take (stop - from) (drop from l)), size, from-within, stop-within)
+
 -- the places that `kept_of` finds, one after another
 module _ (l : List ℕ) (stop : ℕ) (e : stop ≡ 0 + length (upTo (oneOf (ascii ";\n")) (drop 0 l))) where
-  pub stop-within : stop ≤ length l
-  stop-within = omega (arith, e, run-length (oneOf (ascii ";\n")) l)
-
   part-uncommented : take (stop - 0) (drop 0 l) ≡ uncommented l
   unfolding uncommented
   part-uncommented =
       let n : stop - 0 ≡ length (upTo (oneOf (ascii ";\n")) l) = omega (arith, e) in
       ap (λ (k : ℕ). take k l) n ∙ run-take (oneOf (ascii ";\n")) l
 
-  uncommented-length : length (uncommented l) ≡ stop
-  unfolding uncommented
-  uncommented-length = omega (arith, e)
-
   module _ (from : ℕ) (f : from ≡ 0 + length (upTo notBlank (drop 0 (take (stop - 0) (drop 0 l))))) where
     from-is : from ≡ blanksBefore (uncommented l)
     unfolding blanksBefore
     from-is = omega (arith, f, ap (λ (m : List ℕ). length (upTo notBlank m)) part-uncommented)
-
-    pub from-within : from ≤ stop
-    unfolding blanksBefore
-    from-within = omega (arith, from-is, uncommented-length, run-length notBlank (uncommented l))
 
     part-trimmed : take (stop - from) (drop from l) ≡ trimStart (uncommented l)
     unfolding trimStart
@@ -99,9 +103,6 @@ module _ (l : List ℕ) (stop : ℕ) (e : stop ≡ 0 + length (upTo (oneOf (asci
       n-is : n ≡ length (leftOf l)
       unfolding leftOf
       n-is = g ∙ ap (λ (m : List ℕ). length (trimEnd m)) part-trimmed
-
-      pub to-within : from + n ≤ length l
-      to-within = omega (arith, n-is, from-is, left-within l)
 
       pub kept-is : (left has : Bool) → left ≡ not has || ltb from (from + n) → has ≡ fed l
           → record { left = left; fed = has; from = from; to = from + n } ≡ keptOf l

@@ -1,8 +1,6 @@
 -- `sigma_line` meets its contract.
-use borrow.Author.Tests.{not-true, not-false}
 use native.Mathlib.Omega.{arith}
-use Rattle.text.proofs.Readings.{test-true, test-false, spelled-value}
-use Rattle.job_lines.proofs.Reading.{sigma-at}
+use Rattle.job_lines.proofs.Reading.{sigma-said, test-fails, test-passes}
 use Rattle.job_lines.proofs.sigma_line.Statement.{statement}
 use Rattle.job_lines.proofs.sigma_line.Tie as tie
 
@@ -12,27 +10,26 @@ array-copy-out-digit-string-at c = omega arith
 digit-string-at-requires : tie.Need-digit-string-at-requires
 digit-string-at-requires c κs = tt
 
-returns : tie.Need-returns
-returns c = rw (sigma-at, test-false (c .before .before .digit-string-at .ensures) (not-true _ (c .if1 .taken)))
-
 array-copy-out-digit-string-at-2 : tie.Need-array-copy-out-digit-string-at-2
 array-copy-out-digit-string-at-2 c = omega arith
 
 digit-string-at-requires-2 : tie.Need-digit-string-at-requires-2
 digit-string-at-requires-2 c κs = tt
 
+both-requires : tie.Need-both-requires
+both-requires c κs = tt
+
+returns : tie.Need-returns
+returns c =
+    let b = c .before in
+    let a = b .before .before .before .before .before .before .before .args in
+    test-fails (b .both .result) _ _ (sigma-said (a .line .now) (a .c) (b .before .before .before .digit-string-at .result) (b .before .digit-string-at2 .result) (b .before .before .before .digit-string-at .ensures) (b .before .digit-string-at2 .ensures) (b .both .result) (b .both .ensures)) (c .if1 .taken)
+
 returns-2 : tie.Need-returns-2
 returns-2 c =
-    let d = test-true (c .before .before .before .before .before .before .digit-string-at .ensures) (not-false _ (c .before .before .before .before .if1 .left)) in
-    rw (sigma-at, d, test-false (c .before .before .digit-string-at2 .ensures) (not-true _ (c .if2 .taken)))
-
-returns-3 : tie.Need-returns-3
-returns-3 c =
-    let d = c .before .before .before .before .before .before .digit-string-at .ensures in
-    let b = c .before .before .digit-string-at2 .ensures in
-    let s = not-false _ (c .before .before .before .before .if1 .left) in
-    let t = not-false _ (c .if2 .left) in
-    rw (sigma-at, test-true d s, test-true b t, spelled-value d s, spelled-value b t)
+    let b = c .before in
+    let a = b .before .before .before .before .before .before .before .args in
+    test-passes (b .both .result) _ _ (sigma-said (a .line .now) (a .c) (b .before .before .before .digit-string-at .result) (b .before .digit-string-at2 .result) (b .before .before .before .digit-string-at .ensures) (b .before .digit-string-at2 .ensures) (b .both .result) (b .both .ensures)) (c .if1 .left)
 
 pub sigma-line-spec : {M : Type 1} → statement M
 sigma-line-spec =
@@ -40,8 +37,8 @@ sigma-line-spec =
     (tie.spec
     array-copy-out-digit-string-at
     digit-string-at-requires
-    returns
     array-copy-out-digit-string-at-2
     digit-string-at-requires-2
-    returns-2
-    returns-3)
+    both-requires
+    returns
+    returns-2)

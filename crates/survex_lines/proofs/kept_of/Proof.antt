@@ -24,19 +24,19 @@ part-skip-blanks-start : tie.Need-part-skip-blanks-start
 part-skip-blanks-start c = search needs
 
 part-skip-blanks-end : tie.Need-part-skip-blanks-end
-part-skip-blanks-end c = omega (arith, stop-within _ _ (c .scan2 .ensures))
+part-skip-blanks-end c = omega (arith, stop-within _ _ _ (c .scan2 .ensures))
 
 skip-blanks-requires : tie.Need-skip-blanks-requires
 skip-blanks-requires c κs = tt
 
 sub-trimmed-length : tie.Need-sub-trimmed-length
-sub-trimmed-length c = from-within _ _ (c .before .before .scan2 .ensures) _ (c .skip-blanks .ensures)
+sub-trimmed-length c = from-within _ _ _ (c .before .before .scan2 .ensures) _ (c .skip-blanks .ensures)
 
 part-trimmed-length-start : tie.Need-part-trimmed-length-start
-part-trimmed-length-start c = from-within _ _ (c .before .before .scan2 .ensures) _ (c .skip-blanks .ensures)
+part-trimmed-length-start c = from-within _ _ _ (c .before .before .scan2 .ensures) _ (c .skip-blanks .ensures)
 
 part-trimmed-length-end : tie.Need-part-trimmed-length-end
-part-trimmed-length-end c = omega (arith, stop-within _ _ (c .before .before .scan2 .ensures))
+part-trimmed-length-end c = omega (arith, stop-within _ _ _ (c .before .before .scan2 .ensures))
 
 trimmed-length-requires : tie.Need-trimmed-length-requires
 trimmed-length-requires c κs = tt
@@ -44,7 +44,7 @@ trimmed-length-requires c κs = tt
 add-to : tie.Need-add-to
 add-to c = omega (
   arith,
-  to-within _ _ (c .before .before .before .before .scan2 .ensures) _ (c .before .before .skip-blanks .ensures) _ (c .trimmed-length .ensures),
+  to-within _ _ _ (c .before .before .before .before .scan2 .ensures) _ (c .before .before .skip-blanks .ensures) _ (c .trimmed-length .ensures),
 )
 
 is-left-requires : tie.Need-is-left-requires
