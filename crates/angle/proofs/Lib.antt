@@ -1,5 +1,4 @@
 -- The ranges of a sine and a cosine, their signs, a quarter turn on, and how far they are from the exact rotation.
-pub mod Signs
 pub mod Ranges
 pub mod QuarterTurn
 mod Products

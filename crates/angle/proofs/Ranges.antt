@@ -6,7 +6,7 @@ use lib.IntN.{pos, negℤ, natAbs}
 use Rattle.exact.proofs.MemberLaws.{turn-keeps}
 use Rattle.tables.proofs.Bounds.{bounds}
 use Rattle.angle.specs.Steps.{coarseAngle, fineAngle, sine, cosine, sineAt, cosineAt, signedOf}
-use Rattle.angle.proofs.Signs.{natAbs-neg}
+use Rattle.signs.proofs.Sizes.{natAbs-neg}
 
 pub sine-range : (w : ℕ) → sineAt w ≤ 2 ^ 30
 unfolding sineAt sine

@@ -4,7 +4,8 @@ use Prim.Native.Nat.{_+_, _*_}
 use native.Mathlib.Omega.{arith}
 use lib.Count.{leadingZeros}
 use lib.IntN.{pos}
-use Rattle.exact.specs.Rotation.{rotation, rootDigits, rootDown, rootUp, half, compose, halving, bitRotation, bitsRotation}
+use Rattle.exact.specs.Root.{rootDigits, rootDown, rootUp}
+use Rattle.exact.specs.Rotation.{rotation, half, compose, halving, bitRotation, bitsRotation}
 use Rattle.exact.specs.Pair.{members}
 use Rattle.exact.proofs.DistanceLaws.{far-above, far-bounds-close}
 use Rattle.radius.specs.Steps.{topBit, mantissa, coarseIndex, rest, fineIndex, remainder, correction, logarithm, underRoot, radiusOf}

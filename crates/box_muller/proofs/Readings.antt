@@ -1,7 +1,7 @@
 -- The readings of specs/Readings.antt: the tables are opened, and the steps computed.
 use mathlib.Core.Path.{refl}
 use lib.Count.{leadingZeros}
-use Rattle.exact.specs.Rotation.{rootDigits}
+use Rattle.exact.specs.Root.{rootDigits}
 use Rattle.radius.specs.Steps.{topBit, mantissa, coarseIndex, rest, fineIndex, remainder, correction, logarithm}
 use Rattle.radius.specs.Steps.{underRoot, radiusOf}
 use Rattle.roots.specs.Root.{wholeRoot}

@@ -1,6 +1,6 @@
 -- Rotations at n fraction bits, every root rounded outward. Document 01, 'What "exact" means'.
 use Prim.Native.Nat.{ℕ, zero, suc, _+_, _-_, _*_, _/_, _%_, _^_, min}
-unfoldable pub use Rattle.exact.specs.Root.{rootDigits, rootDown, rootUp}
+use Rattle.exact.specs.Root.{rootDown, rootUp}
 
 -- x over y, rounded up
 abbrev pub quotientUp : ℕ → ℕ → ℕ

@@ -9,7 +9,7 @@ use mir.Val.{toZ, ofZ}
 use mir.Facts.{toZ-pos, toZ-ofZ}
 use borrow.Author.Needs.{needs}
 use Rattle.angle.specs.Private.{valuesOf}
-use Rattle.angle.proofs.Signs.{natAbs-neg, size-fits, minus-fits, minus-reads}
+use Rattle.signs.proofs.Sizes.{natAbs-neg, size-fits, minus-fits, minus-reads}
 use Rattle.angle.proofs.turn.Statement.{statement}
 use Rattle.angle.proofs.turn.Tie as tie
 
