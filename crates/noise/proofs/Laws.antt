@@ -24,7 +24,7 @@ use Rattle.lanes.proofs.Theorems.{word-is-pair}
 use Rattle.box_muller.specs.Steps.{fractionBits}
 use Rattle.box_muller.specs.Sample.{firstOf, secondOf}
 use Rattle.sample.specs.Chunk.{chunkLength, chunkHolds, samplesAt}
-use Rattle.sample.proofs.ChunkLaws.{filled-whole}
+use Rattle.sample.proofs.ChunkLaws.{chunk-held}
 use Rattle.box_muller.proofs.Closeness.{accepts}
 use Rattle.box_muller.proofs.Theorems.{theorems}
 use Rattle.noise.specs.Noise.{pairOf, samples, blockCode}
@@ -159,10 +159,9 @@ samples-noted f n asked g h none room =
 -- So a chunk of just as many words leaves them.
 pub words-samples : (f n : ℕ) (g : Generator) {zs : List ℕ} {out : List ℤ} (old : List ℤ) → Sound g → g .waiting ≡ 0 → g .count + n ≤ mostCount
     → zs ≡ pairWords n g → length old ≡ 2 * n → n ≤ chunkLength → out ≡ chunkHolds f zs old → out ≡ samples f n g
-words-samples f n g old h none room e l few done =
+words-samples f n g {zs} old h none room e l few done =
     let size = length-pair-words n g in
-    done ∙ rw (e, take-all chunkLength (pairWords n g) (omega (arith, size))) (filled-whole f (pairWords n g) old (omega (arith, size)))
-    ∙ sym (samples-words f n g h none room)
+    done ∙ sym (chunk-held f zs old (samplesAt f zs) (rw e (omega (arith, size))) (rw e (omega (arith, size))) refl) ∙ ap (samplesAt f) e ∙ sym (samples-words f n g h none room)
 
 -- ---- Their size
 

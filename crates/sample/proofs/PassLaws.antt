@@ -8,8 +8,8 @@ use lib.IntN.{ℤ}
 use lib.ListN.{length, take, getD}
 use Rattle.roots.specs.Root.{wholeRoot}
 use Rattle.radius.specs.Steps.{radiusOf}
-use Rattle.sample.specs.Chunk.{filled}
 use Rattle.sample.specs.Private.{underRootAt}
+use Rattle.sample.proofs.ChunkLaws.{filled}
 
 pub record Reached (f : ℕ) (z : List ℕ) (out₀ out : List ℤ) (i : ℕ) : Type 0 where
   pub within : i ≤ length z

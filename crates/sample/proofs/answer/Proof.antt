@@ -10,7 +10,7 @@ use mir.Facts.{toZ-ofZ}
 use Rattle.radius.specs.Steps.{numberBits}
 use Rattle.signs.proofs.Sizes.{size-fits}
 use Rattle.box_muller.specs.Sample.{firstOf, secondOf, samplesOf}
-use Rattle.sample.specs.Chunk.{filled}
+use Rattle.sample.specs.Chunk.{chunkHolds, samplesAt}
 use Rattle.box_muller.specs.Steps.{bitsOf}
 use Rattle.box_muller.proofs.RoundingLaws.{first-small, second-small, largest-range}
 use Rattle.sample.proofs.answer.Statement.{statement}
@@ -51,7 +51,7 @@ apart : (k v : ℕ) → v ≤ 65535 → ((k * 65536 + v) / 65536 ≡ k) × ((k *
 apart k v h = (omega arith, omega arith)
 
 returns-3 : tie.Need-returns-3
-unfolding samplesOf filled
+unfolding samplesOf chunkHolds samplesAt
 returns-3 c =
     let tested = c .before .before .before .before .before .before in
     let k = tested .before .before .args .k in

@@ -14,9 +14,8 @@ use Rattle.radius.proofs.Ranges.{radius-of-range}
 use Rattle.angle.specs.Steps.{signedOf}
 use Rattle.box_muller.specs.Steps.{bitsOf, rounded}
 use Rattle.box_muller.specs.Sample.{firstOf, secondOf}
-use Rattle.sample.specs.Chunk.{filled}
 use Rattle.sample.specs.Private.{underRootAt}
-use Rattle.sample.proofs.ChunkLaws.{filled-whole, filled-next}
+use Rattle.sample.proofs.ChunkLaws.{filled, filled-whole, filled-next}
 use Rattle.sample.proofs.PassLaws.{Reached, radius-is}
 use Rattle.sample.proofs.sample_each.Statement.{statement}
 use Rattle.sample.proofs.sample_each.Tie as tie
