@@ -6,7 +6,7 @@ use native.Mathlib.Nat.{mul-le-mul, not-suc-le-zero, one-mul, pow-suc, mod-eq-of
 use native.Mathlib.Numerals.{add-one}
 use native.Mathlib.Omega.{arith}
 use lib.ListN.{length, take, drop, getD, set, drop-of-length-le}
-use lib.Seq.{drop-cons, take-all, take-suc-set, append-snoc}
+use lib.Seq.{drop-cons, take-all, take-suc-set, drop-set-lt, append-snoc}
 use lib.Pow.{pow-lt}
 use mir.Val.{Fits}
 use mir.Syntax.{w32}
@@ -25,6 +25,11 @@ map-turn f l out j v within h e =
 
 pub map-end : (f : ℕ → ℕ) (l out : List ℕ) (j : ℕ) → length l ≤ j → length out ≤ j → take j out ++ map f (drop j l) ≡ out
 map-end f l out j all h = rw (drop-of-length-le l all, take-all j out h) (append-nil out)
+
+-- mapped in place, what is left is the list's own
+pub map-turn-in-place : (f : ℕ → ℕ) (l : List ℕ) (j v : ℕ) → j < length l → v ≡ f (getD l j 0)
+    → take (j + 1) (set l j v) ++ map f (drop (j + 1) (set l j v)) ≡ take j l ++ map f (drop j l)
+map-turn-in-place f l j v h e = rw (drop-set-lt (j + 1) l j v (omega arith)) (map-turn f l l j v h h e)
 
 -- ---- `unit_words`: the words before j are unit words
 

@@ -44,8 +44,7 @@ fn squared(columns: [u32; 32]) -> [u32; 32]
     let mut product = columns;
     let mut j: usize = 0;
     while j < 32 {
-        let column = columns[j];
-        product[j] = apply(&columns, column);
+        product[j] = apply(&columns, product[j]);
         j += 1;
     }
     product

@@ -6,16 +6,15 @@ use native.Mathlib.Omega.{arith}
 use lib.ListN.{length, take, drop, length-set}
 use borrow.Author.Needs.{needs}
 use Rattle.bit_matrix.specs.Matrices.{applied}
-use Rattle.bit_matrix.proofs.Loops.{map-turn, map-end}
+use Rattle.bit_matrix.proofs.Loops.{map-turn-in-place, map-end}
 use Rattle.bit_matrix.proofs.squared.Statement.{statement}
 use Rattle.bit_matrix.proofs.squared.Tie as tie
 
 -- the first j columns of the product are done
 record Done (columns product : List ℕ) (j : ℕ) : Type 0 where
-  given : length columns ≡ 32
   size : length product ≡ 32
   within : j ≤ 32
-  done : take j product ++ map (applied columns) (drop j columns) ≡ map (applied columns) columns
+  done : take j product ++ map (applied columns) (drop j product) ≡ map (applied columns) columns
 
 abbrev Inv-loop : tie.InvT-loop
 Inv-loop columns product₀ j₀ product j = Done columns product j
@@ -24,16 +23,16 @@ abbrev μ-loop : tie.MeasureT-loop
 μ-loop columns product₀ j₀ product j = 32 - j
 
 loop-holds : tie.Need-loop-holds Inv-loop μ-loop
-loop-holds c = record { given = search needs; size = search needs; within = omega arith; done = refl }
-
-mul-column : tie.Need-mul-column Inv-loop μ-loop
-mul-column c = omega arith
-
-array-read-column : tie.Need-array-read-column Inv-loop μ-loop
-array-read-column c = omega arith
+loop-holds c = record { size = search needs; within = omega arith; done = refl }
 
 slice-aggregate-apply : tie.Need-slice-aggregate-apply Inv-loop μ-loop
 slice-aggregate-apply c = search needs
+
+mul-apply : tie.Need-mul-apply Inv-loop μ-loop
+mul-apply c = omega arith
+
+array-read-apply : tie.Need-array-read-apply Inv-loop μ-loop
+array-read-apply c = omega arith
 
 apply-requires : tie.Need-apply-requires Inv-loop μ-loop
 apply-requires c κs = tt
@@ -54,10 +53,9 @@ loop-again : tie.Need-loop-again Inv-loop μ-loop
 loop-again c =
     let l = c .before .before .before .loop in
     record {
-      given = l .inv .given;
       size = simp length-set (l .inv .size);
       within = omega arith;
-      done = map-turn _ _ (l .product) (l .j) _ (omega arith) (omega arith) (c .apply .ensures) ∙ l .inv .done;
+      done = map-turn-in-place _ (l .product) (l .j) _ (omega arith) (c .apply .ensures) ∙ l .inv .done;
     }
 
 returns : tie.Need-returns Inv-loop μ-loop
@@ -72,9 +70,9 @@ squared-spec =
     Inv-loop
     μ-loop
     loop-holds
-    mul-column
-    array-read-column
     slice-aggregate-apply
+    mul-apply
+    array-read-apply
     apply-requires
     mul-product
     array-write-product
