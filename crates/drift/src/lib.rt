@@ -18,7 +18,7 @@ ghost use Rattle.drift.specs.Drift.{
   madeOf,
   leavingOf,
   heldAfter,
-  positionAfter,
+  placeAfter,
   sumsOf,
   movedOf,
   pushedOf,
@@ -163,7 +163,7 @@ fn held_after(held: u32, size: u32) -> u32
 
 fn place_after(place: u32, size: u32) -> u32
     requires { ⌜ place < size ⌝ }
-    ensures { λ r. ⌜ r ≡ positionAfter place size ⌝ }
+    ensures { λ r. ⌜ r ≡ placeAfter place size ⌝ }
 {
     if place + 1 < size {
         return place + 1;

@@ -1,4 +1,4 @@
--- `drift::place_after` is `positionAfter`.
+-- `drift::place_after` is `placeAfter`.
 use borrow.Author.Tests.{lt-ltb, le-ltb}
 use borrow.Author.Needs.{needs}
 use Rattle.drift.proofs.place_after.Statement.{statement}
