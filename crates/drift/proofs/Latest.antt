@@ -12,7 +12,7 @@ use lib.Seq.{drop-cons, getD-take, take-set-lt, drop-set-lt, take-suc-set, drop-
 use mir.Syntax.{w16}
 use mir.Val.{SFits}
 use borrow.Author.Tests.{ltb-true, ltb-false, lt-ltb, le-ltb}
-use Rattle.drift.specs.Drift.{leavingOf, heldAfter, positionAfter}
+use Rattle.drift.specs.Drift.{leavingOf, heldAfter, placeAfter}
 use Rattle.drift.specs.Theorems.{Samples, latest, sumOf}
 use Rattle.signs.proofs.Sizes.{sum-size}
 
@@ -102,7 +102,7 @@ module _ (n : ℕ) (l : List ℤ) (room : n ≤ length l) where
           (ap (λ (m : ℕ). take m (set l p x)) (sym e) ∙ take-suc-set l p x (omega arith))
 
     -- a sample goes to its place
-    pub shape-more : (q : List ℤ) (held place : ℕ) → Shape n q held place l → Shape n (grown n q x) (heldAfter held n) (positionAfter place n) (set l place x)
+    pub shape-more : (q : List ℤ) (held place : ℕ) → Shape n q held place l → Shape n (grown n q x) (heldAfter held n) (placeAfter place n) (set l place x)
     shape-more q held place (filling a b h t) = by-test (ltb (place + 1) n) refl
       where
         k : length (q ++ (x ∷ [])) ≡ length q + 1

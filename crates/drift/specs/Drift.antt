@@ -80,8 +80,8 @@ abbrev pub heldAfter : ℕ → ℕ → ℕ
 heldAfter held size = cond (ltb held size) (held + 1) held
 
 -- The places are taken in turn.
-abbrev pub positionAfter : ℕ → ℕ → ℕ
-positionAfter place size = cond (ltb (place + 1) size) (place + 1) 0
+abbrev pub placeAfter : ℕ → ℕ → ℕ
+placeAfter place size = cond (ltb (place + 1) size) (place + 1) 0
 
 -- Both sums after one sample left and another came.
 abbrev pub sumsOf : ℤ → ℤ → ℤ → ℤ → Sums
@@ -92,7 +92,7 @@ unfoldable pub movedOf : Window → ℤ → Window
 movedOf w x =
     let out : ℤ = leavingOf (w .held) (w .size) (getD (w .places) (w .place) (pos 0)) in
     let sums : Sums = sumsOf (w .sum) (w .squares) out x in
-    windowOf (w .size) (heldAfter (w .held) (w .size)) (positionAfter (w .place) (w .size)) (set (w .places) (w .place) x) (sums .sum) (sums .squares)
+    windowOf (w .size) (heldAfter (w .held) (w .size)) (placeAfter (w .place) (w .size)) (set (w .places) (w .place) x) (sums .sum) (sums .squares)
 
 unfoldable pub pushedOf : Window → ℤ → WindowAnswer
 pushedOf w x = cond (fitOf (w .size) (w .held) (w .place) (w .sum) (w .squares)) (accepted (movedOf w x)) refusal

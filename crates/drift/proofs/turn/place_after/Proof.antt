@@ -1,4 +1,4 @@
--- `place_after` is `positionAfter`.
+-- `place_after` is `placeAfter`.
 use borrow.Author.Tests.{lt-ltb, le-ltb}
 use borrow.Author.Needs.{needs}
 use Rattle.drift.proofs.turn.place_after.Statement.{statement}

@@ -8,7 +8,7 @@ use mir.Facts.{toZ-ofZ}
 use mir.Syntax.{w16, w64}
 use borrow.Author.Needs.{needs}
 use Rattle.drift.specs.declared.sums.Sums.{Sums}
-use Rattle.drift.specs.Drift.{windowOf, accepted, leavingOf, heldAfter, positionAfter, sumsOf, movedOf, membersOf, Window}
+use Rattle.drift.specs.Drift.{windowOf, accepted, leavingOf, heldAfter, placeAfter, sumsOf, movedOf, membersOf, Window}
 use Rattle.drift.proofs.Signed.{back}
 use Rattle.drift.proofs.Fitness.{fit-true}
 use Rattle.drift.proofs.window.moved.Statement.{statement}
@@ -43,7 +43,7 @@ at-once : (w : Window) (x : ℤ) {out : ℤ} {sums : Sums} {held place : ℕ}
     → out ≡ leavingOf (w .held) (w .size) (getD (w .places) (w .place) (pos 0))
     → sums ≡ sumsOf (w .sum) (w .squares) out x
     → held ≡ heldAfter (w .held) (w .size)
-    → place ≡ positionAfter (w .place) (w .size)
+    → place ≡ placeAfter (w .place) (w .size)
     → record { code = 0; size = w .size; held = held; place = place; sum = sums .sum; squares = sums .squares } ≡ membersOf (accepted (movedOf w x))
 unfolding movedOf
 at-once w x o s h p = rw (p, h, s, o) refl
