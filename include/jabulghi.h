@@ -13,6 +13,8 @@
  * Processors. What is proved is the code, before it is compiled. The toolchain compiles it for x86-64 under Linux, any such processor; every call is
  * compared with another implementation there. For aarch64 and riscv64 the same modules are compiled by the same compiler (make lib TARGET=..), which
  * the toolchain does not support; that is tested under an emulator. Elsewhere nothing is tried. The lowest byte of a number comes first.
+ * A guess at a square root is made in doubles, and no result depends on it. So every call that makes samples raises the inexact flag: a trap on inexact
+ * would end the program, and an interrupt that makes such a call must save the registers of the floating-point unit.
  *
  * State and threads. The library has no data that is written, and needs memcpy and memset alone. Calls on different records, windows and marks may run
  * at once in several threads; on the same one, one after another. A record has 40 bytes, a window 8,224 and a set of marks 960; all calls together are some

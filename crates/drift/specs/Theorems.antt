@@ -1,4 +1,4 @@
--- What a window's sums are (document 02, Job 9), proved in proofs/Latest.antt.
+-- What a window's sums are (document 02, Job 9), proved in proofs/Theorems.antt.
 use Prim.Native.Nat.{ℕ, _-_, _≤_}
 use mathlib.Core.Path.{_≡_}
 use mathlib.Core.List.{List, [], _∷_, _++_}

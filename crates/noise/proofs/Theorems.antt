@@ -172,7 +172,7 @@ pairs-alike g = (refl, refl)
 
 -- ---- The twelve readings of document 01
 
--- an equation of two lists holds at each place
+-- readings whose samples are those of the table hold, each of them
 each-holds : (l : List Reading) → map (λ (r : Reading). samplesOf fractionBits (r .k) (r .v)) l
     ≡ map (λ (r : Reading). record { code = 0; first = r .first; second = r .second }) l
     → (rest : List Check) → AllHold rest → AllHold (map of-samples l ++ rest)
