@@ -22,8 +22,8 @@ use Rattle.noise.specs.Runs.{run as run-on-record}
 use Rattle.noise.proofs.Runs.{returned-code, next-is, call-sound, unfit-call, run-count}
 use Rattle.marks.specs.declared.label.Label.{Label}
 use Rattle.marks.specs.Marks.{Marks, places, hasName, labelOf, noLabel, noRecord, empty, placeOf, savePlace, idleCode, nameCode, placeCode, placeToSave, placeToReturn, placeToDrop, stored, savedOf, returnedOf, droppedOf, Sized}
-use Rattle.marks.specs.Runs.{State, MarkCall, codeIn, nextIn, run, Tally, tallied, tally, Untouched}
-use Rattle.marks.specs.Runs.MarkCall.{on-record, a-save, a-return, a-drop}
+use Rattle.marks.specs.Runs.{State, MarkCall, codeIn, nextIn, run, Tally, tallied, tally, Untouched, Becomes, AllBecome}
+use Rattle.marks.specs.Runs.MarkCall.{on-record, becomes, a-save, a-return, a-drop}
 use Rattle.marks.proofs.Placing.{each-none}
 use Rattle.marks.proofs.Names.{has}
 use Rattle.marks.proofs.First.{first-passes}
@@ -34,6 +34,7 @@ use Rattle.marks.proofs.Theorems.{save-sized, save-return, save-leaves,
 pub next-sized : (c : MarkCall) (s : State) → Sized (s .marks) → Sized (nextIn c s .marks)
 unfolding nextIn
 next-sized (on-record c) s h = h
+next-sized (becomes g) s h = h
 next-sized (a-save x) s h = save-sized (s .marks) h (s .generator) x
 next-sized (a-return x) s h = h
 next-sized (a-drop x) s h = drop-sized (s .marks) h x
@@ -49,6 +50,7 @@ pub untouched : (l : List MarkCall) (s : State) (x : List ℕ) (h : Generator) �
 unfolding run nextIn
 untouched [] s x h sized u = refl
 untouched (on-record c ∷ l) s x h sized u = untouched l (nextIn (on-record c) s) x h sized u
+untouched (becomes g ∷ l) s x h sized u = untouched l (nextIn (becomes g) s) x h sized u
 untouched (a-save y ∷ l) s x h sized (other, u) =
     untouched l (nextIn (a-save y) s) x h (save-sized (s .marks) sized (s .generator) y) u
     ∙ save-leaves (s .marks) sized (s .generator) y h x other
@@ -56,7 +58,7 @@ untouched (a-return y ∷ l) s x h sized u = untouched l (nextIn (a-return y) s)
 untouched (a-drop y ∷ l) s x h sized (other, u) =
     untouched l (nextIn (a-drop y) s) x h (drop-sized (s .marks) sized y) u ∙ drop-leaves (s .marks) sized y h x other
 
--- Save, then any run that does not touch that mark, then return: refused for the record passed in alone; accepted, the record is the one
+-- Save, then any run that does not touch that mark, whatever record it becomes meanwhile, then return: refused for the record passed in alone; accepted, the record is the one
 -- that was saved,
 pub comes-back : (s : State) (x : List ℕ) (l : List MarkCall) → Sized (s .marks) → codeIn (a-save x) s ≡ 0 → Untouched x l
     → (h : Generator) → returnedOf (run l (nextIn (a-save x) s) .marks) h x
@@ -116,11 +118,12 @@ module _ (Now Saved : Generator → Type 0)
   stored-each marks p m g sized new old =
       put-both Under (marks .labels) (marks .records) p m g (sized .labels-size ∙ sym (sized .records-size)) new old
 
-  -- Where a call on the record keeps it, what is saved is so, and what is returned to is so, every call keeps both.
-  pub next-each : (c : MarkCall) (s : State) → Each Now Saved s → Each Now Saved (nextIn c s)
+  -- Where a call on the record keeps it, what is saved is so, what is returned to is so, and so is a record from elsewhere, every call keeps both.
+  pub next-each : (c : MarkCall) (s : State) → Becomes Now c → Each Now Saved s → Each Now Saved (nextIn c s)
   unfolding nextIn
-  next-each (on-record c) s h = record { sized = h .sized; current = goes-on c (s .generator) (h .current); kept = h .kept }
-  next-each (a-save x) s h =
+  next-each (becomes g) s b h = record { sized = h .sized; current = b; kept = h .kept }
+  next-each (on-record c) s b h = record { sized = h .sized; current = goes-on c (s .generator) (h .current); kept = h .kept }
+  next-each (a-save x) s b h =
       record {
         sized = save-sized (s .marks) (h .sized) (s .generator) x;
         current = h .current;
@@ -129,7 +132,7 @@ module _ (Now Saved : Generator → Type 0)
             (λ fits good at. stored-each (s .marks) _ (labelOf x) (s .generator) (h .sized)
             (λ used. is-saved (s .generator) fits (h .current)) (h .kept));
       }
-  next-each (a-return x) s h =
+  next-each (a-return x) s b h =
       record {
         sized = h .sized;
         current =
@@ -138,7 +141,7 @@ module _ (Now Saved : Generator → Type 0)
             (omega (arith, at, h .sized .labels-size))) .used)));
         kept = h .kept;
       }
-  next-each (a-drop x) s h =
+  next-each (a-drop x) s b h =
       record {
         sized = drop-sized (s .marks) (h .sized) x;
         current = h .current;
@@ -147,10 +150,10 @@ module _ (Now Saved : Generator → Type 0)
             (λ at. stored-each (s .marks) _ noLabel noRecord (h .sized) (λ used. absurd (false≢true used)) (h .kept));
       }
 
-  pub run-each : (l : List MarkCall) (s : State) → Each Now Saved s → Each Now Saved (run l s)
+  pub run-each : (l : List MarkCall) (s : State) → AllBecome Now l → Each Now Saved s → Each Now Saved (run l s)
   unfolding run
-  run-each [] s h = h
-  run-each (c ∷ l) s h = run-each l (nextIn c s) (next-each c s h)
+  run-each [] s b h = h
+  run-each (c ∷ l) s (b, bs) h = run-each l (nextIn c s) bs (next-each c s b h)
 
 -- ---- The count
 
@@ -178,6 +181,7 @@ step : (c : MarkCall) (s : State) (t : Tally) → Each Ranged Ranged s → s .ge
     → nextIn c s .generator .count ≡ tallied c s t .base + tallied c s t .since
 unfolding nextIn tallied codeIn
 step (on-record c) s t h e = call-count c (s .generator) (h .current) ∙ omega (arith, e)
+step (becomes g) s t h e = sym (add-zero (g .count))
 step (a-save x) s t h e = e
 step (a-return x) s t h e = by-test (eqb (returnedOf (s .marks) (s .generator) x .code) 0) refl
   where
@@ -192,24 +196,24 @@ step (a-return x) s t h e = by-test (eqb (returnedOf (s .marks) (s .generator) x
 step (a-drop x) s t h e = e
 
 -- A run keeps the count: where it began and the pairs handed out or skipped since.
-pub run-tally : (l : List MarkCall) (s : State) (t : Tally) → Each Ranged Ranged s → s .generator .count ≡ t .base + t .since
+pub run-tally : (l : List MarkCall) (s : State) (t : Tally) → AllBecome Ranged l → Each Ranged Ranged s → s .generator .count ≡ t .base + t .since
     → run l s .generator .count ≡ tally l s t .base + tally l s t .since
 unfolding run tally
-run-tally [] s t h e = e
-run-tally (c ∷ l) s t h e =
-    run-tally l (nextIn c s) (tallied c s t)
-    (next-each Ranged Ranged call-ranged (λ g fits r. r) (λ g r. r) c s h) (step c s t h e)
+run-tally [] s t b h e = e
+run-tally (c ∷ l) s t (b, bs) h e =
+    run-tally l (nextIn c s) (tallied c s t) bs
+    (next-each Ranged Ranged call-ranged (λ g fits r. r) (λ g r. r) c s b h) (step c s t h e)
 
--- From seeding on, accepted or refused, with any set: the count is 0, or the saved count at the last accepted return, and what was handed
--- out or skipped since.
-pub count-from-seeding : (a b : Stream) (marks : Marks) (l : List MarkCall) → InRange a → InRange b
+-- From seeding on, accepted or refused, with any set and any records from elsewhere: the count is 0, or the count of the last record that came by an
+-- accepted return or from elsewhere, and what was handed out or skipped since.
+pub count-from-seeding : (a b : Stream) (marks : Marks) (l : List MarkCall) → InRange a → InRange b → AllBecome Ranged l
     → let s : State = record { generator = seedFrom a b .next; marks = marks } in
     Sized marks → ((i : ℕ) → getD (marks .labels) i noLabel .used ≡ true → Ranged (getD (marks .records) i noRecord))
     → run l s .generator .count
     ≡ tally l s (record { base = 0; since = 0 }) .base + tally l s (record { base = 0; since = 0 }) .since
-count-from-seeding a b marks l ra rb sized saved =
+count-from-seeding a b marks l ra rb others sized saved =
     let (na, nb, zero-count, _, _) = seeded-range a b ra rb in
-    run-tally l (record { generator = seedFrom a b .next; marks = marks }) (record { base = 0; since = 0 })
+    run-tally l (record { generator = seedFrom a b .next; marks = marks }) (record { base = 0; since = 0 }) others
     (record { sized = sized; current = record { range-a = na; range-b = nb }; kept = saved }) zero-count
 
 -- ---- Sets grown from the empty one
@@ -236,10 +240,11 @@ fit-idle : (g : Generator) → Sound g → idleCode g ≡ openCode g
 unfolding idleCode
 fit-idle g h = rw (sound-accepted g h) (lone-cause (openCode g))
 
-module _ (g : Generator) (fits : Sound g) (l : List MarkCall) where
+-- a run of a fit record in which every record from elsewhere is fit, as one that an accepted seeding returned is
+module _ (g : Generator) (fits : Sound g) (l : List MarkCall) (others : AllBecome Sound l) where
   grown : Each Sound Settled (run l (record { generator = g; marks = empty }))
   grown =
-      run-each Sound Settled call-sound idle (λ r h. h .fits) l (record { generator = g; marks = empty })
+      run-each Sound Settled call-sound idle (λ r h. h .fits) l (record { generator = g; marks = empty }) others
       (record {
         sized = empty-sized;
         current = fits;
