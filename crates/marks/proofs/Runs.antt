@@ -14,7 +14,7 @@ use Rattle.streams.specs.declared.Generator.{Generator}
 use Rattle.streams.specs.declared.RecordAnswer.{RecordAnswer}
 use Rattle.streams.specs.Streams.{Call, recordCode, openCode, noteCode, ownCode, roomCode, firstCause, ifAccepted}
 use Rattle.streams.specs.Recurrence.{InRange, Sound, seedFrom}
-use Rattle.streams.proofs.Theorems.{sound, sound-accepted, seeded-range, fit-call}
+use Rattle.streams.proofs.Theorems.{sound, sound-accepted, seeded, seeded-range, fit-call}
 use Rattle.streams.proofs.Causes.{lone-cause}
 use Rattle.noise.specs.Noise.{blockHolds}
 use Rattle.noise.specs.Runs.{returned, handed, sumOver}
@@ -24,6 +24,7 @@ use Rattle.marks.specs.declared.label.Label.{Label}
 use Rattle.marks.specs.Marks.{Marks, places, hasName, labelOf, noLabel, noRecord, empty, placeOf, savePlace, idleCode, nameCode, placeCode, placeToSave, placeToReturn, placeToDrop, stored, savedOf, returnedOf, droppedOf, Sized}
 use Rattle.marks.specs.Runs.{State, MarkCall, codeIn, nextIn, run, Tally, tallied, tally, Untouched, Becomes, AllBecome}
 use Rattle.marks.specs.Runs.MarkCall.{on-record, becomes, a-save, a-return, a-drop}
+use Rattle.marks.specs.Theorems.{ComesBack, Ranged, AllSaved, Counts, Settled, Grown, OfRuns}
 use Rattle.marks.proofs.Placing.{each-none}
 use Rattle.marks.proofs.Names.{has}
 use Rattle.marks.proofs.First.{first-passes}
@@ -58,30 +59,25 @@ untouched (a-return y ∷ l) s x h sized u = untouched l (nextIn (a-return y) s)
 untouched (a-drop y ∷ l) s x h sized (other, u) =
     untouched l (nextIn (a-drop y) s) x h (drop-sized (s .marks) sized y) u ∙ drop-leaves (s .marks) sized y h x other
 
--- Save, then any run that does not touch that mark, whatever record it becomes meanwhile, then return: refused for the record passed in alone; accepted, the record is the one
--- that was saved,
-pub comes-back : (s : State) (x : List ℕ) (l : List MarkCall) → Sized (s .marks) → codeIn (a-save x) s ≡ 0 → Untouched x l
-    → (h : Generator) → returnedOf (run l (nextIn (a-save x) s) .marks) h x
-    ≡ record { code = idleCode h; next = ifAccepted (idleCode h) (s .generator) h }
-unfolding codeIn nextIn
-comes-back s x l sized e u h =
-    untouched l (nextIn (a-save x) s) x h (save-sized (s .marks) sized (s .generator) x) u
-    ∙ save-return (s .marks) sized (s .generator) x h e
+-- Save, then any run that does not touch that mark, then return: the saved record.
+module _ (s : State) (x : List ℕ) (l : List MarkCall) (sized : Sized (s .marks)) (e : codeIn (a-save x) s ≡ 0) (u : Untouched x l) where
+  answer : (h : Generator) → returnedOf (run l (nextIn (a-save x) s) .marks) h x
+      ≡ record { code = idleCode h; next = ifAccepted (idleCode h) (s .generator) h }
+  unfolding codeIn nextIn
+  answer h =
+      untouched l (nextIn (a-save x) s) x h (save-sized (s .marks) sized (s .generator) x) u
+      ∙ save-return (s .marks) sized (s .generator) x h e
 
--- so that every block from there, of either width, holds the samples that followed the save.
-pub as-before : (s : State) (x : List ℕ) (l : List MarkCall) → Sized (s .marks) → codeIn (a-save x) s ≡ 0 → Untouched x l
-    → let later : State = run l (nextIn (a-save x) s) in
-    codeIn (a-return x) later ≡ 0
-    → (nextIn (a-return x) later .generator ≡ s .generator)
-    × ((f : ℕ) (old : List ℤ) → blockHolds f (nextIn (a-return x) later .generator) old ≡ blockHolds f (s .generator) old)
-unfolding codeIn nextIn
-as-before s x l sized e u k =
-    let later = run l (nextIn (a-save x) s) in
-    let answer = comes-back s x l sized e u (later .generator) in
-    let fits : idleCode (later .generator) ≡ 0 = sym (ap (λ (r : RecordAnswer). r .code) answer) ∙ k in
-    let is : returnedOf (later .marks) (later .generator) x .next ≡ s .generator
-    = ap (λ (r : RecordAnswer). r .next) answer ∙ rw fits in
-    (is, λ f old. ap (λ (g : Generator). blockHolds f g old) is)
+  exactly : let later : State = run l (nextIn (a-save x) s) in
+      codeIn (a-return x) later ≡ 0 → nextIn (a-return x) later .generator ≡ s .generator
+  unfolding codeIn nextIn
+  exactly k =
+      let later = run l (nextIn (a-save x) s) in
+      let fits : idleCode (later .generator) ≡ 0 = sym (ap (λ (r : RecordAnswer). r .code) (answer (later .generator))) ∙ k in
+      ap (λ (r : RecordAnswer). r .next) (answer (later .generator)) ∙ rw fits
+
+  pub comes-back : ComesBack s x l
+  comes-back = record { answer = answer; exactly = exactly; samples = λ k f old. ap (λ (g : Generator). blockHolds f g old) (exactly k) }
 
 -- ---- What holds of every record
 
@@ -157,11 +153,6 @@ module _ (Now Saved : Generator → Type 0)
 
 -- ---- The count
 
--- Registers of 32 bits, as every record of a program has.
-pub record Ranged (g : Generator) : Type 0 where
-  pub range-a : InRange (g .a)
-  pub range-b : InRange (g .b)
-
 call-ranged : (c : Call) (g : Generator) → Ranged g → Ranged (returned c g .next)
 call-ranged c g h = by-test (eqb (recordCode g) 0) refl
   where
@@ -197,20 +188,16 @@ step (a-drop x) s t h e = e
 
 -- A run keeps the count: where it began and the pairs handed out or skipped since.
 pub run-tally : (l : List MarkCall) (s : State) (t : Tally) → AllBecome Ranged l → Each Ranged Ranged s → s .generator .count ≡ t .base + t .since
-    → run l s .generator .count ≡ tally l s t .base + tally l s t .since
+    → Counts l s t
 unfolding run tally
 run-tally [] s t b h e = e
 run-tally (c ∷ l) s t (b, bs) h e =
     run-tally l (nextIn c s) (tallied c s t) bs
     (next-each Ranged Ranged call-ranged (λ g fits r. r) (λ g r. r) c s b h) (step c s t h e)
 
--- From seeding on, accepted or refused, with any set and any records from elsewhere: the count is 0, or the count of the last record that came by an
--- accepted return or from elsewhere, and what was handed out or skipped since.
 pub count-from-seeding : (a b : Stream) (marks : Marks) (l : List MarkCall) → InRange a → InRange b → AllBecome Ranged l
-    → let s : State = record { generator = seedFrom a b .next; marks = marks } in
-    Sized marks → ((i : ℕ) → getD (marks .labels) i noLabel .used ≡ true → Ranged (getD (marks .records) i noRecord))
-    → run l s .generator .count
-    ≡ tally l s (record { base = 0; since = 0 }) .base + tally l s (record { base = 0; since = 0 }) .since
+    → Sized marks → AllSaved Ranged marks
+    → Counts l (record { generator = seedFrom a b .next; marks = marks }) (record { base = 0; since = 0 })
 count-from-seeding a b marks l ra rb others sized saved =
     let (na, nb, zero-count, _, _) = seeded-range a b ra rb in
     run-tally l (record { generator = seedFrom a b .next; marks = marks }) (record { base = 0; since = 0 }) others
@@ -226,11 +213,6 @@ each-free (suc n) (suc i) x = each-free n i x
 empty-sized : Sized empty
 empty-sized = record { labels-size = length-replicate places noLabel; records-size = length-replicate places noRecord }
 
--- a saved record: fit, with no request open
-pub record Settled (g : Generator) : Type 0 where
-  pub fits : Sound g
-  pub none-open : openCode g ≡ 0
-
 idle : (g : Generator) → idleCode g ≡ 0 → Sound g → Settled g
 unfolding idleCode
 idle g e h = record { fits = h; none-open = each-none (recordCode g ∷ openCode g ∷ []) e 1 }
@@ -240,10 +222,10 @@ fit-idle : (g : Generator) → Sound g → idleCode g ≡ openCode g
 unfolding idleCode
 fit-idle g h = rw (sound-accepted g h) (lone-cause (openCode g))
 
--- a run of a fit record in which every record from elsewhere is fit, as one that an accepted seeding returned is
+-- a run of a fit record in which every record from elsewhere is fit
 module _ (g : Generator) (fits : Sound g) (l : List MarkCall) (others : AllBecome Sound l) where
-  grown : Each Sound Settled (run l (record { generator = g; marks = empty }))
-  grown =
+  held : Each Sound Settled (run l (record { generator = g; marks = empty }))
+  held =
       run-each Sound Settled call-sound idle (λ r h. h .fits) l (record { generator = g; marks = empty }) others
       (record {
         sized = empty-sized;
@@ -251,24 +233,23 @@ module _ (g : Generator) (fits : Sound g) (l : List MarkCall) (others : AllBecom
         kept = λ i used. absurd (false≢true (sym (ap (λ (label : Label). label .used) (each-free places i noLabel)) ∙ used));
       })
 
-  -- Every saved record is fit, with no request open.
-  pub saved-settled : (i : ℕ) → getD (run l (record { generator = g; marks = empty }) .marks .labels) i noLabel .used ≡ true
-      → Settled (getD (run l (record { generator = g; marks = empty }) .marks .records) i noRecord)
-  saved-settled = grown .kept
-
-  -- An accepted generator is refused later only for its note, for a call's own arguments, or for its count,
-  pub never-refused : (c : Call) → let s : State = run l (record { generator = g; marks = empty }) in
-      codeIn (on-record c) s
-      ≡ firstCause (noteCode c (s .generator) ∷ ownCode c (s .generator) ∷ roomCode c (s .generator) ∷ [])
-  unfolding codeIn
-  never-refused c = returned-code c _ ∙ fit-call c _ (grown .current)
-
-  -- by a save or a return for its note or the name, and by a drop for the name.
-  pub names-refused : (x : List ℕ) → let s : State = run l (record { generator = g; marks = empty }) in
-      (codeIn (a-save x) s
-      ≡ firstCause (openCode (s .generator) ∷ nameCode x ∷ placeCode (savePlace (s .marks .labels) x) 20 ∷ []))
-      × (codeIn (a-return x) s
-      ≡ firstCause (openCode (s .generator) ∷ nameCode x ∷ placeCode (placeOf (s .marks .labels) x) 19 ∷ []))
-      × (codeIn (a-drop x) s ≡ firstCause (nameCode x ∷ placeCode (placeOf (s .marks .labels) x) 19 ∷ []))
+  pub grown : Grown g l
   unfolding codeIn savedOf placeToSave returnedOf placeToReturn droppedOf placeToDrop
-  names-refused x = (rw (fit-idle _ (grown .current)), rw (fit-idle _ (grown .current)), refl)
+  grown =
+      record {
+        saved-settled = held .kept;
+        never-refused = λ c. returned-code c _ ∙ fit-call c _ (held .current);
+        names-refused = λ x. (rw (fit-idle _ (held .current)), rw (fit-idle _ (held .current)), refl);
+      }
+
+seeded-sound : (a b : Stream) → InRange a → InRange b → seedFrom a b .code ≡ 0 → Sound (seedFrom a b .next)
+seeded-sound a b ra rb e = let (is-fresh, is-sound) = seeded a b ra rb e in rw is-fresh is-sound
+
+pub of-runs : OfRuns
+of-runs =
+    record {
+      comes-back = comes-back;
+      count-from-seeding = count-from-seeding;
+      grown = λ a b l ra rb e others. grown (seedFrom a b .next) (seeded-sound a b ra rb e) l others;
+      seeded = seeded-sound;
+    }
