@@ -15,7 +15,7 @@ use Rattle.job_lines.specs.Forms.{Form, seeds, sigma, shot, noForm, readLine, p
 use Rattle.listing_writer.specs.Listing.{header, endRow}
 use Rattle.job_refusals.specs.Refusals.{formless, misplaced, tooMany, beyond, seedCode, refusal}
 use Rattle.job.specs.Job.{Outcome, refused, listed, onto, outcome, start, listingOf, jobOf, answerOf, settingAfter, printed}
-use Rattle.job.specs.Theorems.{Theorems, Accepts, textOf, rows, isShot, shots}
+use Rattle.job.specs.Theorems.{Theorems, Accepts, textOf, rows, isShot, shots, Drawn}
 use Rattle.job.specs.Private.{Steady, rowLength}
 use Rattle.job.specs.declared.state.Setting.{Setting}
 use Rattle.listing_writer.proofs.Rows.{header-length, end-length}
@@ -24,6 +24,7 @@ use Rattle.job_refusals.proofs.Accepted.{accepted-line}
 use Rattle.job.proofs.Bounds.{steps}
 use Rattle.job.proofs.Going.{outcome-yes, outcome-no}
 use Rattle.job.proofs.Answered.{job-short}
+use Rattle.job.proofs.Pairs.{drawn-pairs}
 use Rattle.job.proofs.Jobs.{
   onto-refused,
   outcome-bad,
@@ -209,10 +210,16 @@ job-listed text bytes e =
     let (xs, a, n, t, b) = listed-says text bytes (short-job text bytes e) in
     (xs, a, n, t, b ∙ rw (shots-count xs a n))
 
+shot-pairs : (text bytes : List ℕ) → jobOf text ≡ listed bytes → Drawn text bytes
+shot-pairs text bytes e =
+    let (xs, a, n, t, b) = listed-says text bytes (short-job text bytes e) in
+    drawn-pairs text bytes xs a n t b
+
 pub theorems : Theorems
 theorems = record {
   listed-job = listed-job;
   job-listed = job-listed;
+  shot-pairs = shot-pairs;
   first-bad = first-bad;
   missing-line = missing-line;
   longest = longest;
