@@ -20,6 +20,7 @@ use Rattle.misclosure.proofs.Listings.{
   accepted-longest,
   linked-first,
   linked-second,
+  lines-outcome,
   equal-outcome,
   chosen-linked,
 }
@@ -83,6 +84,7 @@ theorems = record {
         northing = rounded (total cosine l);
       }) same;
   equal-readings = λ rows h. ap intervalsOf (equal-outcome rows h) ∙ equal-answer (textOf false rows);
+  equal-lines = λ one two h. ap intervalsOf (lines-outcome one two h) ∙ equal-answer one;
   intervals-joined = λ first second h few.
       let p = intervals-linked first (first-few first second few) (linked-first true first second [] h) in
       let q = intervals-linked second (second-few first second few) (linked-second true first second [] h) in

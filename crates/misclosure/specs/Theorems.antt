@@ -7,8 +7,9 @@ use lib.IntN.{pos, _+ℤ_}
 use lib.ListN.{length}
 use Rattle.text.specs.Limits.{decimalBound}
 use Rattle.text.specs.Fields.{name}
+use Rattle.text.specs.Scan.{lines}
 use Rattle.listing_writer.specs.Listing.{endRow}
-use Rattle.listing_reader.specs.Entries.{headerOf, rowOf}
+use Rattle.listing_reader.specs.Entries.{headerOf, isHeader, readEntry, rowOf}
 use Rattle.sums.specs.Sums.{Shot, sine, cosine, total, rounded, mostShots, mostDistance}
 use Rattle.sums.specs.Exact.{exactSine, exactCosine, Close}
 use Rattle.sums.specs.Spans.{Span, Chosen, lowShots, Spans}
@@ -67,6 +68,20 @@ unfoldable pub EqualRows : List Row → Type 0
 EqualRows [] = Unit {0}
 EqualRows (r ∷ rows) =
     (name (r .from) ≡ true) × (name (r .to) ≡ true) × (r .low < decimalBound) × (r .step < decimalBound) × (r .low ≡ r .high) × EqualRows rows
+
+-- two listings, the first of one distance a shot, the second of two, that say the same line by line, whatever each line says: low equals high in each
+-- shot, and where a line of one is no shot and no end (6), so is the other's; the headers are both right or both wrong
+unfoldable pub SayAlike : List (List ℕ) → List (List ℕ) → Type 0
+SayAlike [] [] = Unit {0}
+SayAlike [] (m ∷ ms) = ⊥
+SayAlike (l ∷ ls) [] = ⊥
+SayAlike (l ∷ ls) (m ∷ ms) = (readEntry false l ≡ readEntry true m) × SayAlike ls ms
+
+unfoldable pub ListAlike : List (List ℕ) → List (List ℕ) → Type 0
+ListAlike [] [] = Unit {0}
+ListAlike [] (m ∷ ms) = ⊥
+ListAlike (l ∷ ls) [] = ⊥
+ListAlike (l ∷ ls) (m ∷ ms) = (isHeader false l ≡ isHeader true m) × SayAlike ls ms
 
 -- the same shots, each with the distance that was chosen for it
 unfoldable pub chosenRows : List Row → List Shot → List Row
@@ -143,6 +158,8 @@ pub record Theorems : Type 0 where
       }
   -- "Where low equals high throughout, it is Job 13's result": code and line too, where it is refused
   pub equal-readings : (rows : List Row) → EqualRows rows → intervalsIn rows ≡ asIntervals (missIn rows)
+  -- and where it is no listing of any shots: code (6 among them) and line, sums 0
+  pub equal-lines : (one two : List ℕ) → ListAlike (lines one) (lines two) → intervalsOf (listingOf true two) ≡ asIntervals (missOf (listingOf false one))
   -- joined runs
   pub intervals-joined : (first second : List Row) → Linked true [] (first ++ second) → length (first ++ second) ≤ mostShots
       → (intervalsIn (first ++ second) .east ≡ intervalsIn first .east +ᵉ intervalsIn second .east)
