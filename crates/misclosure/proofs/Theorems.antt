@@ -64,6 +64,7 @@ theorems = record {
       let (few, ranged) = accepted-ranged false text l e in
       let a = choice-allowed l (lowShots l) few ranged (low-chosen l ranged) in
       rw e (sums.theorems .close (lowShots l) a, sums.theorems .closer (lowShots l) a);
+  within-margin = λ text l e. rw e (sums.theorems .within-margin (lowShots l));
   no-shots = rw (linked-accepted false [] tt (omega arith));
   joined = λ first second h few.
       let p = miss-linked first (first-few first second few) (linked-first false first second [] h) in
@@ -72,6 +73,7 @@ theorems = record {
   spans = λ text l e.
       let (few, ranged) = accepted-ranged true text l e in
       rw e (spans l few ranged);
+  fine-spans = λ text l e. rw e (sums.theorems .fine-spans l);
   choice = λ rows c h few e.
       let (linked, count, same) = chosen-linked rows c [] h e in
       miss-linked (chosenRows rows c) (omega (arith, few, count)) linked

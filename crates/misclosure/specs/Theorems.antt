@@ -13,6 +13,7 @@ use Rattle.listing_reader.specs.Entries.{headerOf, isHeader, readEntry, rowOf}
 use Rattle.sums.specs.Sums.{Shot, sine, cosine, total, rounded, mostShots, mostDistance}
 use Rattle.sums.specs.Exact.{exactSine, exactCosine, Close}
 use Rattle.sums.specs.Spans.{Span, Chosen, lowShots, Spans}
+use Rattle.sums.specs.Margin.{distances, margin, CloseBy, FineSpans}
 use Rattle.misclosure.specs.Misclosure.{mostStep, follows, accepted, listingOf, missOf, bothEnds, intervalsOf}
 use Rattle.misclosure.specs.declared.Miss.{Miss}
 use Rattle.misclosure.specs.declared.IntervalSums.{IntervalSums}
@@ -134,6 +135,9 @@ pub record Theorems : Type 0 where
   pub close : (text : List ℕ) (l : List Span) → listingOf false text ≡ accepted l
       → Close 3 (lowShots l) (missOf (listingOf false text) .easting) (missOf (listingOf false text) .northing)
       × Close 2 (lowShots l) (missOf (listingOf false text) .easting) (missOf (listingOf false text) .northing)
+  -- and at most 1/2 + 3 L / 2^30 mm, L the run's length in mm
+  pub within-margin : (text : List ℕ) (l : List Span) → listingOf false text ≡ accepted l
+      → CloseBy (margin (distances (lowShots l))) (lowShots l) (missOf (listingOf false text) .easting) (missOf (listingOf false text) .northing)
   -- "No shots give 0 and 0."
   pub no-shots : missIn [] ≡ record { code = 0; line = 0; east = pos 0; north = pos 0; easting = pos 0; northing = pos 0 }
   -- "Where a run of shots joined to a second is accepted, it adds up, before rounding, to the two sums added."
@@ -146,6 +150,11 @@ pub record Theorems : Type 0 where
       (intervalsOf (listingOf true text) .easting .low) (intervalsOf (listingOf true text) .easting .high)
       × Spans cosine exactCosine l (intervalsOf (listingOf true text) .north .low) (intervalsOf (listingOf true text) .north .high)
       (intervalsOf (listingOf true text) .northing .low) (intervalsOf (listingOf true text) .northing .high)
+  -- the exact sum of any choice, fractions of a millimetre among them, lies between the ends, widened by 1/2 + 3 L / 2^30 mm, L the longest that the
+  -- run can be
+  pub fine-spans : (text : List ℕ) (l : List Span) → listingOf true text ≡ accepted l
+      → FineSpans exactSine l (intervalsOf (listingOf true text) .easting .low) (intervalsOf (listingOf true text) .easting .high)
+      × FineSpans exactCosine l (intervalsOf (listingOf true text) .northing .low) (intervalsOf (listingOf true text) .northing .high)
   -- the sums of a choice are those of Job 13's listing with the distances chosen
   pub choice : (rows : List Row) (c : List Shot) → Linked true [] rows → length rows ≤ mostShots → Chosen (spansIn rows) c
       → missIn (chosenRows rows c) ≡ record {
