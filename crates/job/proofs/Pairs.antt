@@ -1,30 +1,28 @@
 -- Shot i of a listed job takes pair i of the record that its seeds give.
-use Prim.Native.Nat.{ℕ, suc, _+_, _-_, _≤_, _<_}
+use Prim.Native.Nat.{ℕ, _+_, _-_, _≤_}
 use native.Mathlib.Omega.{arith}
 use mathlib.Core.Path.{_≡_, refl, sym, ap, ap₂, _∙_}
-use mathlib.Core.Bool.{false, true≢false, _||_}
-use mathlib.Core.List.{List, [], _∷_, _++_, map, append-assoc}
-use lib.Dec.{eqb, ltb}
+use mathlib.Core.Bool.{true≢false}
+use mathlib.Core.List.{List, [], _∷_, _++_, map}
+use lib.Dec.{eqb}
 use lib.ListN.{length, length-map}
-use borrow.Author.Tests.{eqb-true, ltb-false, not-false}
+use borrow.Author.Tests.{eqb-true, not-false}
 use Rattle.streams.specs.declared.Generator.{Generator}
 use Rattle.streams.specs.declared.Stream.{Stream}
-use Rattle.streams.specs.declared.RecordAnswer.{RecordAnswer}
 use Rattle.streams.specs.Streams.{seedOf, after, fresh}
 use Rattle.streams.specs.Recurrence.{Sound}
 use Rattle.streams.proofs.Theorems.{after-add, seeded}
 use Rattle.box_muller.specs.Steps.{fractionBits}
 use Rattle.noise.specs.Noise.{pairOf}
 use Rattle.noise.proofs.Theorems.{pair-accepted}
-use Rattle.job_refusals.specs.Limits.{mostSeed, lastLine}
-use Rattle.job_refusals.specs.Refusals.{formless, misplaced, beyond, seedCode, refusal}
-use Rattle.job_refusals.proofs.Refused.{or-false}
+use Rattle.job_refusals.specs.Limits.{lastLine}
+use Rattle.job_refusals.specs.Refusals.{formless, misplaced, seedCode, refusal}
+use Rattle.job_refusals.proofs.Refused.{seeds-within}
 use Rattle.job_refusals.proofs.Accepted.{accepted-line, line-few}
 use Rattle.job_lines.specs.Forms.{Form, seeds, sigma, shot, noForm}
 use Rattle.listing_writer.specs.Listing.{header, endRow}
 use Rattle.job.specs.Job.{start, printed, settingAfter}
 use Rattle.job.specs.Theorems.{Accepts, textOf, rows, ShotLine, formOf, rowsFrom, Drawn}
-use Rattle.job.specs.declared.state.Setting.{Setting}
 
 -- the rows of shots, where the setting's record is i pairs on
 rows-pairs : (xs : List ShotLine) (i d b : ℕ) (g : Generator)
@@ -72,17 +70,8 @@ module _ (a0 a1 a2 b0 b1 b2 : ℕ) (e : refusal 1 (seeds a0 a1 a2 b0 b1 b2) ≡ 
   code-0 = accepted-line 1 (seeds a0 a1 a2 b0 b1 b2) e .fit
 
   sound : (seedOf a0 a1 a2 b0 b1 b2 .next ≡ fresh one two) × Sound (fresh one two)
-  unfolding beyond
   sound =
-      let (ra, rb) = or-false (ltb mostSeed a0 || ltb mostSeed a1 || ltb mostSeed a2) (ltb mostSeed b0 || ltb mostSeed b1 || ltb mostSeed b2)
-      (accepted-line 1 (seeds a0 a1 a2 b0 b1 b2) e .ranged) in
-      let three : (x y z : ℕ) → (ltb mostSeed x || ltb mostSeed y || ltb mostSeed z) ≡ false → (x ≤ mostSeed) × (y ≤ mostSeed) × (z ≤ mostSeed) =
-      λ x y z h.
-      let (p, r) = or-false (ltb mostSeed x || ltb mostSeed y) (ltb mostSeed z) h in
-      let (s, t) = or-false (ltb mostSeed x) (ltb mostSeed y) p in
-      (ltb-false mostSeed x s, ltb-false mostSeed y t, ltb-false mostSeed z r) in
-      let (x0, x1, x2) = three a0 a1 a2 ra in
-      let (y0, y1, y2) = three b0 b1 b2 rb in
+      let ((x0, x1, x2), (y0, y1, y2)) = seeds-within a0 a1 a2 b0 b1 b2 (accepted-line 1 (seeds a0 a1 a2 b0 b1 b2) e .ranged) in
       seeded one two
       (record { s0-range = omega arith; s1-range = omega arith; s2-range = omega arith })
       (record { s0-range = omega arith; s1-range = omega arith; s2-range = omega arith })

@@ -2,6 +2,7 @@
 use Prim.Native.Nat.{ℕ, _+_, _≤_, _<_}
 use mathlib.Core.Path.{_≡_}
 use mathlib.Core.List.{List, [], _∷_, _++_, map}
+use mathlib.Core.Logic.{_↔_}
 use lib.ListN.{length}
 use Rattle.streams.specs.declared.Generator.{Generator}
 use Rattle.streams.specs.Streams.{seedOf, after}
@@ -97,6 +98,10 @@ pub record Theorems : Type 0 where
       → jobOf text ≡ refused (refusal (1 + length xs) (readLine l)) (1 + length xs)
   pub missing-line : (text : List ℕ) (xs : List Form) → length text ≤ mostBytes → Accepts 1 xs → lines text ≡ map printLine xs
       → length xs < 2 → jobOf text ≡ refused 8 (1 + length xs)
+  -- 5 just where the job is "over 60,000 bytes", and 10 just where it is listed and the listing is "longer than the buffer"
+  pub just-5 : (text : List ℕ) (room : ℕ) → (answerOf (jobOf text) room .code ≡ 5) ↔ (60000 < length text)
+  pub just-10 : (text : List ℕ) (room : ℕ) → (answerOf (jobOf text) room .code ≡ 10)
+      ↔ ((bytes : List ℕ) × (jobOf text ≡ listed bytes) × (room < length bytes))
   -- a listing has at most so many bytes
   pub longest : (text bytes : List ℕ) → jobOf text ≡ listed bytes → length bytes ≤ longestListing
   -- a listing fits the listing program's buffer, so that it never prints 10
