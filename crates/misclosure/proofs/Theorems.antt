@@ -20,6 +20,7 @@ use Rattle.misclosure.proofs.Listings.{
   accepted-longest,
   linked-first,
   linked-second,
+  lines-outcome,
   equal-outcome,
   chosen-linked,
 }
@@ -63,6 +64,7 @@ theorems = record {
       let (few, ranged) = accepted-ranged false text l e in
       let a = choice-allowed l (lowShots l) few ranged (low-chosen l ranged) in
       rw e (sums.theorems .close (lowShots l) a, sums.theorems .closer (lowShots l) a);
+  within-margin = λ text l e. rw e (sums.theorems .within-margin (lowShots l));
   no-shots = rw (linked-accepted false [] tt (omega arith));
   joined = λ first second h few.
       let p = miss-linked first (first-few first second few) (linked-first false first second [] h) in
@@ -71,6 +73,7 @@ theorems = record {
   spans = λ text l e.
       let (few, ranged) = accepted-ranged true text l e in
       rw e (spans l few ranged);
+  fine-spans = λ text l e. rw e (sums.theorems .fine-spans l);
   choice = λ rows c h few e.
       let (linked, count, same) = chosen-linked rows c [] h e in
       miss-linked (chosenRows rows c) (omega (arith, few, count)) linked
@@ -83,6 +86,7 @@ theorems = record {
         northing = rounded (total cosine l);
       }) same;
   equal-readings = λ rows h. ap intervalsOf (equal-outcome rows h) ∙ equal-answer (textOf false rows);
+  equal-lines = λ one two h. ap intervalsOf (lines-outcome one two h) ∙ equal-answer one;
   intervals-joined = λ first second h few.
       let p = intervals-linked first (first-few first second few) (linked-first true first second [] h) in
       let q = intervals-linked second (second-few first second few) (linked-second true first second [] h) in

@@ -7,11 +7,13 @@ use lib.IntN.{pos, _+ℤ_}
 use lib.ListN.{length}
 use Rattle.text.specs.Limits.{decimalBound}
 use Rattle.text.specs.Fields.{name}
+use Rattle.text.specs.Scan.{lines}
 use Rattle.listing_writer.specs.Listing.{endRow}
-use Rattle.listing_reader.specs.Entries.{headerOf, rowOf}
+use Rattle.listing_reader.specs.Entries.{headerOf, isHeader, readEntry, rowOf}
 use Rattle.sums.specs.Sums.{Shot, sine, cosine, total, rounded, mostShots, mostDistance}
 use Rattle.sums.specs.Exact.{exactSine, exactCosine, Close}
 use Rattle.sums.specs.Spans.{Span, Chosen, lowShots, Spans}
+use Rattle.sums.specs.Margin.{distances, margin, CloseBy, FineSpans}
 use Rattle.misclosure.specs.Misclosure.{mostStep, follows, accepted, listingOf, missOf, bothEnds, intervalsOf}
 use Rattle.misclosure.specs.declared.Miss.{Miss}
 use Rattle.misclosure.specs.declared.IntervalSums.{IntervalSums}
@@ -68,6 +70,20 @@ EqualRows [] = Unit {0}
 EqualRows (r ∷ rows) =
     (name (r .from) ≡ true) × (name (r .to) ≡ true) × (r .low < decimalBound) × (r .step < decimalBound) × (r .low ≡ r .high) × EqualRows rows
 
+-- two listings, the first of one distance a shot, the second of two, that say the same line by line, whatever each line says: low equals high in each
+-- shot, and where a line of one is no shot and no end (6), so is the other's; the headers are both right or both wrong
+unfoldable pub SayAlike : List (List ℕ) → List (List ℕ) → Type 0
+SayAlike [] [] = Unit {0}
+SayAlike [] (m ∷ ms) = ⊥
+SayAlike (l ∷ ls) [] = ⊥
+SayAlike (l ∷ ls) (m ∷ ms) = (readEntry false l ≡ readEntry true m) × SayAlike ls ms
+
+unfoldable pub ListAlike : List (List ℕ) → List (List ℕ) → Type 0
+ListAlike [] [] = Unit {0}
+ListAlike [] (m ∷ ms) = ⊥
+ListAlike (l ∷ ls) [] = ⊥
+ListAlike (l ∷ ls) (m ∷ ms) = (isHeader false l ≡ isHeader true m) × SayAlike ls ms
+
 -- the same shots, each with the distance that was chosen for it
 unfoldable pub chosenRows : List Row → List Shot → List Row
 chosenRows [] c = []
@@ -119,6 +135,9 @@ pub record Theorems : Type 0 where
   pub close : (text : List ℕ) (l : List Span) → listingOf false text ≡ accepted l
       → Close 3 (lowShots l) (missOf (listingOf false text) .easting) (missOf (listingOf false text) .northing)
       × Close 2 (lowShots l) (missOf (listingOf false text) .easting) (missOf (listingOf false text) .northing)
+  -- and at most 1/2 + 3 L / 2^30 mm, L the run's length in mm
+  pub within-margin : (text : List ℕ) (l : List Span) → listingOf false text ≡ accepted l
+      → CloseBy (margin (distances (lowShots l))) (lowShots l) (missOf (listingOf false text) .easting) (missOf (listingOf false text) .northing)
   -- "No shots give 0 and 0."
   pub no-shots : missIn [] ≡ record { code = 0; line = 0; east = pos 0; north = pos 0; easting = pos 0; northing = pos 0 }
   -- "Where a run of shots joined to a second is accepted, it adds up, before rounding, to the two sums added."
@@ -131,6 +150,11 @@ pub record Theorems : Type 0 where
       (intervalsOf (listingOf true text) .easting .low) (intervalsOf (listingOf true text) .easting .high)
       × Spans cosine exactCosine l (intervalsOf (listingOf true text) .north .low) (intervalsOf (listingOf true text) .north .high)
       (intervalsOf (listingOf true text) .northing .low) (intervalsOf (listingOf true text) .northing .high)
+  -- the exact sum of any choice, fractions of a millimetre among them, lies between the ends, widened by 1/2 + 3 L / 2^30 mm, L the longest that the
+  -- run can be
+  pub fine-spans : (text : List ℕ) (l : List Span) → listingOf true text ≡ accepted l
+      → FineSpans exactSine l (intervalsOf (listingOf true text) .easting .low) (intervalsOf (listingOf true text) .easting .high)
+      × FineSpans exactCosine l (intervalsOf (listingOf true text) .northing .low) (intervalsOf (listingOf true text) .northing .high)
   -- the sums of a choice are those of Job 13's listing with the distances chosen
   pub choice : (rows : List Row) (c : List Shot) → Linked true [] rows → length rows ≤ mostShots → Chosen (spansIn rows) c
       → missIn (chosenRows rows c) ≡ record {
@@ -143,6 +167,8 @@ pub record Theorems : Type 0 where
       }
   -- "Where low equals high throughout, it is Job 13's result": code and line too, where it is refused
   pub equal-readings : (rows : List Row) → EqualRows rows → intervalsIn rows ≡ asIntervals (missIn rows)
+  -- and where it is no listing of any shots: code (6 among them) and line, sums 0
+  pub equal-lines : (one two : List ℕ) → ListAlike (lines one) (lines two) → intervalsOf (listingOf true two) ≡ asIntervals (missOf (listingOf false one))
   -- joined runs
   pub intervals-joined : (first second : List Row) → Linked true [] (first ++ second) → length (first ++ second) ≤ mostShots
       → (intervalsIn (first ++ second) .east ≡ intervalsIn first .east +ᵉ intervalsIn second .east)
