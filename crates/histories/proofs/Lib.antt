@@ -1,0 +1,3 @@
+-- The laws of specs/.
+mod Refusals
+pub mod Theorems

@@ -1,0 +1,341 @@
+-- The causes one by one, and the one chain of all calls: the first that applies gives the code.
+use mathlib.Core.Path.{_≡_, refl, sym, ap, _∙_, subst}
+use mathlib.Core.Bool.{Bool, true, false, cond, true≢false}
+use mathlib.Core.List.{List, [], _∷_, map}
+use mathlib.Core.Logic.{_↔_, _⊎_, inl, inr}
+use Prim.Native.Nat.{ℕ, suc, _+_, _-_, _*_, _/_, _%_, _^_, _<_}
+use native.Mathlib.Omega.{arith}
+use lib.Dec.{leb, eqb}
+use lib.ListN.{getD}
+use borrow.Author.Tests.{leb-true, leb-false, eqb-true, eqb-false, ne-eqb}
+use Rattle.streams.specs.declared.Stream.{Stream}
+use Rattle.streams.specs.declared.Generator.{Generator}
+use Rattle.streams.specs.Streams.{fit, recordCode, openCode, noneOpenCode, mostAsked, askedCode, takenCode, lengthCode, mostCount, countCode}
+use Rattle.streams.specs.Streams.{Call, noteCode, ownCode, roomCode, firstCause, codeOf}
+use Rattle.streams.specs.Streams.Call.{numbers, a-pair, a-skip, a-block, a-look, an-ask, a-take, give-up}
+use Rattle.streams.specs.Recurrence.{Minima}
+use Rattle.streams.proofs.Theorems.{fit-minima}
+use Rattle.noise.specs.Runs.{returned}
+use Rattle.noise.proofs.Runs.{returned-code}
+use Rattle.histories.specs.Refusals.{Refusal, unfit-a, unfit-b, none-open, one-open, not-as-asked, odd-length, count-full}
+use Rattle.histories.specs.Refusals.{refusalCode, place, Applies, NoneBefore}
+
+-- ---- One cause
+
+-- The number is the code where the cause holds, and 0 where it does not.
+abbrev Settled : ℕ → ℕ → Type 0 → Type 0
+Settled code x P = ((x ≡ code) × P) ⊎ ((x ≡ 0) × (P → ⊥))
+
+never : (code : ℕ) → Settled code 0 ⊥
+never code = inr (refl, λ z. z)
+
+unfit : (code : ℕ) (u : Stream) → Settled code (cond (fit u) 0 code) (Minima u → ⊥)
+unfit code u = by-test (fit u) refl
+  where
+    by-test : (t : Bool) → fit u ≡ t → Settled code (cond t 0 code) (Minima u → ⊥)
+    by-test true e = inr (refl, λ n. n (fit-minima u .0 e))
+    by-test false e = inl (refl, λ m. true≢false (sym (fit-minima u .1 m) ∙ e))
+
+opened : (g : Generator) → Settled 14 (openCode g) (g .waiting ≡ 0 → ⊥)
+unfolding openCode
+opened g = by-test (eqb (g .waiting) 0) refl
+  where
+    by-test : (t : Bool) → eqb (g .waiting) 0 ≡ t → Settled 14 (cond t 0 14) (g .waiting ≡ 0 → ⊥)
+    by-test true e = inr (refl, λ n. n (eqb-true _ _ e))
+    by-test false e = inl (refl, eqb-false _ _ e)
+
+closed : (g : Generator) → Settled 15 (noneOpenCode g) (g .waiting ≡ 0)
+unfolding noneOpenCode
+closed g = by-test (eqb (g .waiting) 0) refl
+  where
+    by-test : (t : Bool) → eqb (g .waiting) 0 ≡ t → Settled 15 (cond t 15 0) (g .waiting ≡ 0)
+    by-test true e = inl (refl, eqb-true _ _ e)
+    by-test false e = inr (refl, eqb-false _ _ e)
+
+asked : (n : ℕ) → Settled 16 (askedCode n) (1000000 < n)
+unfolding askedCode
+asked n = by-test (leb n mostAsked) refl
+  where
+    by-test : (t : Bool) → leb n mostAsked ≡ t → Settled 16 (cond t 0 16) (1000000 < n)
+    by-test true e = inr (refl, λ l. omega (arith, leb-true n mostAsked e))
+    by-test false e = inl (refl, omega (arith, leb-false n mostAsked e))
+
+taken : (g : Generator) (n : ℕ) → Settled 16 (takenCode g n) ((1000000 < g .asked) ⊎ (n ≡ 2 * g .asked → ⊥))
+unfolding takenCode
+taken g n = by-cases (asked (g .asked)) (eqb n (2 * g .asked)) refl
+  where
+    by-cases : Settled 16 (askedCode (g .asked)) (1000000 < g .asked) → (t : Bool) → eqb n (2 * g .asked) ≡ t
+        → Settled 16 (takenCode g n) ((1000000 < g .asked) ⊎ (n ≡ 2 * g .asked → ⊥))
+    by-cases (inl (e, many)) t f = inl (rw (takenCode, e), inl many)
+    by-cases (inr (e, few)) true f = inr (rw (takenCode, e, f), λ h. neither h)
+      where
+        neither : (1000000 < g .asked) ⊎ (n ≡ 2 * g .asked → ⊥) → ⊥
+        neither (inl many) = few many
+        neither (inr other) = other (eqb-true _ _ f)
+    by-cases (inr (e, few)) false f = inl (rw (takenCode, e, f), inr (eqb-false _ _ f))
+
+odd : (n : ℕ) → Settled 4 (lengthCode n) (n % 2 ≡ 1)
+unfolding lengthCode
+odd n = by-test (eqb (n % 2) 0) refl
+  where
+    by-test : (t : Bool) → eqb (n % 2) 0 ≡ t → Settled 4 (cond t 0 4) (n % 2 ≡ 1)
+    by-test true e = inr (refl, λ o. omega (arith, eqb-true (n % 2) 0 e))
+    by-test false e = inl (refl, omega (arith, eqb-false (n % 2) 0 e))
+
+full : (g : Generator) (n : ℕ) → Settled 13 (countCode g n) (2 ^ 64 - 1 < g .count + n)
+unfolding countCode
+full g n = by-test (leb (g .count + n) mostCount) refl
+  where
+    by-test : (t : Bool) → leb (g .count + n) mostCount ≡ t → Settled 13 (cond t 0 13) (2 ^ 64 - 1 < g .count + n)
+    by-test true e = inr (refl, λ l. omega (arith, leb-true (g .count + n) mostCount e))
+    by-test false e = inl (refl, omega (arith, leb-false (g .count + n) mostCount e))
+
+-- ---- The causes of a call
+
+-- What the chain of tests has for each refusal.
+abbrev noneOpenOf : Call → Generator → ℕ
+noneOpenOf numbers g = 0
+noneOpenOf a-pair g = 0
+noneOpenOf (a-skip n) g = 0
+noneOpenOf (a-block n) g = 0
+noneOpenOf (a-look n) g = 0
+noneOpenOf (an-ask n) g = 0
+noneOpenOf (a-take n) g = noneOpenCode g
+noneOpenOf give-up g = noneOpenCode g
+
+abbrev oneOpenOf : Call → Generator → ℕ
+oneOpenOf numbers g = openCode g
+oneOpenOf a-pair g = openCode g
+oneOpenOf (a-skip n) g = openCode g
+oneOpenOf (a-block n) g = openCode g
+oneOpenOf (a-look n) g = 0
+oneOpenOf (an-ask n) g = openCode g
+oneOpenOf (a-take n) g = 0
+oneOpenOf give-up g = 0
+
+abbrev askedOf : Call → Generator → ℕ
+askedOf numbers g = 0
+askedOf a-pair g = 0
+askedOf (a-skip n) g = 0
+askedOf (a-block n) g = 0
+askedOf (a-look n) g = 0
+askedOf (an-ask n) g = askedCode n
+askedOf (a-take n) g = takenCode g n
+askedOf give-up g = 0
+
+abbrev lengthOf : Call → ℕ
+lengthOf numbers = 0
+lengthOf a-pair = 0
+lengthOf (a-skip n) = 0
+lengthOf (a-block n) = lengthCode n
+lengthOf (a-look n) = lengthCode n
+lengthOf (an-ask n) = 0
+lengthOf (a-take n) = 0
+lengthOf give-up = 0
+
+abbrev causeOf : Call → Generator → Refusal → ℕ
+causeOf c g unfit-a = cond (fit (g .a)) 0 11
+causeOf c g unfit-b = cond (fit (g .b)) 0 12
+causeOf c g none-open = noneOpenOf c g
+causeOf c g one-open = oneOpenOf c g
+causeOf c g not-as-asked = askedOf c g
+causeOf c g odd-length = lengthOf c
+causeOf c g count-full = roomCode c g
+
+order : List Refusal
+order = unfit-a ∷ unfit-b ∷ none-open ∷ one-open ∷ not-as-asked ∷ odd-length ∷ count-full ∷ []
+
+-- It is the code just where the refusal's cause holds.
+settled : (c : Call) (g : Generator) (r : Refusal) → Settled (refusalCode r) (causeOf c g r) (Applies r c g)
+unfolding refusalCode roomCode
+settled c g unfit-a = unfit 11 (g .a)
+settled c g unfit-b = unfit 12 (g .b)
+settled numbers g none-open = never 15
+settled a-pair g none-open = never 15
+settled (a-skip n) g none-open = never 15
+settled (a-block n) g none-open = never 15
+settled (a-look n) g none-open = never 15
+settled (an-ask n) g none-open = never 15
+settled (a-take n) g none-open = closed g
+settled give-up g none-open = closed g
+settled numbers g one-open = opened g
+settled a-pair g one-open = opened g
+settled (a-skip n) g one-open = opened g
+settled (a-block n) g one-open = opened g
+settled (a-look n) g one-open = never 14
+settled (an-ask n) g one-open = opened g
+settled (a-take n) g one-open = never 14
+settled give-up g one-open = never 14
+settled numbers g not-as-asked = never 16
+settled a-pair g not-as-asked = never 16
+settled (a-skip n) g not-as-asked = never 16
+settled (a-block n) g not-as-asked = never 16
+settled (a-look n) g not-as-asked = never 16
+settled (an-ask n) g not-as-asked = asked n
+settled (a-take n) g not-as-asked = taken g n
+settled give-up g not-as-asked = never 16
+settled numbers g odd-length = never 4
+settled a-pair g odd-length = never 4
+settled (a-skip n) g odd-length = never 4
+settled (a-block n) g odd-length = odd n
+settled (a-look n) g odd-length = odd n
+settled (an-ask n) g odd-length = never 4
+settled (a-take n) g odd-length = never 4
+settled give-up g odd-length = never 4
+settled numbers g count-full = full g 1
+settled a-pair g count-full = full g 1
+settled (a-skip n) g count-full = full g n
+settled (a-block n) g count-full = full g (n / 2)
+settled (a-look n) g count-full = full g (n / 2)
+settled (an-ask n) g count-full = full g n
+settled (a-take n) g count-full = full g (g .asked)
+settled give-up g count-full = never 13
+
+-- 11 and 12 apart are the record's one cause
+both-streams : (a b : Bool) (causes : List ℕ)
+    → firstCause (cond a (cond b 0 12) 11 ∷ causes) ≡ firstCause (cond a 0 11 ∷ cond b 0 12 ∷ causes)
+both-streams true true causes = refl
+both-streams true false causes = refl
+both-streams false b causes = refl
+
+-- The code that a call returns is the first of them.
+first-of : (c : Call) (g : Generator) → returned c g .code ≡ firstCause (map (causeOf c g) order)
+unfolding codeOf noteCode ownCode recordCode order
+first-of c g = returned-code c g ∙ both-streams (fit (g .a)) (fit (g .b)) (noteCode c g ∷ ownCode c g ∷ roomCode c g ∷ []) ∙ by-call c
+  where
+    by-call : (c : Call)
+        → firstCause (causeOf c g unfit-a ∷ causeOf c g unfit-b ∷ noteCode c g ∷ ownCode c g ∷ roomCode c g ∷ [])
+        ≡ firstCause (map (causeOf c g) order)
+    by-call numbers = refl
+    by-call a-pair = refl
+    by-call (a-skip n) = refl
+    by-call (a-block n) = refl
+    by-call (a-look n) = refl
+    by-call (an-ask n) = refl
+    by-call (a-take n) = refl
+    by-call give-up = refl
+
+-- ---- The first that applies
+
+-- A refusal by its place in the order, and by its code.
+at : ℕ → Refusal
+at n = getD order n unfit-a
+
+at-place : (r : Refusal) → at (place r) ≡ r
+unfolding at order place
+at-place unfit-a = refl
+at-place unfit-b = refl
+at-place none-open = refl
+at-place one-open = refl
+at-place not-as-asked = refl
+at-place odd-length = refl
+at-place count-full = refl
+
+one-place : (q r : Refusal) → place q ≡ place r → q ≡ r
+one-place q r e = sym (at-place q) ∙ ap at e ∙ at-place r
+
+-- the refusal of a code: the first of the order that has it
+withCode : List Refusal → ℕ → Refusal
+withCode [] n = unfit-a
+withCode (r ∷ l) n = cond (eqb n (refusalCode r)) r (withCode l n)
+
+has-code : (r : Refusal) → withCode order (refusalCode r) ≡ r
+unfolding withCode order refusalCode
+has-code unfit-a = refl
+has-code unfit-b = refl
+has-code none-open = refl
+has-code one-open = refl
+has-code not-as-asked = refl
+has-code odd-length = refl
+has-code count-full = refl
+
+one-code : (q r : Refusal) → refusalCode q ≡ refusalCode r → q ≡ r
+one-code q r e = sym (has-code q) ∙ ap (withCode order) e ∙ has-code r
+
+some-code : (r : Refusal) → refusalCode r ≡ 0 → ⊥
+unfolding refusalCode
+some-code unfit-a e = omega (arith, e)
+some-code unfit-b e = omega (arith, e)
+some-code none-open e = omega (arith, e)
+some-code one-open e = omega (arith, e)
+some-code not-as-asked e = omega (arith, e)
+some-code odd-length e = omega (arith, e)
+some-code count-full e = omega (arith, e)
+
+below-seven : (r : Refusal) → place r < 7
+unfolding place
+below-seven unfit-a = omega arith
+below-seven unfit-b = omega arith
+below-seven none-open = omega arith
+below-seven one-open = omega arith
+below-seven not-as-asked = omega arith
+below-seven odd-length = omega arith
+below-seven count-full = omega arith
+
+-- The refusals from a place on.
+abbrev From : ℕ → List Refusal → Type 0
+From n [] = n ≡ 7
+From n (r ∷ l) = (place r ≡ n) × From (suc n) l
+
+all-from : From 0 order
+unfolding order place
+all-from = (refl, (refl, (refl, (refl, (refl, (refl, (refl, refl)))))))
+
+-- two numbers of which neither is the smaller
+neither-below : (m n : ℕ) → (m < n → ⊥) → (n < m → ⊥) → m ≡ n
+neither-below m n h k = omega (arith, h, k)
+
+module _ (c : Call) (g : Generator) where
+  -- A code is 0 and no cause holds, or it is that of the first that does.
+  abbrev Found : ℕ → Type 0
+  Found code =
+      ((code ≡ 0) × ((r : Refusal) → Applies r c g → ⊥))
+      ⊎ ((r : Refusal) × (code ≡ refusalCode r) × Applies r c g × NoneBefore r c g)
+
+  first-found : (n : ℕ) (l : List Refusal) → From n l → ((q : Refusal) → place q < n → Applies q c g → ⊥)
+      → Found (firstCause (map (causeOf c g) l))
+  first-found n [] end none = inl (refl, λ r. none r (omega (arith, end, below-seven r)))
+  first-found n (r ∷ l) (here, rest) none = by-cause (settled c g r) (first-found (suc n) l rest)
+    where
+      by-cause : Settled (refusalCode r) (causeOf c g r) (Applies r c g)
+          → (((q : Refusal) → place q < suc n → Applies q c g → ⊥) → Found (firstCause (map (causeOf c g) l)))
+          → Found (firstCause (map (causeOf c g) (r ∷ l)))
+      by-cause (inl (e, holds)) further = inr (r, rw (e, ne-eqb (refusalCode r) 0 (some-code r)), holds, λ q before. none q (omega (arith, here)))
+      by-cause (inr (e, fails)) further = rw e (further (λ q before holds. by-test q before holds (eqb (place q) (place r)) refl))
+        where
+          by-test : (q : Refusal) → place q < suc n → Applies q c g → (t : Bool) → eqb (place q) (place r) ≡ t → ⊥
+          by-test q before holds true same = fails (subst (λ (p : Refusal). Applies p c g) (one-place q r (eqb-true _ _ same)) holds)
+          by-test q before holds false other = none q (omega (arith, here, eqb-false (place q) (place r) other)) holds
+
+  found : Found (returned c g .code)
+  found = rw (first-of c g) (first-found 0 order all-from (λ q before. absurd (omega arith)))
+
+  pub under-cause : (r : Refusal) → (returned c g .code ≡ refusalCode r) ↔ (Applies r c g × NoneBefore r c g)
+  under-cause r = (by-code found, by-place found)
+    where
+      by-code : Found (returned c g .code) → returned c g .code ≡ refusalCode r → Applies r c g × NoneBefore r c g
+      by-code (inl (none, _)) e = absurd (some-code r (sym e ∙ none))
+      by-code (inr (q, is, holds, first)) e =
+          subst (λ (p : Refusal). Applies p c g × NoneBefore p c g) (one-code q r (sym is ∙ e)) (holds, first)
+
+      by-place : Found (returned c g .code) → Applies r c g × NoneBefore r c g → returned c g .code ≡ refusalCode r
+      by-place (inl (_, none)) (holds, first) = absurd (none r holds)
+      by-place (inr (q, is, holds-q, first-q)) (holds, first) = is ∙ ap refusalCode (one-place q r (neither-below (place q) (place r) (λ h. first q h holds-q) (λ h. first-q r h holds)))
+
+  pub accepted : (returned c g .code ≡ 0) ↔ ((r : Refusal) → Applies r c g → ⊥)
+  accepted = (by-code found, by-causes found)
+    where
+      by-code : Found (returned c g .code) → returned c g .code ≡ 0 → (r : Refusal) → Applies r c g → ⊥
+      by-code (inl (_, none)) e = none
+      by-code (inr (q, is, _, _)) e = absurd (some-code q (sym is ∙ e))
+
+      by-causes : Found (returned c g .code) → ((r : Refusal) → Applies r c g → ⊥) → returned c g .code ≡ 0
+      by-causes (inl (e, _)) none = e
+      by-causes (inr (q, _, holds, _)) none = absurd (none q holds)
+
+  pub no-other : (returned c g .code ≡ 0) ⊎ ((r : Refusal) × (returned c g .code ≡ refusalCode r))
+  no-other = by-found found
+    where
+      by-found : Found (returned c g .code) → (returned c g .code ≡ 0) ⊎ ((r : Refusal) × (returned c g .code ≡ refusalCode r))
+      by-found (inl (e, _)) = inl e
+      by-found (inr (q, is, _, _)) = inr (q, is)

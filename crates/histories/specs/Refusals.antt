@@ -1,0 +1,101 @@
+-- What a call on a record is refused for (document 01, the table of refusals; document 02, Jobs 1, 4, 6 and 7), in the documents' words and with their
+-- numbers. None of this is read by the code or by its definitions: `under-cause` compares the two.
+use mathlib.Core.Path.{_≡_}
+use mathlib.Core.List.{List, [], _∷_}
+use mathlib.Core.Logic.{_⊎_}
+use Prim.Native.Nat.{ℕ, _+_, _-_, _*_, _/_, _%_, _^_, _<_}
+use Rattle.streams.specs.declared.Generator.{Generator}
+use Rattle.streams.specs.Streams.{Call}
+use Rattle.streams.specs.Streams.Call.{numbers, a-pair, a-skip, a-block, a-look, an-ask, a-take, give-up}
+use Rattle.streams.specs.Recurrence.{Minima}
+
+pub data Refusal : Type 0 where
+  unfit-a unfit-b none-open one-open not-as-asked odd-length count-full : Refusal
+
+unfoldable pub refusalCode : Refusal → ℕ
+refusalCode unfit-a = 11
+refusalCode unfit-b = 12
+refusalCode none-open = 15
+refusalCode one-open = 14
+refusalCode not-as-asked = 16
+refusalCode odd-length = 4
+refusalCode count-full = 13
+
+-- "11 first"; "after 11 and 12, in the order 15, 14, 16, 4, then 13".
+unfoldable pub place : Refusal → ℕ
+place unfit-a = 0
+place unfit-b = 1
+place none-open = 2
+place one-open = 3
+place not-as-asked = 4
+place odd-length = 5
+place count-full = 6
+
+-- "15: none is open when taking or giving up".
+abbrev pub NoneOpen : Call → Generator → Type 0
+NoneOpen numbers g = ⊥
+NoneOpen a-pair g = ⊥
+NoneOpen (a-skip n) g = ⊥
+NoneOpen (a-block n) g = ⊥
+NoneOpen (a-look n) g = ⊥
+NoneOpen (an-ask n) g = ⊥
+NoneOpen (a-take n) g = g .waiting ≡ 0
+NoneOpen give-up g = g .waiting ≡ 0
+
+-- "A pair, block, skip or second ask is refused while one is open"; "a look never gets 14".
+abbrev pub OneOpen : Call → Generator → Type 0
+OneOpen numbers g = g .waiting ≡ 0 → ⊥
+OneOpen a-pair g = g .waiting ≡ 0 → ⊥
+OneOpen (a-skip n) g = g .waiting ≡ 0 → ⊥
+OneOpen (a-block n) g = g .waiting ≡ 0 → ⊥
+OneOpen (a-look n) g = ⊥
+OneOpen (an-ask n) g = g .waiting ≡ 0 → ⊥
+OneOpen (a-take n) g = ⊥
+OneOpen give-up g = ⊥
+
+-- "16: n above 1,000,000, asked or found noted on taking, or a block not of 2n samples".
+abbrev pub NotAsAsked : Call → Generator → Type 0
+NotAsAsked numbers g = ⊥
+NotAsAsked a-pair g = ⊥
+NotAsAsked (a-skip n) g = ⊥
+NotAsAsked (a-block n) g = ⊥
+NotAsAsked (a-look n) g = ⊥
+NotAsAsked (an-ask n) g = 1000000 < n
+NotAsAsked (a-take n) g = (1000000 < g .asked) ⊎ (n ≡ 2 * g .asked → ⊥)
+NotAsAsked give-up g = ⊥
+
+-- "4: block of odd length", of a look too; "on taking 16".
+abbrev pub OddLength : Call → Type 0
+OddLength numbers = ⊥
+OddLength a-pair = ⊥
+OddLength (a-skip n) = ⊥
+OddLength (a-block n) = n % 2 ≡ 1
+OddLength (a-look n) = n % 2 ≡ 1
+OddLength (an-ask n) = ⊥
+OddLength (a-take n) = ⊥
+OddLength give-up = ⊥
+
+-- "13: the count would pass 2^64 - 1", "whole block or none"; "an ask tests its whole n against 13".
+abbrev pub CountFull : Call → Generator → Type 0
+CountFull numbers g = 2 ^ 64 - 1 < g .count + 1
+CountFull a-pair g = 2 ^ 64 - 1 < g .count + 1
+CountFull (a-skip n) g = 2 ^ 64 - 1 < g .count + n
+CountFull (a-block n) g = 2 ^ 64 - 1 < g .count + n / 2
+CountFull (a-look n) g = 2 ^ 64 - 1 < g .count + n / 2
+CountFull (an-ask n) g = 2 ^ 64 - 1 < g .count + n
+CountFull (a-take n) g = 2 ^ 64 - 1 < g .count + g .asked
+CountFull give-up g = ⊥
+
+-- The cause of a refusal; "11 for stream a and 12 for stream b", for all calls alike.
+abbrev pub Applies : Refusal → Call → Generator → Type 0
+Applies unfit-a c g = Minima (g .a) → ⊥
+Applies unfit-b c g = Minima (g .b) → ⊥
+Applies none-open c g = NoneOpen c g
+Applies one-open c g = OneOpen c g
+Applies not-as-asked c g = NotAsAsked c g
+Applies odd-length c g = OddLength c
+Applies count-full c g = CountFull c g
+
+-- No cause that is tested before it.
+abbrev pub NoneBefore : Refusal → Call → Generator → Type 0
+NoneBefore r c g = (q : Refusal) → place q < place r → Applies q c g → ⊥
