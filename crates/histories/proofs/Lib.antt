@@ -1,3 +1,4 @@
 -- The laws of specs/.
 mod Refusals
+mod Histories
 pub mod Theorems

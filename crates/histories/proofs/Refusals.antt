@@ -6,7 +6,7 @@ use mathlib.Core.Logic.{_↔_, _⊎_, inl, inr}
 use Prim.Native.Nat.{ℕ, suc, _+_, _-_, _*_, _/_, _%_, _^_, _<_}
 use native.Mathlib.Omega.{arith}
 use lib.Dec.{leb, eqb}
-use lib.ListN.{getD}
+use lib.ListN.{getD, drop}
 use borrow.Author.Tests.{leb-true, leb-false, eqb-true, eqb-false, ne-eqb}
 use Rattle.streams.specs.declared.Stream.{Stream}
 use Rattle.streams.specs.declared.Generator.{Generator}
@@ -18,7 +18,7 @@ use Rattle.streams.proofs.Theorems.{fit-minima}
 use Rattle.noise.specs.Runs.{returned}
 use Rattle.noise.proofs.Runs.{returned-code}
 use Rattle.histories.specs.Refusals.{Refusal, unfit-a, unfit-b, none-open, one-open, not-as-asked, odd-length, count-full}
-use Rattle.histories.specs.Refusals.{refusalCode, place, Applies, NoneBefore}
+use Rattle.histories.specs.Refusals.{refusalCode, place, Applies, NoneBefore, Meeting, AllMeet, meetings}
 
 -- ---- One cause
 
@@ -339,3 +339,41 @@ module _ (c : Call) (g : Generator) where
       by-found : Found (returned c g .code) → (returned c g .code ≡ 0) ⊎ ((r : Refusal) × (returned c g .code ≡ refusalCode r))
       by-found (inl (e, _)) = inl e
       by-found (inr (q, is, _, _)) = inr (q, is)
+
+-- ---- Two causes at one record
+
+-- A cause that the chain has under its code holds.
+told : (c : Call) (g : Generator) (r : Refusal) → causeOf c g r ≡ refusalCode r → Applies r c g
+told c g r e = by-cause (settled c g r)
+  where
+    by-cause : Settled (refusalCode r) (causeOf c g r) (Applies r c g) → Applies r c g
+    by-cause (inl (_, holds)) = holds
+    by-cause (inr (none, _)) = absurd (some-code r (sym e ∙ none))
+
+-- what a row of a table must compute to
+computed : Meeting → List ℕ
+computed m =
+    causeOf (m .call) (m .given) (m .first)
+    ∷ causeOf (m .call) (m .given) (m .second)
+    ∷ firstCause (map (causeOf (m .call) (m .given)) order)
+    ∷ []
+
+claimed : Meeting → List ℕ
+claimed m = refusalCode (m .first) ∷ refusalCode (m .second) ∷ refusalCode (m .first) ∷ []
+
+all-meet : (l : List Meeting) → map computed l ≡ map claimed l → AllMeet l
+unfolding computed claimed
+all-meet [] e = tt
+all-meet (m ∷ l) e =
+    let here : computed m ≡ claimed m = ap (λ (rows : List (List ℕ)). getD rows 0 []) e in (
+      (
+        told _ _ (m .first) (ap (λ (row : List ℕ). getD row 0 0) here),
+        told _ _ (m .second) (ap (λ (row : List ℕ). getD row 1 0) here),
+        first-of (m .call) (m .given) ∙ ap (λ (row : List ℕ). getD row 2 0) here,
+      ),
+      all-meet l (ap (λ (rows : List (List ℕ)). drop 1 rows) e),
+    )
+
+pub meetings-meet : AllMeet meetings
+unfolding meetings computed claimed order refusalCode fit openCode noneOpenCode askedCode takenCode lengthCode roomCode countCode
+meetings-meet = all-meet meetings refl

@@ -8,6 +8,7 @@ use Rattle.streams.specs.declared.Generator.{Generator}
 use Rattle.streams.specs.Streams.{Call}
 use Rattle.streams.specs.Streams.Call.{numbers, a-pair, a-skip, a-block, a-look, an-ask, a-take, give-up}
 use Rattle.streams.specs.Recurrence.{Minima}
+use Rattle.noise.specs.Runs.{returned}
 
 pub data Refusal : Type 0 where
   unfit-a unfit-b none-open one-open not-as-asked odd-length count-full : Refusal
@@ -99,3 +100,57 @@ Applies count-full c g = CountFull c g
 -- No cause that is tested before it.
 abbrev pub NoneBefore : Refusal → Call → Generator → Type 0
 NoneBefore r c g = (q : Refusal) → place q < place r → Applies q c g → ⊥
+
+-- ---- Two causes at one record
+
+-- A call on a record that meets both causes, where none between them holds.
+pub record Meeting : Type 0 where
+  pub call : Call
+  pub given : Generator
+  pub first : Refusal
+  pub second : Refusal
+
+-- Both hold, and the first of them decides.
+abbrev pub Meets : Meeting → Type 0
+Meets m =
+    Applies (m .first) (m .call) (m .given)
+    × Applies (m .second) (m .call) (m .given)
+    × (returned (m .call) (m .given) .code ≡ refusalCode (m .first))
+
+abbrev pub AllMeet : List Meeting → Type 0
+AllMeet [] = Unit {0}
+AllMeet (m ∷ l) = Meets m × AllMeet l
+
+-- On a record with this register s0 in stream b (2 is fit, 1 is not), this count and this note.
+abbrev meeting : Call → (b0 count waiting asked : ℕ) → Refusal → Refusal → Meeting
+meeting c b0 count waiting asked first second =
+    record {
+      call = c;
+      given = record {
+        a = record { s0 = 2; s1 = 8; s2 = 16 };
+        b = record { s0 = b0; s1 = 8; s2 = 16 };
+        count = count;
+        waiting = waiting;
+        asked = asked;
+      };
+      first = first;
+      second = second;
+    }
+
+-- Those that crates/streams/proofs/Order.antt has not: between the two stands another test of the same call.
+unfoldable pub meetings : List Meeting
+meetings =
+    meeting numbers 1 (2 ^ 64 - 1) 0 0 unfit-b count-full
+    ∷ meeting a-pair 1 (2 ^ 64 - 1) 0 0 unfit-b count-full
+    ∷ meeting (a-skip 1) 1 (2 ^ 64 - 1) 0 0 unfit-b count-full
+    ∷ meeting (a-block 3) 1 0 0 0 unfit-b odd-length
+    ∷ meeting (a-block 2) 1 (2 ^ 64 - 1) 0 0 unfit-b count-full
+    ∷ meeting (a-block 2) 2 (2 ^ 64 - 1) 1 0 one-open count-full
+    ∷ meeting (a-look 2) 1 (2 ^ 64 - 1) 0 0 unfit-b count-full
+    ∷ meeting (an-ask 1000001) 1 0 0 0 unfit-b not-as-asked
+    ∷ meeting (an-ask 1) 1 (2 ^ 64 - 1) 0 0 unfit-b count-full
+    ∷ meeting (an-ask 1) 2 (2 ^ 64 - 1) 1 0 one-open count-full
+    ∷ meeting (a-take 1) 1 0 1 0 unfit-b not-as-asked
+    ∷ meeting (a-take 2) 1 (2 ^ 64 - 1) 1 1 unfit-b count-full
+    ∷ meeting (a-take 2) 2 (2 ^ 64 - 1) 0 1 none-open count-full
+    ∷ []
