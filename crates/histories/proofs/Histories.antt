@@ -1,30 +1,29 @@
 -- Runs of calls: their histories, what an open request leaves, and the draws behind the samples.
-use mathlib.Core.Path.{_≡_, refl, sym, ap, _∙_}
+use mathlib.Core.Path.{_≡_, refl, sym, _∙_}
 use mathlib.Core.Bool.{Bool, true, false, cond}
 use mathlib.Core.List.{List, [], _∷_}
-use Prim.Native.Nat.{ℕ, zero, suc, _+_, _*_, _/_, _%_, _≤_}
+use Prim.Native.Nat.{ℕ, zero, suc, _+_, _*_, _/_, _≤_}
 use native.Mathlib.Omega.{arith}
 use lib.Dec.{eqb}
 use lib.IntN.{ℤ}
 use lib.ListN.{length}
 use borrow.Author.Tests.{eqb-true}
-use Rattle.bit_matrix.specs.Squares.{repeat}
 use Rattle.streams.specs.declared.Stream.{Stream}
 use Rattle.streams.specs.declared.Generator.{Generator}
-use Rattle.streams.specs.declared.RecordAnswer.{RecordAnswer}
-use Rattle.streams.specs.Streams.{Call, advance, fresh, noted, cleared, recordCode, openCode, mostCount, askedCode, countCode, ifAccepted, noteCode, ownCode, roomCode, codeOf}
+use Rattle.streams.specs.Streams.{Call, fresh, noted, cleared, recordCode, openCode, mostCount, askedCode, countCode, ifAccepted, noteCode, ownCode, roomCode, codeOf}
 use Rattle.streams.specs.Streams.{pairsCode, uniformsOf, after, skipOf, askOf, giveUpOf}
 use Rattle.streams.specs.Streams.Call.{numbers, a-pair, a-skip, a-block, a-look, an-ask, a-take, give-up}
-use Rattle.streams.specs.Recurrence.{InRange, Sound, moved, drawAt, seedFrom}
+use Rattle.streams.specs.Recurrence.{InRange, Sound, moved, seedFrom}
 use Rattle.streams.proofs.Causes.{accepted-causes, none-open}
 use Rattle.streams.proofs.Theorems.{sound-accepted, sound-cleared, seeded, pairs-accepted, moved-sound, moved-add, uniforms-accepted, next-draw}
 use Rattle.noise.specs.Noise.{pairOf, samples, blockOf, blockHolds, lookOf, lookHolds, takeOf, takeHolds}
 use Rattle.noise.specs.Runs.{returned, run, sumOver, pairsOut, handed}
 use Rattle.noise.proofs.Laws.{block-accepted, take-accepted, pair-code, samples-noted}
-use Rattle.noise.proofs.Requests.{ask-accepted, ask-notes, ask-take, ask-give-up}
+use Rattle.noise.proofs.Requests.{ask-notes, ask-take, ask-give-up}
 use Rattle.noise.proofs.Runs.{returned-code, leftBy, next-is, run-moved, run-sound, run-count, count-from-seeding, pair-history}
 use Rattle.noise.proofs.Theorems.{block-holds}
-use Rattle.histories.specs.Histories.{Entry, historyOf, figure, countOf, Keeps, AllKeep, kAt, vAt, drawnSamples}
+use Rattle.histories.specs.Refusals.{Open}
+use Rattle.histories.specs.Histories.{historyOf, figure, countOf, Keeps, AllKeep, kAt, vAt, drawnSamples}
 
 -- ---- Histories
 
@@ -43,7 +42,7 @@ out-is-figure (a-skip n) g e = refl
 out-is-figure (a-block n) g e = refl
 out-is-figure (a-look n) g e = refl
 out-is-figure (an-ask n) g e = refl
-out-is-figure (a-take n) g e = taken-half g n e
+out-is-figure (a-take n) g e = omega (arith, taken-half g n e)
 out-is-figure give-up g e = refl
 
 handed-is-figure : (c : Call) (g : Generator) → handed c g ≡ ifAccepted (returned c g .code) (figure c) 0
@@ -81,43 +80,47 @@ refused-stays c g h = next-is c g ∙ by-test (eqb (codeOf c g) 0) refl
     by-test true e = absurd (h (eqb-true _ _ e))
     by-test false e = refl
 
--- Every call but a take and giving up leaves the record as it is,
-open-stays : (c : Call) (g : Generator) → (g .waiting ≡ 0 → ⊥) → Keeps c → returned c g .next ≡ g
+-- A call that keeps the request leaves the record as it is,
+open-stays : (c : Call) (g : Generator) → Open g → Keeps c (returned c g .code) → returned c g .next ≡ g
 unfolding noteCode leftBy
 open-stays c g h k = by-call c k
   where
     refused : (c : Call) → (codeOf c g ≡ 0 → g .waiting ≡ 0) → returned c g .next ≡ g
-    refused c none = refused-stays c g (λ e. h (none e))
+    refused c none = refused-stays c g (λ e. omega (arith, h, none e))
 
-    by-call : (c : Call) → Keeps c → returned c g .next ≡ g
+    by-call : (c : Call) → Keeps c (returned c g .code) → returned c g .next ≡ g
     by-call numbers k = refused numbers (λ e. none-open g .0 (accepted-causes numbers g .0 e .1))
     by-call a-pair k = refused a-pair (λ e. none-open g .0 (accepted-causes a-pair g .0 e .1))
     by-call (a-skip n) k = refused (a-skip n) (λ e. none-open g .0 (accepted-causes (a-skip n) g .0 e .1))
     by-call (a-block n) k = refused (a-block n) (λ e. none-open g .0 (accepted-causes (a-block n) g .0 e .1))
     by-call (a-look n) k = next-is (a-look n) g ∙ same-either-way (eqb (codeOf (a-look n) g) 0) g
     by-call (an-ask n) k = refused (an-ask n) (λ e. none-open g .0 (accepted-causes (an-ask n) g .0 e .1))
-    by-call (a-take n) k = absurd k
-    by-call give-up k = absurd k
+    by-call (a-take n) k = refused-stays (a-take n) g (λ e. omega (arith, k, returned-code (a-take n) g, e))
+    by-call give-up k = refused-stays give-up g (λ e. omega (arith, k, returned-code give-up g, e))
 
 -- and so does a run of them.
-pub open-run : (l : List Call) (g : Generator) → (g .waiting ≡ 0 → ⊥) → AllKeep l → run l g ≡ g
-unfolding run
+pub open-run : (l : List Call) (g : Generator) → Open g → AllKeep (historyOf l g) → run l g ≡ g
+unfolding run historyOf
 open-run [] g h k = refl
-open-run (c ∷ l) g h (k, rest) = rw (open-stays c g h k) (open-run l g h rest)
+open-run (c ∷ l) g h (k, rest) =
+    let same : returned c g .next ≡ g = open-stays c g h k in
+    rw same (open-run l g h (rw same at rest))
 
 -- The record that an accepted ask leaves, after such a run.
-asked-run : (g : Generator) (n : ℕ) (l : List Call) → askOf g n .code ≡ 0 → AllKeep l → run l (askOf g n .next) ≡ askOf g n .next
-asked-run g n l e k = rw (ask-notes g n e) (open-run l (noted g 1 n) (λ z. omega (arith, z)) k)
+asked-run : (g : Generator) (n : ℕ) (l : List Call) → askOf g n .code ≡ 0 → AllKeep (historyOf l (askOf g n .next))
+    → run l (askOf g n .next) ≡ askOf g n .next
+asked-run g n l e k = open-run l (askOf g n .next) (rw (ask-notes g n e) (λ z. omega (arith, z))) k
 
-pub ask-run-take : (f : ℕ) (g : Generator) (n : ℕ) (l : List Call) (old : List ℤ) → Sound g → length old ≡ 2 * n → AllKeep l → askOf g n .code ≡ 0
+pub ask-run-take : (f : ℕ) (g : Generator) (n : ℕ) (l : List Call) (old : List ℤ) → Sound g → length old ≡ 2 * n → askOf g n .code ≡ 0
+    → AllKeep (historyOf l (askOf g n .next))
     → (blockOf g (length old) .code ≡ 0)
     × (takeOf (run l (askOf g n .next)) (length old) ≡ record { code = 0; next = cleared (blockOf g (length old) .next) })
     × (takeHolds f (run l (askOf g n .next)) old ≡ blockHolds f g old)
-ask-run-take f g n l old h size k e = rw (asked-run g n l e k) (ask-take f g n old h size e)
+ask-run-take f g n l old h size e k = rw (asked-run g n l e k) (ask-take f g n old h size e)
 
-pub ask-run-give-up : (g : Generator) (n : ℕ) (l : List Call) → AllKeep l → askOf g n .code ≡ 0
+pub ask-run-give-up : (g : Generator) (n : ℕ) (l : List Call) → askOf g n .code ≡ 0 → AllKeep (historyOf l (askOf g n .next))
     → giveUpOf (run l (askOf g n .next)) ≡ record { code = 0; next = cleared g }
-ask-run-give-up g n l k e = rw (asked-run g n l e k) (ask-give-up g n e)
+ask-run-give-up g n l e k = rw (asked-run g n l e k) (ask-give-up g n e)
 
 -- 1,000,000 are the most, on a record as seeding makes it.
 pub most-asked : (a b : Stream) → InRange a → InRange b → seedFrom a b .code ≡ 0

@@ -3,7 +3,7 @@ use mathlib.Core.Path.{_≡_, refl, sym, ap, _∙_, subst}
 use mathlib.Core.Bool.{Bool, true, false, cond, true≢false}
 use mathlib.Core.List.{List, [], _∷_, map}
 use mathlib.Core.Logic.{_↔_, _⊎_, inl, inr}
-use Prim.Native.Nat.{ℕ, suc, _+_, _-_, _*_, _/_, _%_, _^_, _<_}
+use Prim.Native.Nat.{ℕ, suc, _+_, _*_, _/_, _%_, _<_}
 use native.Mathlib.Omega.{arith}
 use lib.Dec.{leb, eqb}
 use lib.ListN.{getD, drop}
@@ -18,7 +18,7 @@ use Rattle.streams.proofs.Theorems.{fit-minima}
 use Rattle.noise.specs.Runs.{returned}
 use Rattle.noise.proofs.Runs.{returned-code}
 use Rattle.histories.specs.Refusals.{Refusal, unfit-a, unfit-b, none-open, one-open, not-as-asked, odd-length, count-full}
-use Rattle.histories.specs.Refusals.{refusalCode, place, Applies, NoneBefore, Meeting, AllMeet, meetings}
+use Rattle.histories.specs.Refusals.{refusalCode, place, Open, TooMany, Odd, Passes, Applies, NoneBefore, Meeting, AllMeet, meetings}
 
 -- ---- One cause
 
@@ -36,11 +36,11 @@ unfit code u = by-test (fit u) refl
     by-test true e = inr (refl, λ n. n (fit-minima u .0 e))
     by-test false e = inl (refl, λ m. true≢false (sym (fit-minima u .1 m) ∙ e))
 
-opened : (g : Generator) → Settled 14 (openCode g) (g .waiting ≡ 0 → ⊥)
+opened : (g : Generator) → Settled 14 (openCode g) (Open g)
 unfolding openCode
 opened g = by-test (eqb (g .waiting) 0) refl
   where
-    by-test : (t : Bool) → eqb (g .waiting) 0 ≡ t → Settled 14 (cond t 0 14) (g .waiting ≡ 0 → ⊥)
+    by-test : (t : Bool) → eqb (g .waiting) 0 ≡ t → Settled 14 (cond t 0 14) (Open g)
     by-test true e = inr (refl, λ n. n (eqb-true _ _ e))
     by-test false e = inl (refl, eqb-false _ _ e)
 
@@ -52,41 +52,41 @@ closed g = by-test (eqb (g .waiting) 0) refl
     by-test true e = inl (refl, eqb-true _ _ e)
     by-test false e = inr (refl, eqb-false _ _ e)
 
-asked : (n : ℕ) → Settled 16 (askedCode n) (1000000 < n)
+asked : (n : ℕ) → Settled 16 (askedCode n) (TooMany n)
 unfolding askedCode
 asked n = by-test (leb n mostAsked) refl
   where
-    by-test : (t : Bool) → leb n mostAsked ≡ t → Settled 16 (cond t 0 16) (1000000 < n)
+    by-test : (t : Bool) → leb n mostAsked ≡ t → Settled 16 (cond t 0 16) (TooMany n)
     by-test true e = inr (refl, λ l. omega (arith, leb-true n mostAsked e))
     by-test false e = inl (refl, omega (arith, leb-false n mostAsked e))
 
-taken : (g : Generator) (n : ℕ) → Settled 16 (takenCode g n) ((1000000 < g .asked) ⊎ (n ≡ 2 * g .asked → ⊥))
+taken : (g : Generator) (n : ℕ) → Settled 16 (takenCode g n) (TooMany (g .asked) ⊎ (n ≡ 2 * g .asked → ⊥))
 unfolding takenCode
 taken g n = by-cases (asked (g .asked)) (eqb n (2 * g .asked)) refl
   where
-    by-cases : Settled 16 (askedCode (g .asked)) (1000000 < g .asked) → (t : Bool) → eqb n (2 * g .asked) ≡ t
-        → Settled 16 (takenCode g n) ((1000000 < g .asked) ⊎ (n ≡ 2 * g .asked → ⊥))
+    by-cases : Settled 16 (askedCode (g .asked)) (TooMany (g .asked)) → (t : Bool) → eqb n (2 * g .asked) ≡ t
+        → Settled 16 (takenCode g n) (TooMany (g .asked) ⊎ (n ≡ 2 * g .asked → ⊥))
     by-cases (inl (e, many)) t f = inl (rw (takenCode, e), inl many)
     by-cases (inr (e, few)) true f = inr (rw (takenCode, e, f), λ h. neither h)
       where
-        neither : (1000000 < g .asked) ⊎ (n ≡ 2 * g .asked → ⊥) → ⊥
+        neither : TooMany (g .asked) ⊎ (n ≡ 2 * g .asked → ⊥) → ⊥
         neither (inl many) = few many
         neither (inr other) = other (eqb-true _ _ f)
     by-cases (inr (e, few)) false f = inl (rw (takenCode, e, f), inr (eqb-false _ _ f))
 
-odd : (n : ℕ) → Settled 4 (lengthCode n) (n % 2 ≡ 1)
+odd : (n : ℕ) → Settled 4 (lengthCode n) (Odd n)
 unfolding lengthCode
 odd n = by-test (eqb (n % 2) 0) refl
   where
-    by-test : (t : Bool) → eqb (n % 2) 0 ≡ t → Settled 4 (cond t 0 4) (n % 2 ≡ 1)
+    by-test : (t : Bool) → eqb (n % 2) 0 ≡ t → Settled 4 (cond t 0 4) (Odd n)
     by-test true e = inr (refl, λ o. omega (arith, eqb-true (n % 2) 0 e))
     by-test false e = inl (refl, omega (arith, eqb-false (n % 2) 0 e))
 
-full : (g : Generator) (n : ℕ) → Settled 13 (countCode g n) (2 ^ 64 - 1 < g .count + n)
+full : (g : Generator) (n : ℕ) → Settled 13 (countCode g n) (Passes g n)
 unfolding countCode
 full g n = by-test (leb (g .count + n) mostCount) refl
   where
-    by-test : (t : Bool) → leb (g .count + n) mostCount ≡ t → Settled 13 (cond t 0 13) (2 ^ 64 - 1 < g .count + n)
+    by-test : (t : Bool) → leb (g .count + n) mostCount ≡ t → Settled 13 (cond t 0 13) (Passes g n)
     by-test true e = inr (refl, λ l. omega (arith, leb-true (g .count + n) mostCount e))
     by-test false e = inl (refl, omega (arith, leb-false (g .count + n) mostCount e))
 

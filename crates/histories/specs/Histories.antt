@@ -1,4 +1,5 @@
 -- Runs of calls on a record, each passed what the one before returned: their histories, and the draws that they hand out.
+use mathlib.Core.Path.{_≡_}
 use mathlib.Core.List.{List, [], _∷_}
 use Prim.Native.Nat.{ℕ, zero, suc, _+_, _*_, _/_, _%_}
 use lib.IntN.{ℤ}
@@ -38,20 +39,20 @@ countOf (e ∷ l) = ifAccepted (e .code) (figure (e .call)) 0 + countOf l
 
 -- ---- While a request is open
 
--- Any call but a take or giving up.
-abbrev pub Keeps : Call → Type 0
-Keeps numbers = Unit {0}
-Keeps a-pair = Unit {0}
-Keeps (a-skip n) = Unit {0}
-Keeps (a-block n) = Unit {0}
-Keeps (a-look n) = Unit {0}
-Keeps (an-ask n) = Unit {0}
-Keeps (a-take n) = ⊥
-Keeps give-up = ⊥
+-- A call with that code leaves it open: any but a take or giving up that is accepted.
+abbrev pub Keeps : Call → ℕ → Type 0
+Keeps numbers code = Unit {0}
+Keeps a-pair code = Unit {0}
+Keeps (a-skip n) code = Unit {0}
+Keeps (a-block n) code = Unit {0}
+Keeps (a-look n) code = Unit {0}
+Keeps (an-ask n) code = Unit {0}
+Keeps (a-take n) code = code ≡ 0 → ⊥
+Keeps give-up code = code ≡ 0 → ⊥
 
-abbrev pub AllKeep : List Call → Type 0
+abbrev pub AllKeep : List Entry → Type 0
 AllKeep [] = Unit {0}
-AllKeep (c ∷ l) = Keeps c × AllKeep l
+AllKeep (e ∷ l) = Keeps (e .call) (e .code) × AllKeep l
 
 -- ---- The draws behind the samples
 

@@ -10,6 +10,7 @@ use Rattle.streams.specs.Streams.Call.{numbers, a-pair, a-skip, a-block, a-look
 use Rattle.streams.specs.Recurrence.{Minima}
 use Rattle.noise.specs.Runs.{returned}
 
+-- The refusals of a call on a record, by their causes.
 pub data Refusal : Type 0 where
   unfit-a unfit-b none-open one-open not-as-asked odd-length count-full : Refusal
 
@@ -32,6 +33,22 @@ place not-as-asked = 4
 place odd-length = 5
 place count-full = 6
 
+-- A request is open, for 0 pairs too.
+abbrev pub Open : Generator → Type 0
+Open g = g .waiting ≡ 0 → ⊥
+
+-- "n above 1,000,000".
+abbrev pub TooMany : ℕ → Type 0
+TooMany n = 1000000 < n
+
+-- "block of odd length".
+abbrev pub Odd : ℕ → Type 0
+Odd n = n % 2 ≡ 1
+
+-- "The count would pass 2^64 - 1", by n pairs more.
+abbrev pub Passes : Generator → ℕ → Type 0
+Passes g n = 2 ^ 64 - 1 < g .count + n
+
 -- "15: none is open when taking or giving up".
 abbrev pub NoneOpen : Call → Generator → Type 0
 NoneOpen numbers g = ⊥
@@ -45,12 +62,12 @@ NoneOpen give-up g = g .waiting ≡ 0
 
 -- "A pair, block, skip or second ask is refused while one is open"; "a look never gets 14".
 abbrev pub OneOpen : Call → Generator → Type 0
-OneOpen numbers g = g .waiting ≡ 0 → ⊥
-OneOpen a-pair g = g .waiting ≡ 0 → ⊥
-OneOpen (a-skip n) g = g .waiting ≡ 0 → ⊥
-OneOpen (a-block n) g = g .waiting ≡ 0 → ⊥
+OneOpen numbers g = Open g
+OneOpen a-pair g = Open g
+OneOpen (a-skip n) g = Open g
+OneOpen (a-block n) g = Open g
 OneOpen (a-look n) g = ⊥
-OneOpen (an-ask n) g = g .waiting ≡ 0 → ⊥
+OneOpen (an-ask n) g = Open g
 OneOpen (a-take n) g = ⊥
 OneOpen give-up g = ⊥
 
@@ -61,30 +78,30 @@ NotAsAsked a-pair g = ⊥
 NotAsAsked (a-skip n) g = ⊥
 NotAsAsked (a-block n) g = ⊥
 NotAsAsked (a-look n) g = ⊥
-NotAsAsked (an-ask n) g = 1000000 < n
-NotAsAsked (a-take n) g = (1000000 < g .asked) ⊎ (n ≡ 2 * g .asked → ⊥)
+NotAsAsked (an-ask n) g = TooMany n
+NotAsAsked (a-take n) g = TooMany (g .asked) ⊎ (n ≡ 2 * g .asked → ⊥)
 NotAsAsked give-up g = ⊥
 
--- "4: block of odd length", of a look too; "on taking 16".
+-- 4 for a block and for a look; "on taking 16".
 abbrev pub OddLength : Call → Type 0
 OddLength numbers = ⊥
 OddLength a-pair = ⊥
 OddLength (a-skip n) = ⊥
-OddLength (a-block n) = n % 2 ≡ 1
-OddLength (a-look n) = n % 2 ≡ 1
+OddLength (a-block n) = Odd n
+OddLength (a-look n) = Odd n
 OddLength (an-ask n) = ⊥
 OddLength (a-take n) = ⊥
 OddLength give-up = ⊥
 
--- "13: the count would pass 2^64 - 1", "whole block or none"; "an ask tests its whole n against 13".
+-- 13, "whole block or none"; "an ask tests its whole n against 13".
 abbrev pub CountFull : Call → Generator → Type 0
-CountFull numbers g = 2 ^ 64 - 1 < g .count + 1
-CountFull a-pair g = 2 ^ 64 - 1 < g .count + 1
-CountFull (a-skip n) g = 2 ^ 64 - 1 < g .count + n
-CountFull (a-block n) g = 2 ^ 64 - 1 < g .count + n / 2
-CountFull (a-look n) g = 2 ^ 64 - 1 < g .count + n / 2
-CountFull (an-ask n) g = 2 ^ 64 - 1 < g .count + n
-CountFull (a-take n) g = 2 ^ 64 - 1 < g .count + g .asked
+CountFull numbers g = Passes g 1
+CountFull a-pair g = Passes g 1
+CountFull (a-skip n) g = Passes g n
+CountFull (a-block n) g = Passes g (n / 2)
+CountFull (a-look n) g = Passes g (n / 2)
+CountFull (an-ask n) g = Passes g n
+CountFull (a-take n) g = Passes g (g .asked)
 CountFull give-up g = ⊥
 
 -- The cause of a refusal; "11 for stream a and 12 for stream b", for all calls alike.

@@ -11,7 +11,7 @@ use Rattle.streams.specs.Streams.{Call, noted, cleared, recordCode, uniformsOf,
 use Rattle.streams.specs.Recurrence.{top, combined, drawAt, seedFrom, InRange, Sound}
 use Rattle.noise.specs.Noise.{pairOf, blockOf, blockHolds, lookOf, lookHolds, takeOf, takeHolds}
 use Rattle.noise.specs.Runs.{returned, run}
-use Rattle.histories.specs.Refusals.{Refusal, refusalCode, Applies, NoneBefore, AllMeet, meetings}
+use Rattle.histories.specs.Refusals.{Refusal, refusalCode, Open, Applies, NoneBefore, AllMeet, meetings}
 use Rattle.histories.specs.Histories.{historyOf, countOf, AllKeep, kAt, vAt, drawnSamples}
 
 -- Of every call on every record, fit or not.
@@ -32,16 +32,16 @@ pub record OfRefusals : Type 0 where
 
 -- Of requests; `Sound` records have fit streams of 32 bits, and any count and note.
 pub record OfRequests : Type 0 where
-  -- while a request is open, a run of any calls but a take or giving up leaves the record equal
-  pub open-run : (l : List Call) (g : Generator) → (g .waiting ≡ 0 → ⊥) → AllKeep l → run l g ≡ g
+  -- while a request is open, a run in which no take and no giving up is accepted leaves the record equal
+  pub open-run : (l : List Call) (g : Generator) → Open g → AllKeep (historyOf l g) → run l g ≡ g
   -- asking, such a run and "taking gives the samples, registers and count of one block call"
-  pub ask-run-take : (f : ℕ) (g : Generator) (n : ℕ) (l : List Call) (old : List ℤ) → Sound g → length old ≡ 2 * n → AllKeep l
-      → askOf g n .code ≡ 0
+  pub ask-run-take : (f : ℕ) (g : Generator) (n : ℕ) (l : List Call) (old : List ℤ) → Sound g → length old ≡ 2 * n → askOf g n .code ≡ 0
+      → AllKeep (historyOf l (askOf g n .next))
       → (blockOf g (length old) .code ≡ 0)
       × (takeOf (run l (askOf g n .next)) (length old) ≡ record { code = 0; next = cleared (blockOf g (length old) .next) })
       × (takeHolds f (run l (askOf g n .next)) old ≡ blockHolds f g old)
   -- asking, such a run and giving up gives the record before the ask, its note cleared
-  pub ask-run-give-up : (g : Generator) (n : ℕ) (l : List Call) → AllKeep l → askOf g n .code ≡ 0
+  pub ask-run-give-up : (g : Generator) (n : ℕ) (l : List Call) → askOf g n .code ≡ 0 → AllKeep (historyOf l (askOf g n .next))
       → giveUpOf (run l (askOf g n .next)) ≡ record { code = 0; next = cleared g }
   -- "asking for n pairs, 0 to 1,000,000": so many are accepted on a record just seeded, and one more is not
   pub most-asked : (a b : Stream) → InRange a → InRange b → seedFrom a b .code ≡ 0
