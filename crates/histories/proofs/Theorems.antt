@@ -9,9 +9,10 @@ use Rattle.streams.proofs.Theorems.{seeded, stream-history}
 use Rattle.noise.specs.Noise.{takeOf}
 use Rattle.histories.specs.Theorems.{OfRefusals, OfRequests, NextDraws, OfRuns}
 use Rattle.histories.proofs.Refusals.{under-cause, accepted, no-other, meetings-meet}
-use Rattle.histories.proofs.Histories.{look-code, skip-none, open-run, ask-run-take, ask-run-give-up, most-asked, fit-for-ever}
-use Rattle.histories.proofs.Histories.{told-from-seeding, told-count, taken-half}
-use Rattle.histories.proofs.Histories.{numbers-drawn, pair-drawn, block-drawn, look-drawn, take-drawn}
+use Rattle.histories.proofs.Calls.{skip-none, look-code}
+use Rattle.histories.proofs.Requests.{open-run, ask-run-take, ask-run-give-up, most-asked}
+use Rattle.histories.proofs.Histories.{fit-for-ever, told-from-seeding, told-count, taken-half}
+use Rattle.histories.proofs.Draws.{numbers-drawn, pair-drawn, block-drawn, look-drawn, take-drawn}
 
 pub of-refusals : OfRefusals
 of-refusals = record {

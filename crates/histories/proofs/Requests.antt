@@ -1,0 +1,74 @@
+-- What an open request leaves, and how many pairs are asked for at most.
+use mathlib.Core.Path.{_≡_, refl, _∙_}
+use mathlib.Core.List.{List, [], _∷_}
+use Prim.Native.Nat.{ℕ, _*_}
+use native.Mathlib.Omega.{arith}
+use lib.Dec.{eqb}
+use lib.IntN.{ℤ}
+use lib.ListN.{length}
+use Rattle.streams.specs.declared.Stream.{Stream}
+use Rattle.streams.specs.declared.Generator.{Generator}
+use Rattle.streams.specs.Streams.{Call, fresh, cleared, openCode, askedCode, countCode, noteCode, ownCode, roomCode, codeOf}
+use Rattle.streams.specs.Streams.{askOf, giveUpOf}
+use Rattle.streams.specs.Streams.Call.{numbers, a-pair, a-skip, a-block, a-look, an-ask, a-take, give-up}
+use Rattle.streams.specs.Recurrence.{InRange, Sound, seedFrom}
+use Rattle.streams.proofs.Causes.{accepted-causes, none-open}
+use Rattle.streams.proofs.Theorems.{sound-accepted, seeded}
+use Rattle.noise.specs.Noise.{blockOf, blockHolds, takeOf, takeHolds}
+use Rattle.noise.specs.Runs.{returned, run}
+use Rattle.noise.proofs.Requests.{ask-notes, ask-take, ask-give-up}
+use Rattle.noise.proofs.Runs.{returned-code, leftBy, next-is}
+use Rattle.histories.specs.Refusals.{Open}
+use Rattle.histories.specs.Histories.{historyOf, Keeps, AllKeep}
+use Rattle.histories.proofs.Calls.{refused-stays, same-either-way}
+
+-- A call that keeps the request leaves the record as it is,
+open-stays : (c : Call) (g : Generator) → Open g → Keeps c (returned c g .code) → returned c g .next ≡ g
+unfolding noteCode leftBy
+open-stays c g h k = by-call c k
+  where
+    refused : (c : Call) → (codeOf c g ≡ 0 → g .waiting ≡ 0) → returned c g .next ≡ g
+    refused c none = refused-stays c g (λ e. omega (arith, h, none e))
+
+    by-call : (c : Call) → Keeps c (returned c g .code) → returned c g .next ≡ g
+    by-call numbers k = refused numbers (λ e. none-open g .0 (accepted-causes numbers g .0 e .1))
+    by-call a-pair k = refused a-pair (λ e. none-open g .0 (accepted-causes a-pair g .0 e .1))
+    by-call (a-skip n) k = refused (a-skip n) (λ e. none-open g .0 (accepted-causes (a-skip n) g .0 e .1))
+    by-call (a-block n) k = refused (a-block n) (λ e. none-open g .0 (accepted-causes (a-block n) g .0 e .1))
+    by-call (a-look n) k = next-is (a-look n) g ∙ same-either-way (eqb (codeOf (a-look n) g) 0) g
+    by-call (an-ask n) k = refused (an-ask n) (λ e. none-open g .0 (accepted-causes (an-ask n) g .0 e .1))
+    by-call (a-take n) k = refused-stays (a-take n) g (λ e. omega (arith, k, returned-code (a-take n) g, e))
+    by-call give-up k = refused-stays give-up g (λ e. omega (arith, k, returned-code give-up g, e))
+
+-- and so does a run of them.
+pub open-run : (l : List Call) (g : Generator) → Open g → AllKeep (historyOf l g) → run l g ≡ g
+unfolding run historyOf
+open-run [] g h k = refl
+open-run (c ∷ l) g h (k, rest) =
+    let same : returned c g .next ≡ g = open-stays c g h k in
+    rw same (open-run l g h (rw same at rest))
+
+-- The record that an accepted ask leaves, after such a run.
+asked-run : (g : Generator) (n : ℕ) (l : List Call) → askOf g n .code ≡ 0 → AllKeep (historyOf l (askOf g n .next))
+    → run l (askOf g n .next) ≡ askOf g n .next
+asked-run g n l e k = open-run l (askOf g n .next) (rw (ask-notes g n e) (λ z. omega (arith, z))) k
+
+pub ask-run-take : (f : ℕ) (g : Generator) (n : ℕ) (l : List Call) (old : List ℤ) → Sound g → length old ≡ 2 * n → askOf g n .code ≡ 0
+    → AllKeep (historyOf l (askOf g n .next))
+    → (blockOf g (length old) .code ≡ 0)
+    × (takeOf (run l (askOf g n .next)) (length old) ≡ record { code = 0; next = cleared (blockOf g (length old) .next) })
+    × (takeHolds f (run l (askOf g n .next)) old ≡ blockHolds f g old)
+ask-run-take f g n l old h size e k = rw (asked-run g n l e k) (ask-take f g n old h size e)
+
+pub ask-run-give-up : (g : Generator) (n : ℕ) (l : List Call) → askOf g n .code ≡ 0 → AllKeep (historyOf l (askOf g n .next))
+    → giveUpOf (run l (askOf g n .next)) ≡ record { code = 0; next = cleared g }
+ask-run-give-up g n l e k = rw (asked-run g n l e k) (ask-give-up g n e)
+
+-- 1,000,000 are the most, on a record as seeding makes it.
+pub most-asked : (a b : Stream) → InRange a → InRange b → seedFrom a b .code ≡ 0
+    → (askOf (seedFrom a b .next) 1000000 .code ≡ 0) × (askOf (seedFrom a b .next) 1000001 .code ≡ 16)
+unfolding askOf codeOf noteCode ownCode roomCode openCode askedCode countCode
+most-asked a b ra rb h =
+    let (is-fresh, is-sound) = seeded a b ra rb h in
+    let fits = sound-accepted (fresh a b) is-sound in
+    rw (is-fresh, fits) (refl, refl)
