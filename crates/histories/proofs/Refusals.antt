@@ -18,7 +18,7 @@ use Rattle.streams.proofs.Theorems.{fit-minima}
 use Rattle.noise.specs.Runs.{returned}
 use Rattle.noise.proofs.Runs.{returned-code}
 use Rattle.histories.specs.Refusals.{Refusal, unfit-a, unfit-b, none-open, one-open, not-as-asked, odd-length, count-full}
-use Rattle.histories.specs.Refusals.{refusalCode, place, Open, TooMany, Odd, Passes, Applies, NoneBefore, Meeting, AllMeet, meetings}
+use Rattle.histories.specs.Refusals.{refusalCode, place, NoneOpen, Open, TooMany, OtherSize, Odd, Passes, CauseOf, Applies, NoneBefore, Meeting, AllMeet, meetings}
 
 -- ---- One cause
 
@@ -41,14 +41,14 @@ unfolding openCode
 opened g = by-test (eqb (g .waiting) 0) refl
   where
     by-test : (t : Bool) → eqb (g .waiting) 0 ≡ t → Settled 14 (cond t 0 14) (Open g)
-    by-test true e = inr (refl, λ n. n (eqb-true _ _ e))
+    by-test true e = inr (refl, λ h. omega (arith, h, eqb-true (g .waiting) 0 e))
     by-test false e = inl (refl, eqb-false _ _ e)
 
-closed : (g : Generator) → Settled 15 (noneOpenCode g) (g .waiting ≡ 0)
+closed : (g : Generator) → Settled 15 (noneOpenCode g) (NoneOpen g)
 unfolding noneOpenCode
 closed g = by-test (eqb (g .waiting) 0) refl
   where
-    by-test : (t : Bool) → eqb (g .waiting) 0 ≡ t → Settled 15 (cond t 15 0) (g .waiting ≡ 0)
+    by-test : (t : Bool) → eqb (g .waiting) 0 ≡ t → Settled 15 (cond t 15 0) (NoneOpen g)
     by-test true e = inl (refl, eqb-true _ _ e)
     by-test false e = inr (refl, eqb-false _ _ e)
 
@@ -60,16 +60,16 @@ asked n = by-test (leb n mostAsked) refl
     by-test true e = inr (refl, λ l. omega (arith, leb-true n mostAsked e))
     by-test false e = inl (refl, omega (arith, leb-false n mostAsked e))
 
-taken : (g : Generator) (n : ℕ) → Settled 16 (takenCode g n) (TooMany (g .asked) ⊎ (n ≡ 2 * g .asked → ⊥))
+taken : (g : Generator) (n : ℕ) → Settled 16 (takenCode g n) (TooMany (g .asked) ⊎ OtherSize g n)
 unfolding takenCode
 taken g n = by-cases (asked (g .asked)) (eqb n (2 * g .asked)) refl
   where
     by-cases : Settled 16 (askedCode (g .asked)) (TooMany (g .asked)) → (t : Bool) → eqb n (2 * g .asked) ≡ t
-        → Settled 16 (takenCode g n) (TooMany (g .asked) ⊎ (n ≡ 2 * g .asked → ⊥))
+        → Settled 16 (takenCode g n) (TooMany (g .asked) ⊎ OtherSize g n)
     by-cases (inl (e, many)) t f = inl (rw (takenCode, e), inl many)
     by-cases (inr (e, few)) true f = inr (rw (takenCode, e, f), λ h. neither h)
       where
-        neither : TooMany (g .asked) ⊎ (n ≡ 2 * g .asked → ⊥) → ⊥
+        neither : TooMany (g .asked) ⊎ OtherSize g n → ⊥
         neither (inl many) = few many
         neither (inr other) = other (eqb-true _ _ f)
     by-cases (inr (e, few)) false f = inl (rw (takenCode, e, f), inr (eqb-false _ _ f))
@@ -93,103 +93,50 @@ full g n = by-test (leb (g .count + n) mostCount) refl
 -- ---- The causes of a call
 
 -- What the chain of tests has for each refusal.
-abbrev noneOpenOf : Call → Generator → ℕ
-noneOpenOf numbers g = 0
-noneOpenOf a-pair g = 0
-noneOpenOf (a-skip n) g = 0
-noneOpenOf (a-block n) g = 0
-noneOpenOf (a-look n) g = 0
-noneOpenOf (an-ask n) g = 0
-noneOpenOf (a-take n) g = noneOpenCode g
-noneOpenOf give-up g = noneOpenCode g
-
-abbrev oneOpenOf : Call → Generator → ℕ
-oneOpenOf numbers g = openCode g
-oneOpenOf a-pair g = openCode g
-oneOpenOf (a-skip n) g = openCode g
-oneOpenOf (a-block n) g = openCode g
-oneOpenOf (a-look n) g = 0
-oneOpenOf (an-ask n) g = openCode g
-oneOpenOf (a-take n) g = 0
-oneOpenOf give-up g = 0
-
-abbrev askedOf : Call → Generator → ℕ
-askedOf numbers g = 0
-askedOf a-pair g = 0
-askedOf (a-skip n) g = 0
-askedOf (a-block n) g = 0
-askedOf (a-look n) g = 0
-askedOf (an-ask n) g = askedCode n
-askedOf (a-take n) g = takenCode g n
-askedOf give-up g = 0
-
-abbrev lengthOf : Call → ℕ
-lengthOf numbers = 0
-lengthOf a-pair = 0
-lengthOf (a-skip n) = 0
-lengthOf (a-block n) = lengthCode n
-lengthOf (a-look n) = lengthCode n
-lengthOf (an-ask n) = 0
-lengthOf (a-take n) = 0
-lengthOf give-up = 0
+abbrev chain : Generator → (none one asked odd full : ℕ) → Refusal → ℕ
+chain g none one asked odd full unfit-a = cond (fit (g .a)) 0 11
+chain g none one asked odd full unfit-b = cond (fit (g .b)) 0 12
+chain g none one asked odd full none-open = none
+chain g none one asked odd full one-open = one
+chain g none one asked odd full not-as-asked = asked
+chain g none one asked odd full odd-length = odd
+chain g none one asked odd full count-full = full
 
 abbrev causeOf : Call → Generator → Refusal → ℕ
-causeOf c g unfit-a = cond (fit (g .a)) 0 11
-causeOf c g unfit-b = cond (fit (g .b)) 0 12
-causeOf c g none-open = noneOpenOf c g
-causeOf c g one-open = oneOpenOf c g
-causeOf c g not-as-asked = askedOf c g
-causeOf c g odd-length = lengthOf c
-causeOf c g count-full = roomCode c g
+causeOf numbers g = chain g 0 (openCode g) 0 0 (countCode g 1)
+causeOf a-pair g = chain g 0 (openCode g) 0 0 (countCode g 1)
+causeOf (a-skip n) g = chain g 0 (openCode g) 0 0 (countCode g n)
+causeOf (a-block n) g = chain g 0 (openCode g) 0 (lengthCode n) (countCode g (n / 2))
+causeOf (a-look n) g = chain g 0 0 0 (lengthCode n) (countCode g (n / 2))
+causeOf (an-ask n) g = chain g 0 (openCode g) (askedCode n) 0 (countCode g n)
+causeOf (a-take n) g = chain g (noneOpenCode g) 0 (takenCode g n) 0 (countCode g (g .asked))
+causeOf give-up g = chain g (noneOpenCode g) 0 0 0 0
 
 order : List Refusal
 order = unfit-a ∷ unfit-b ∷ none-open ∷ one-open ∷ not-as-asked ∷ odd-length ∷ count-full ∷ []
 
 -- It is the code just where the refusal's cause holds.
+settled-chain : (g : Generator) {none one asked odd full : ℕ} {None One Asked Odd Full : Type 0}
+    → Settled 15 none None → Settled 14 one One → Settled 16 asked Asked → Settled 4 odd Odd → Settled 13 full Full
+    → (r : Refusal) → Settled (refusalCode r) (chain g none one asked odd full r) (CauseOf g None One Asked Odd Full r)
+unfolding refusalCode
+settled-chain g none one asked odd full unfit-a = unfit 11 (g .a)
+settled-chain g none one asked odd full unfit-b = unfit 12 (g .b)
+settled-chain g none one asked odd full none-open = none
+settled-chain g none one asked odd full one-open = one
+settled-chain g none one asked odd full not-as-asked = asked
+settled-chain g none one asked odd full odd-length = odd
+settled-chain g none one asked odd full count-full = full
+
 settled : (c : Call) (g : Generator) (r : Refusal) → Settled (refusalCode r) (causeOf c g r) (Applies r c g)
-unfolding refusalCode roomCode
-settled c g unfit-a = unfit 11 (g .a)
-settled c g unfit-b = unfit 12 (g .b)
-settled numbers g none-open = never 15
-settled a-pair g none-open = never 15
-settled (a-skip n) g none-open = never 15
-settled (a-block n) g none-open = never 15
-settled (a-look n) g none-open = never 15
-settled (an-ask n) g none-open = never 15
-settled (a-take n) g none-open = closed g
-settled give-up g none-open = closed g
-settled numbers g one-open = opened g
-settled a-pair g one-open = opened g
-settled (a-skip n) g one-open = opened g
-settled (a-block n) g one-open = opened g
-settled (a-look n) g one-open = never 14
-settled (an-ask n) g one-open = opened g
-settled (a-take n) g one-open = never 14
-settled give-up g one-open = never 14
-settled numbers g not-as-asked = never 16
-settled a-pair g not-as-asked = never 16
-settled (a-skip n) g not-as-asked = never 16
-settled (a-block n) g not-as-asked = never 16
-settled (a-look n) g not-as-asked = never 16
-settled (an-ask n) g not-as-asked = asked n
-settled (a-take n) g not-as-asked = taken g n
-settled give-up g not-as-asked = never 16
-settled numbers g odd-length = never 4
-settled a-pair g odd-length = never 4
-settled (a-skip n) g odd-length = never 4
-settled (a-block n) g odd-length = odd n
-settled (a-look n) g odd-length = odd n
-settled (an-ask n) g odd-length = never 4
-settled (a-take n) g odd-length = never 4
-settled give-up g odd-length = never 4
-settled numbers g count-full = full g 1
-settled a-pair g count-full = full g 1
-settled (a-skip n) g count-full = full g n
-settled (a-block n) g count-full = full g (n / 2)
-settled (a-look n) g count-full = full g (n / 2)
-settled (an-ask n) g count-full = full g n
-settled (a-take n) g count-full = full g (g .asked)
-settled give-up g count-full = never 13
+settled numbers g = settled-chain g (never 15) (opened g) (never 16) (never 4) (full g 1)
+settled a-pair g = settled-chain g (never 15) (opened g) (never 16) (never 4) (full g 1)
+settled (a-skip n) g = settled-chain g (never 15) (opened g) (never 16) (never 4) (full g n)
+settled (a-block n) g = settled-chain g (never 15) (opened g) (never 16) (odd n) (full g (n / 2))
+settled (a-look n) g = settled-chain g (never 15) (never 14) (never 16) (odd n) (full g (n / 2))
+settled (an-ask n) g = settled-chain g (never 15) (opened g) (asked n) (never 4) (full g n)
+settled (a-take n) g = settled-chain g (closed g) (never 14) (taken g n) (never 4) (full g (g .asked))
+settled give-up g = settled-chain g (closed g) (never 14) (never 16) (never 4) (never 13)
 
 -- 11 and 12 apart are the record's one cause
 both-streams : (a b : Bool) (causes : List ℕ)
@@ -200,11 +147,11 @@ both-streams false b causes = refl
 
 -- The code that a call returns is the first of them.
 first-of : (c : Call) (g : Generator) → returned c g .code ≡ firstCause (map (causeOf c g) order)
-unfolding codeOf noteCode ownCode recordCode order
+unfolding codeOf noteCode ownCode roomCode recordCode order
 first-of c g = returned-code c g ∙ both-streams (fit (g .a)) (fit (g .b)) (noteCode c g ∷ ownCode c g ∷ roomCode c g ∷ []) ∙ by-call c
   where
     by-call : (c : Call)
-        → firstCause (causeOf c g unfit-a ∷ causeOf c g unfit-b ∷ noteCode c g ∷ ownCode c g ∷ roomCode c g ∷ [])
+        → firstCause (cond (fit (g .a)) 0 11 ∷ cond (fit (g .b)) 0 12 ∷ noteCode c g ∷ ownCode c g ∷ roomCode c g ∷ [])
         ≡ firstCause (map (causeOf c g) order)
     by-call numbers = refl
     by-call a-pair = refl
@@ -367,13 +314,13 @@ all-meet [] e = tt
 all-meet (m ∷ l) e =
     let here : computed m ≡ claimed m = ap (λ (rows : List (List ℕ)). getD rows 0 []) e in (
       (
-        told _ _ (m .first) (ap (λ (row : List ℕ). getD row 0 0) here),
-        told _ _ (m .second) (ap (λ (row : List ℕ). getD row 1 0) here),
+        told (m .call) (m .given) (m .first) (ap (λ (row : List ℕ). getD row 0 0) here),
+        told (m .call) (m .given) (m .second) (ap (λ (row : List ℕ). getD row 1 0) here),
         first-of (m .call) (m .given) ∙ ap (λ (row : List ℕ). getD row 2 0) here,
       ),
       all-meet l (ap (λ (rows : List (List ℕ)). drop 1 rows) e),
     )
 
 pub meetings-meet : AllMeet meetings
-unfolding meetings computed claimed order refusalCode fit openCode noneOpenCode askedCode takenCode lengthCode roomCode countCode
+unfolding meetings computed claimed order refusalCode fit openCode noneOpenCode askedCode takenCode lengthCode countCode
 meetings-meet = all-meet meetings refl

@@ -12,31 +12,31 @@ use Rattle.streams.specs.Streams.{Call, fresh, cleared, openCode, askedCode, co
 use Rattle.streams.specs.Streams.{askOf, giveUpOf}
 use Rattle.streams.specs.Streams.Call.{numbers, a-pair, a-skip, a-block, a-look, an-ask, a-take, give-up}
 use Rattle.streams.specs.Recurrence.{InRange, Sound, seedFrom}
-use Rattle.streams.proofs.Causes.{accepted-causes, none-open}
 use Rattle.streams.proofs.Theorems.{sound-accepted, seeded}
 use Rattle.noise.specs.Noise.{blockOf, blockHolds, takeOf, takeHolds}
 use Rattle.noise.specs.Runs.{returned, run}
 use Rattle.noise.proofs.Requests.{ask-notes, ask-take, ask-give-up}
 use Rattle.noise.proofs.Runs.{returned-code, leftBy, next-is}
-use Rattle.histories.specs.Refusals.{Open}
+use Rattle.histories.specs.Refusals.{one-open, Open, Applies}
 use Rattle.histories.specs.Histories.{historyOf, Keeps, AllKeep}
+use Rattle.histories.proofs.Refusals.{accepted}
 use Rattle.histories.proofs.Calls.{refused-stays, same-either-way}
 
 -- A call that keeps the request leaves the record as it is,
 open-stays : (c : Call) (g : Generator) → Open g → Keeps c (returned c g .code) → returned c g .next ≡ g
-unfolding noteCode leftBy
+unfolding leftBy
 open-stays c g h k = by-call c k
   where
-    refused : (c : Call) → (codeOf c g ≡ 0 → g .waiting ≡ 0) → returned c g .next ≡ g
-    refused c none = refused-stays c g (λ e. omega (arith, h, none e))
+    waits : (c : Call) → Applies one-open c g → returned c g .next ≡ g
+    waits c holds = refused-stays c g (λ e. accepted c g .0 (returned-code c g ∙ e) one-open holds)
 
     by-call : (c : Call) → Keeps c (returned c g .code) → returned c g .next ≡ g
-    by-call numbers k = refused numbers (λ e. none-open g .0 (accepted-causes numbers g .0 e .1))
-    by-call a-pair k = refused a-pair (λ e. none-open g .0 (accepted-causes a-pair g .0 e .1))
-    by-call (a-skip n) k = refused (a-skip n) (λ e. none-open g .0 (accepted-causes (a-skip n) g .0 e .1))
-    by-call (a-block n) k = refused (a-block n) (λ e. none-open g .0 (accepted-causes (a-block n) g .0 e .1))
+    by-call numbers k = waits numbers h
+    by-call a-pair k = waits a-pair h
+    by-call (a-skip n) k = waits (a-skip n) h
+    by-call (a-block n) k = waits (a-block n) h
     by-call (a-look n) k = next-is (a-look n) g ∙ same-either-way (eqb (codeOf (a-look n) g) 0) g
-    by-call (an-ask n) k = refused (an-ask n) (λ e. none-open g .0 (accepted-causes (an-ask n) g .0 e .1))
+    by-call (an-ask n) k = waits (an-ask n) h
     by-call (a-take n) k = refused-stays (a-take n) g (λ e. omega (arith, k, returned-code (a-take n) g, e))
     by-call give-up k = refused-stays give-up g (λ e. omega (arith, k, returned-code give-up g, e))
 

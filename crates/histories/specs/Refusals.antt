@@ -33,13 +33,20 @@ place not-as-asked = 4
 place odd-length = 5
 place count-full = 6
 
--- A request is open, for 0 pairs too.
+-- No request is open; one is, for 0 pairs too.
+abbrev pub NoneOpen : Generator → Type 0
+NoneOpen g = g .waiting ≡ 0
+
 abbrev pub Open : Generator → Type 0
 Open g = g .waiting ≡ 0 → ⊥
 
 -- "n above 1,000,000".
 abbrev pub TooMany : ℕ → Type 0
 TooMany n = 1000000 < n
+
+-- "a block not of 2n samples", n being noted.
+abbrev pub OtherSize : Generator → ℕ → Type 0
+OtherSize g m = m ≡ 2 * g .asked → ⊥
 
 -- "block of odd length".
 abbrev pub Odd : ℕ → Type 0
@@ -49,70 +56,28 @@ Odd n = n % 2 ≡ 1
 abbrev pub Passes : Generator → ℕ → Type 0
 Passes g n = 2 ^ 64 - 1 < g .count + n
 
--- "15: none is open when taking or giving up".
-abbrev pub NoneOpen : Call → Generator → Type 0
-NoneOpen numbers g = ⊥
-NoneOpen a-pair g = ⊥
-NoneOpen (a-skip n) g = ⊥
-NoneOpen (a-block n) g = ⊥
-NoneOpen (a-look n) g = ⊥
-NoneOpen (an-ask n) g = ⊥
-NoneOpen (a-take n) g = g .waiting ≡ 0
-NoneOpen give-up g = g .waiting ≡ 0
+-- "11 for stream a and 12 for stream b", of every call; 15, 14, 16, 4 and 13 by these causes of the call.
+abbrev pub CauseOf : Generator → (none one asked odd full : Type 0) → Refusal → Type 0
+CauseOf g none one asked odd full unfit-a = Minima (g .a) → ⊥
+CauseOf g none one asked odd full unfit-b = Minima (g .b) → ⊥
+CauseOf g none one asked odd full none-open = none
+CauseOf g none one asked odd full one-open = one
+CauseOf g none one asked odd full not-as-asked = asked
+CauseOf g none one asked odd full odd-length = odd
+CauseOf g none one asked odd full count-full = full
 
--- "A pair, block, skip or second ask is refused while one is open"; "a look never gets 14".
-abbrev pub OneOpen : Call → Generator → Type 0
-OneOpen numbers g = Open g
-OneOpen a-pair g = Open g
-OneOpen (a-skip n) g = Open g
-OneOpen (a-block n) g = Open g
-OneOpen (a-look n) g = ⊥
-OneOpen (an-ask n) g = Open g
-OneOpen (a-take n) g = ⊥
-OneOpen give-up g = ⊥
-
--- "16: n above 1,000,000, asked or found noted on taking, or a block not of 2n samples".
-abbrev pub NotAsAsked : Call → Generator → Type 0
-NotAsAsked numbers g = ⊥
-NotAsAsked a-pair g = ⊥
-NotAsAsked (a-skip n) g = ⊥
-NotAsAsked (a-block n) g = ⊥
-NotAsAsked (a-look n) g = ⊥
-NotAsAsked (an-ask n) g = TooMany n
-NotAsAsked (a-take n) g = TooMany (g .asked) ⊎ (n ≡ 2 * g .asked → ⊥)
-NotAsAsked give-up g = ⊥
-
--- 4 for a block and for a look; "on taking 16".
-abbrev pub OddLength : Call → Type 0
-OddLength numbers = ⊥
-OddLength a-pair = ⊥
-OddLength (a-skip n) = ⊥
-OddLength (a-block n) = Odd n
-OddLength (a-look n) = Odd n
-OddLength (an-ask n) = ⊥
-OddLength (a-take n) = ⊥
-OddLength give-up = ⊥
-
--- 13, "whole block or none"; "an ask tests its whole n against 13".
-abbrev pub CountFull : Call → Generator → Type 0
-CountFull numbers g = Passes g 1
-CountFull a-pair g = Passes g 1
-CountFull (a-skip n) g = Passes g n
-CountFull (a-block n) g = Passes g (n / 2)
-CountFull (a-look n) g = Passes g (n / 2)
-CountFull (an-ask n) g = Passes g n
-CountFull (a-take n) g = Passes g (g .asked)
-CountFull give-up g = ⊥
-
--- The cause of a refusal; "11 for stream a and 12 for stream b", for all calls alike.
+-- "15: none is open when taking or giving up". 14: "a pair, block, skip or second ask is refused while one is open"; "a look never gets 14". "16: n above
+-- 1,000,000, asked or found noted on taking, or a block not of 2n samples". 4 for a block and a look, "on taking 16". 13: "whole block or none"; "an ask
+-- tests its whole n".
 abbrev pub Applies : Refusal → Call → Generator → Type 0
-Applies unfit-a c g = Minima (g .a) → ⊥
-Applies unfit-b c g = Minima (g .b) → ⊥
-Applies none-open c g = NoneOpen c g
-Applies one-open c g = OneOpen c g
-Applies not-as-asked c g = NotAsAsked c g
-Applies odd-length c g = OddLength c
-Applies count-full c g = CountFull c g
+Applies r numbers g = CauseOf g ⊥ (Open g) ⊥ ⊥ (Passes g 1) r
+Applies r a-pair g = CauseOf g ⊥ (Open g) ⊥ ⊥ (Passes g 1) r
+Applies r (a-skip n) g = CauseOf g ⊥ (Open g) ⊥ ⊥ (Passes g n) r
+Applies r (a-block n) g = CauseOf g ⊥ (Open g) ⊥ (Odd n) (Passes g (n / 2)) r
+Applies r (a-look n) g = CauseOf g ⊥ ⊥ ⊥ (Odd n) (Passes g (n / 2)) r
+Applies r (an-ask n) g = CauseOf g ⊥ (Open g) (TooMany n) ⊥ (Passes g n) r
+Applies r (a-take n) g = CauseOf g (NoneOpen g) ⊥ (TooMany (g .asked) ⊎ OtherSize g n) ⊥ (Passes g (g .asked)) r
+Applies r give-up g = CauseOf g (NoneOpen g) ⊥ ⊥ ⊥ ⊥ r
 
 -- No cause that is tested before it.
 abbrev pub NoneBefore : Refusal → Call → Generator → Type 0
