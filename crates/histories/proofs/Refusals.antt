@@ -18,7 +18,7 @@ use Rattle.streams.proofs.Theorems.{fit-minima}
 use Rattle.noise.specs.Runs.{returned}
 use Rattle.noise.proofs.Runs.{returned-code}
 use Rattle.histories.specs.Refusals.{Refusal, unfit-a, unfit-b, none-open, one-open, not-as-asked, odd-length, count-full}
-use Rattle.histories.specs.Refusals.{refusalCode, place, NoneOpen, Open, TooMany, OtherSize, Odd, Passes, CauseOf, Applies, NoneBefore, Meeting, AllMeet, meetings}
+use Rattle.histories.specs.Refusals.{refusalCode, order, placeIn, place, NoneOpen, Open, TooMany, OtherSize, Odd, Passes, CauseOf, Applies, NoneBefore, Meeting, AllMeet, meetings}
 
 -- ---- One cause
 
@@ -112,9 +112,6 @@ causeOf (an-ask n) g = chain g 0 (openCode g) (askedCode n) 0 (countCode g n)
 causeOf (a-take n) g = chain g (noneOpenCode g) 0 (takenCode g n) 0 (countCode g (g .asked))
 causeOf give-up g = chain g (noneOpenCode g) 0 0 0 0
 
-order : List Refusal
-order = unfit-a ∷ unfit-b ∷ none-open ∷ one-open ∷ not-as-asked ∷ odd-length ∷ count-full ∷ []
-
 -- It is the code just where the refusal's cause holds.
 settled-chain : (g : Generator) {none one asked odd full : ℕ} {None One Asked Odd Full : Type 0}
     → Settled 15 none None → Settled 14 one One → Settled 16 asked Asked → Settled 4 odd Odd → Settled 13 full Full
@@ -164,12 +161,12 @@ first-of c g = returned-code c g ∙ both-streams (fit (g .a)) (fit (g .b)) (not
 
 -- ---- The first that applies
 
--- A refusal by its place in the order, and by its code.
+-- The refusal at a place.
 at : ℕ → Refusal
 at n = getD order n unfit-a
 
 at-place : (r : Refusal) → at (place r) ≡ r
-unfolding at order place
+unfolding at order placeIn refusalCode
 at-place unfit-a = refl
 at-place unfit-b = refl
 at-place none-open = refl
@@ -181,23 +178,14 @@ at-place count-full = refl
 one-place : (q r : Refusal) → place q ≡ place r → q ≡ r
 one-place q r e = sym (at-place q) ∙ ap at e ∙ at-place r
 
--- the refusal of a code: the first of the order that has it
-withCode : List Refusal → ℕ → Refusal
-withCode [] n = unfit-a
-withCode (r ∷ l) n = cond (eqb n (refusalCode r)) r (withCode l n)
-
-has-code : (r : Refusal) → withCode order (refusalCode r) ≡ r
-unfolding withCode order refusalCode
-has-code unfit-a = refl
-has-code unfit-b = refl
-has-code none-open = refl
-has-code one-open = refl
-has-code not-as-asked = refl
-has-code odd-length = refl
-has-code count-full = refl
+-- One code is one refusal's.
+same-place : (l : List Refusal) (q r : Refusal) → refusalCode q ≡ refusalCode r → placeIn l q ≡ placeIn l r
+unfolding placeIn
+same-place [] q r e = refl
+same-place (p ∷ l) q r e = rw (e, same-place l q r e)
 
 one-code : (q r : Refusal) → refusalCode q ≡ refusalCode r → q ≡ r
-one-code q r e = sym (has-code q) ∙ ap (withCode order) e ∙ has-code r
+one-code q r e = one-place q r (same-place order q r e)
 
 some-code : (r : Refusal) → refusalCode r ≡ 0 → ⊥
 unfolding refusalCode
@@ -210,7 +198,7 @@ some-code odd-length e = omega (arith, e)
 some-code count-full e = omega (arith, e)
 
 below-seven : (r : Refusal) → place r < 7
-unfolding place
+unfolding order placeIn refusalCode
 below-seven unfit-a = omega arith
 below-seven unfit-b = omega arith
 below-seven none-open = omega arith
@@ -225,7 +213,7 @@ From n [] = n ≡ 7
 From n (r ∷ l) = (place r ≡ n) × From (suc n) l
 
 all-from : From 0 order
-unfolding order place
+unfolding order placeIn refusalCode
 all-from = (refl, (refl, (refl, (refl, (refl, (refl, (refl, refl)))))))
 
 -- two numbers of which neither is the smaller

@@ -8,7 +8,7 @@ use lib.IntN.{ℤ}
 use lib.ListN.{length}
 use Rattle.streams.specs.declared.Stream.{Stream}
 use Rattle.streams.specs.declared.Generator.{Generator}
-use Rattle.streams.specs.Streams.{Call, fresh, cleared, openCode, askedCode, countCode, noteCode, ownCode, roomCode, codeOf}
+use Rattle.streams.specs.Streams.{Call, firstCause, fresh, cleared, openCode, askedCode, countCode, noteCode, ownCode, roomCode, codeOf}
 use Rattle.streams.specs.Streams.{askOf, giveUpOf}
 use Rattle.streams.specs.Streams.Call.{numbers, a-pair, a-skip, a-block, a-look, an-ask, a-take, give-up}
 use Rattle.streams.specs.Recurrence.{InRange, Sound, seedFrom}
@@ -64,11 +64,10 @@ pub ask-run-give-up : (g : Generator) (n : ℕ) (l : List Call) → askOf g n .c
     → giveUpOf (run l (askOf g n .next)) ≡ record { code = 0; next = cleared g }
 ask-run-give-up g n l e k = rw (asked-run g n l e k) (ask-give-up g n e)
 
--- 1,000,000 are the most, on a record as seeding makes it.
-pub most-asked : (a b : Stream) → InRange a → InRange b → seedFrom a b .code ≡ 0
-    → (askOf (seedFrom a b .next) 1000000 .code ≡ 0) × (askOf (seedFrom a b .next) 1000001 .code ≡ 16)
-unfolding askOf codeOf noteCode ownCode roomCode openCode askedCode countCode
-most-asked a b ra rb h =
+-- On a record as seeding makes it, an ask is refused for its n alone, or for the count.
+pub asked-seeded : (a b : Stream) → InRange a → InRange b → seedFrom a b .code ≡ 0
+    → (n : ℕ) → askOf (seedFrom a b .next) n .code ≡ firstCause (askedCode n ∷ countCode (fresh a b) n ∷ [])
+unfolding askOf codeOf noteCode ownCode roomCode openCode
+asked-seeded a b ra rb h n =
     let (is-fresh, is-sound) = seeded a b ra rb h in
-    let fits = sound-accepted (fresh a b) is-sound in
-    rw (is-fresh, fits) (refl, refl)
+    rw (is-fresh, sound-accepted (fresh a b) is-sound)

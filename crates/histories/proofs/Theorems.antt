@@ -3,14 +3,14 @@ use mathlib.Core.Path.{_≡_}
 use mathlib.Core.List.{List}
 use Rattle.streams.specs.declared.Stream.{Stream}
 use Rattle.streams.specs.declared.Generator.{Generator}
-use Rattle.streams.specs.Streams.{Call, fresh}
+use Rattle.streams.specs.Streams.{Call, fresh, askedCode, countCode}
 use Rattle.streams.specs.Recurrence.{seedFrom, InRange, Sound}
 use Rattle.streams.proofs.Theorems.{seeded, stream-history}
 use Rattle.noise.specs.Noise.{takeOf}
 use Rattle.histories.specs.Theorems.{OfRefusals, OfRequests, NextDraws, OfRuns}
 use Rattle.histories.proofs.Refusals.{under-cause, accepted, no-other, meetings-meet}
 use Rattle.histories.proofs.Calls.{skip-none, look-code}
-use Rattle.histories.proofs.Requests.{open-run, ask-run-take, ask-run-give-up, most-asked}
+use Rattle.histories.proofs.Requests.{open-run, ask-run-take, ask-run-give-up, asked-seeded}
 use Rattle.histories.proofs.Histories.{fit-for-ever, told-from-seeding, told-count, taken-half}
 use Rattle.histories.proofs.Draws.{numbers-drawn, pair-drawn, block-drawn, look-drawn, take-drawn}
 
@@ -25,7 +25,13 @@ of-refusals = record {
 }
 
 pub of-requests : OfRequests
-of-requests = record { open-run = open-run; ask-run-take = ask-run-take; ask-run-give-up = ask-run-give-up; most-asked = most-asked }
+unfolding askedCode countCode
+of-requests = record {
+  open-run = open-run;
+  ask-run-take = ask-run-take;
+  ask-run-give-up = ask-run-give-up;
+  most-asked = λ a b ra rb h. (asked-seeded a b ra rb h _, asked-seeded a b ra rb h _);
+}
 
 next-draws : (g : Generator) → Sound g → (l : List Call) → NextDraws g (g .a) (g .b) l
 next-draws g h l = record {

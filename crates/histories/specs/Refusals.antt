@@ -1,9 +1,11 @@
 -- What a call on a record is refused for (document 01, the table of refusals; document 02, Jobs 1, 4, 6 and 7), in the documents' words and with their
 -- numbers. None of this is read by the code or by its definitions: `under-cause` compares the two.
 use mathlib.Core.Path.{_≡_}
+use mathlib.Core.Bool.{cond}
 use mathlib.Core.List.{List, [], _∷_}
 use mathlib.Core.Logic.{_⊎_}
 use Prim.Native.Nat.{ℕ, _+_, _-_, _*_, _/_, _%_, _^_, _<_}
+use lib.Dec.{eqb}
 use Rattle.streams.specs.declared.Generator.{Generator}
 use Rattle.streams.specs.Streams.{Call}
 use Rattle.streams.specs.Streams.Call.{numbers, a-pair, a-skip, a-block, a-look, an-ask, a-take, give-up}
@@ -24,14 +26,16 @@ refusalCode odd-length = 4
 refusalCode count-full = 13
 
 -- "11 first"; "after 11 and 12, in the order 15, 14, 16, 4, then 13".
-unfoldable pub place : Refusal → ℕ
-place unfit-a = 0
-place unfit-b = 1
-place none-open = 2
-place one-open = 3
-place not-as-asked = 4
-place odd-length = 5
-place count-full = 6
+unfoldable pub order : List Refusal
+order = unfit-a ∷ unfit-b ∷ none-open ∷ one-open ∷ not-as-asked ∷ odd-length ∷ count-full ∷ []
+
+-- The place of a refusal in the order.
+unfoldable pub placeIn : List Refusal → Refusal → ℕ
+placeIn [] r = 0
+placeIn (q ∷ l) r = cond (eqb (refusalCode q) (refusalCode r)) 0 (1 + placeIn l r)
+
+abbrev pub place : Refusal → ℕ
+place r = placeIn order r
 
 -- No request is open; one is, for 0 pairs too.
 abbrev pub NoneOpen : Generator → Type 0
