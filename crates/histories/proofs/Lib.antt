@@ -1,4 +1,5 @@
--- The laws of specs/: refusals, single calls, open requests, histories, draws.
+-- The laws of specs/: causes and refusals, single calls, open requests, histories, draws.
+mod Causes
 mod Refusals
 mod Calls
 mod Requests

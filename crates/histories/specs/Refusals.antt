@@ -89,7 +89,7 @@ NoneBefore r c g = (q : Refusal) → place q < place r → Applies q c g → ⊥
 
 -- ---- Two causes at one record
 
--- A call on a record that meets both causes, where none between them holds.
+-- A call on a record where both causes hold.
 pub record Meeting : Type 0 where
   pub call : Call
   pub given : Generator
