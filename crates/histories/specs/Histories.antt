@@ -8,7 +8,7 @@ use Rattle.streams.specs.declared.Generator.{Generator}
 use Rattle.streams.specs.Streams.{Call, ifAccepted}
 use Rattle.streams.specs.Streams.Call.{numbers, a-pair, a-skip, a-block, a-look, an-ask, a-take, give-up}
 use Rattle.streams.specs.Recurrence.{drawAt}
-use Rattle.sample.specs.Sample.{samplesOf}
+use Rattle.box_muller.specs.Sample.{samplesOf}
 use Rattle.noise.specs.Runs.{returned}
 
 -- ---- The history of a run: its calls and the codes that they returned
