@@ -25,6 +25,8 @@ use Rattle.misclosure.proofs.Listings.{
   chosen-linked,
 }
 use Rattle.misclosure.proofs.Answer.{equal-answer}
+use Rattle.misclosure.proofs.Lines.{neither-6}
+use Rattle.misclosure.proofs.Causes.{shot-codes, end-code}
 
 -- ---- runs joined, by the shots that each kind of sum takes
 
@@ -57,6 +59,9 @@ module _ (first second : List Row) (few : length (first ++ second) ≤ mostShots
 pub theorems : Theorems
 unfolding missOf intervalsOf total Linked
 theorems = record {
+  shot-codes = shot-codes;
+  end-code = end-code;
+  neither-code = neither-6;
   accepted-listing = linked-accepted;
   listing-accepted = accepted-linked;
   longest = accepted-longest;

@@ -1,20 +1,21 @@
 -- What the definitions of a listing's sums say, as theorems: the record below has a proof in proofs/Theorems.antt.
-use Prim.Native.Nat.{ℕ, _+_, _*_, _≤_, _<_}
+use Prim.Native.Nat.{ℕ, _+_, _-_, _*_, _≤_, _<_}
 use mathlib.Core.Path.{_≡_}
 use mathlib.Core.Bool.{Bool, true, false}
 use mathlib.Core.List.{List, [], _∷_, _++_, map}
+use mathlib.Core.Logic.{_↔_}
 use lib.IntN.{pos, _+ℤ_}
 use lib.ListN.{length}
 use Rattle.text.specs.Limits.{decimalBound}
 use Rattle.text.specs.Fields.{name}
 use Rattle.text.specs.Scan.{lines}
 use Rattle.listing_writer.specs.Listing.{endRow}
-use Rattle.listing_reader.specs.Entries.{headerOf, isHeader, readEntry, rowOf}
+use Rattle.listing_reader.specs.Entries.{headerOf, isHeader, leg, last, neither, readEntry, rowOf}
 use Rattle.sums.specs.Sums.{Shot, sine, cosine, total, rounded, mostShots, mostDistance}
 use Rattle.sums.specs.Exact.{exactSine, exactCosine, Close}
 use Rattle.sums.specs.Spans.{Span, Chosen, lowShots, Spans}
 use Rattle.sums.specs.Margin.{distances, margin, CloseBy, FineSpans}
-use Rattle.misclosure.specs.Misclosure.{mostStep, follows, accepted, listingOf, missOf, bothEnds, intervalsOf}
+use Rattle.misclosure.specs.Misclosure.{mostStep, follows, refusal, accepted, listingOf, missOf, bothEnds, intervalsOf}
 use Rattle.misclosure.specs.declared.Miss.{Miss}
 use Rattle.misclosure.specs.declared.IntervalSums.{IntervalSums}
 use Rattle.misclosure.specs.declared.Ends.{Ends}
@@ -123,7 +124,25 @@ infixl 60 _+ᵉ_
 abbrev pub _+ᵉ_ : Ends → Ends → Ends
 x +ᵉ y = record { low = x .low +ℤ y .low; high = x .high +ℤ y .high }
 
+-- line k of a listing says a shot, after a station
+module _ (k : ℕ) (station from to : List ℕ) (low high step : ℕ) where
+  -- within its limits: at most 500 shots, the header being line 1, 1,008,242 mm and 65,535 steps
+  abbrev pub WithinLimits : Type 0
+  WithinLimits = (k ≤ 501) × (low ≤ 1008242) × (high ≤ 1008242) × (step ≤ 65535)
+
+  -- "24 .. tests both", "25 .. after 24 .. and before 23": each just where its cause holds and none before it does, and 0 where none does
+  pub record ShotCodes (code : ℕ) : Type 0 where
+    pub just-24 : (code ≡ 24) ↔ (WithinLimits → ⊥)
+    pub just-25 : (code ≡ 25) ↔ (WithinLimits × (high < low))
+    pub just-23 : (code ≡ 23) ↔ (WithinLimits × (low ≤ high) × (follows station from ≡ false))
+    pub just-0 : (code ≡ 0) ↔ (WithinLimits × (low ≤ high) × (follows station from ≡ true))
+
 pub record Theorems : Type 0 where
+  -- the codes of a shot's line; 6 is that of an end with a false count and of a line that is neither
+  pub shot-codes : (k : ℕ) (station from to : List ℕ) (low high step : ℕ) → ShotCodes k station from to low high step (refusal k station (leg from to low high step))
+  pub end-code : (k : ℕ) (station : List ℕ) (count : ℕ)
+      → ((refusal k station (last count) ≡ 6) ↔ (count ≡ k - 2 → ⊥)) × ((refusal k station (last count) ≡ 0) ↔ (count ≡ k - 2))
+  pub neither-code : (k : ℕ) (station : List ℕ) → refusal k station neither ≡ 6
   -- a listing of either kind is accepted just where it is that of at most 500 such shots
   pub accepted-listing : (between : Bool) (rows : List Row) → Linked between [] rows → length rows ≤ mostShots
       → listingOf between (textOf between rows) ≡ accepted (spansIn rows)
