@@ -1,6 +1,6 @@
 -- Laws of pairs and of the samples of n pairs.
 use mathlib.Core.Path.{_≡_, refl, sym, ap, _∙_}
-use mathlib.Core.List.{List, [], _∷_, _++_}
+use mathlib.Core.List.{List, _∷_, _++_}
 use mathlib.Core.Logic.{_↔_}
 use Prim.Native.Nat.{ℕ, zero, suc, _+_, _*_, _/_, _%_, _^_, _≤_, _<_}
 use native.Mathlib.Nat.{zero-add, suc-add}
@@ -13,22 +13,21 @@ use lib.Seq.{take-all}
 use Rattle.streams.specs.declared.Generator.{Generator}
 use Rattle.streams.specs.declared.Uniforms.{Uniforms}
 use Rattle.streams.specs.Streams.{advance, output, noted, cleared, recordCode, mostAsked, mostCount, noteCode, ownCode, roomCode}
-use Rattle.streams.specs.Streams.{firstCause, codeOf, pairsCode, uniformsOf, after, ifAccepted}
+use Rattle.streams.specs.Streams.{codeOf, pairsCode, uniformsOf, after, ifAccepted}
 use Rattle.streams.specs.Streams.Call.{a-skip, a-block, a-take}
-use Rattle.streams.specs.Recurrence.{InRange, Sound, moved}
+use Rattle.streams.specs.Recurrence.{Sound, moved}
 use Rattle.streams.proofs.Theorems.{sound-accepted, pairs-accepted, moved-sound, uniforms-accepted, next-sound, numbers-bounded}
-use Rattle.streams.proofs.Causes.{lone-cause, accepted-causes, one-open, just-taken, even-length, count-room}
+use Rattle.streams.proofs.Causes.{accepted-causes, one-open, just-taken, even-length, count-room}
 use Rattle.bit_matrix.specs.Matrices.{repeat}
 use Rattle.lanes.specs.Lanes.{words}
 use Rattle.lanes.proofs.Theorems.{word-is-pair}
 use Rattle.box_muller.specs.Steps.{fractionBits}
-use Rattle.box_muller.specs.declared.Samples.{Samples}
-use Rattle.box_muller.specs.Sample.{firstOf, secondOf, samplesOf}
+use Rattle.box_muller.specs.Sample.{firstOf, secondOf}
 use Rattle.sample.specs.Chunk.{chunkLength, chunkHolds, samplesAt}
 use Rattle.sample.proofs.ChunkLaws.{chunk-held}
 use Rattle.box_muller.proofs.Closeness.{accepts}
 use Rattle.box_muller.proofs.Theorems.{theorems}
-use Rattle.noise.specs.Noise.{pairFrom, sampledOf, pairOf, samples, blockCode}
+use Rattle.noise.specs.Noise.{pairOf, samples, blockCode}
 use Rattle.noise.specs.Private.{pairWords, Small}
 
 -- ---- Which blocks are accepted
@@ -75,16 +74,6 @@ accepted-small n x h = split (eqb n 0)
     split : (b : Bool) → natAbs (cond b x (pos 0)) < 2 ^ 15
     split true = h
     split false = omega arith
-
--- A pair's numbers are in range, and so what the samples of numbers drawn give is the pair.
-pub pair-sampled : (f : ℕ) (g : Generator) → InRange (g .a) → InRange (g .b) → sampledOf f (uniformsOf g) ≡ pairOf f g
-unfolding pairOf
-pair-sampled f g ra rb =
-    let drawn = uniformsOf g in
-    let (hk, hv) = numbers-bounded g ra rb in
-    let code : firstCause (drawn .code ∷ samplesOf f (drawn .k) (drawn .v) .code ∷ []) ≡ drawn .code
-    = ap (λ (s : Samples). firstCause (drawn .code ∷ s .code ∷ [])) (accepts f (drawn .k) (drawn .v) hk hv) ∙ lone-cause (drawn .code) in
-    ap (λ (code : ℕ). pairFrom code f drawn) code
 
 -- A pair's refusal code is that of its two draws, which is that of one pair.
 pub pair-code : (f : ℕ) (g : Generator) → pairOf f g .code ≡ pairsCode g 1

@@ -4,7 +4,7 @@ use native.Mathlib.Omega.{arith}
 use borrow.Author.Needs.{needs}
 use Rattle.box_muller.specs.Steps.{fractionBits}
 use Rattle.noise.specs.Noise.{sampledOf}
-use Rattle.noise.proofs.Laws.{pair-sampled}
+use Rattle.noise.proofs.Drawn.{pair-sampled}
 use Rattle.noise.proofs.pair.Statement.{statement}
 use Rattle.noise.proofs.pair.Tie as tie
 

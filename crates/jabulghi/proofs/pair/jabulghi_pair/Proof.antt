@@ -5,7 +5,7 @@ use mir.Syntax.{w16}
 use mir.Val.{SFits}
 use Rattle.box_muller.specs.Steps.{fractionBits}
 use Rattle.noise.specs.Noise.{sampledOf, pairOf}
-use Rattle.noise.proofs.Laws.{pair-sampled}
+use Rattle.noise.proofs.Drawn.{pair-sampled}
 use Rattle.jabulghi.proofs.Stored.{stored}
 use Rattle.jabulghi.proofs.pair.jabulghi_pair.Statement.{statement}
 use Rattle.jabulghi.proofs.pair.jabulghi_pair.Tie as tie
