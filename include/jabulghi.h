@@ -13,6 +13,8 @@
  * Processors. What is proved is the code, before it is compiled. The toolchain compiles it for x86-64 under Linux, any such processor; every call is
  * compared with another implementation there. For aarch64 and riscv64 the same modules are compiled by the same compiler (make lib TARGET=..), which
  * the toolchain does not support; that is tested under an emulator. Elsewhere nothing is tried. The lowest byte of a number comes first.
+ * A guess at a square root is made in doubles, and no result depends on it. So every call that makes samples raises the inexact flag: a trap on inexact
+ * would end the program, and an interrupt that makes such a call must save the registers of the floating-point unit.
  *
  * State and threads. The library has no data that is written, and needs memcpy and memset alone. Calls on different records, windows and marks may run
  * at once in several threads; on the same one, one after another. A record has 40 bytes, a window 8,224 and a set of marks 960; all calls together are some
@@ -21,8 +23,8 @@
  * Stack. At most, as measured on all three processors (tests/stack.c), the caller's own frame left out:
  *   256 bytes: jabulghi_seed, jabulghi_ask, jabulghi_give_up, jabulghi_window_make, jabulghi_window_push, jabulghi_window_push_all
  *   1,024 bytes: jabulghi_sample, jabulghi_pair, jabulghi_sample18, jabulghi_pair18, jabulghi_legs, jabulghi_misclosure, jabulghi_intervals
- *   1,536 bytes: jabulghi_block, jabulghi_look, jabulghi_take, jabulghi_block18, jabulghi_look18, jabulghi_take18
- *   2,048 bytes: jabulghi_skip
+ *   1,536 bytes: jabulghi_block18, jabulghi_look18, jabulghi_take18
+ *   2,048 bytes: jabulghi_block, jabulghi_look, jabulghi_take, jabulghi_skip
  *   4,096 bytes: jabulghi_marks_save, jabulghi_marks_return, jabulghi_marks_drop
  *   24,576 bytes: jabulghi_list */
 #ifndef JABULGHI_H

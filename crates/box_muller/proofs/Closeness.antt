@@ -4,7 +4,6 @@ use mathlib.Core.Path.{_≡_, refl, _∙_}
 use Prim.Native.Nat.{ℕ, _+_, _-_, _*_, _^_, _≤_, _<_}
 use native.Mathlib.Nat.{le-refl, le-of-suc-le-suc}
 use native.Mathlib.Omega.{arith}
-use borrow.Author.Tests.{lt-leb, le-ltb}
 use Rattle.exact.specs.Fraction.{Fraction}
 use Rattle.exact.specs.Pair.{Close, members}
 use Rattle.radius.specs.Steps.{numberBits, inverse, radiusOf}
@@ -17,6 +16,7 @@ use Rattle.box_muller.specs.Sample.{nineSixteenths, threeQuarters, as18,
 use Rattle.box_muller.specs.DataSheet.{thirtyThreeSixtyFourths}
 use Rattle.box_muller.specs.declared.Samples.{Samples}
 use Rattle.box_muller.specs.declared.Samples18.{Samples18}
+use Rattle.box_muller.proofs.Refusals.{refusals}
 use Rattle.box_muller.proofs.RoundingMargin.{slack, member-close}
 
 -- "The error argument is made for a number of fraction bits and used at 11 and 13" (document 02, Job 8): with H half a unit of the
@@ -53,8 +53,7 @@ samples-close limit f k v (few, enough) hk hv =
 -- what the call accepts are the two samples of the steps
 pub accepts : (f k v : ℕ) → k < 2 ^ numberBits → v < 65536
     → samplesOf f k v ≡ record { code = 0; first = firstOf f k v; second = secondOf f k v }
-unfolding samplesOf
-accepts f k v hk hv = rw (samplesOf, lt-leb (2 ^ numberBits) k hk, le-ltb 65535 v (le-of-suc-le-suc hv))
+accepts f k v hk hv = refusals .none f k v hk (le-of-suc-le-suc hv)
 
 -- so what the call answers is close
 pub answer-close : (limit : Fraction) (f k v : ℕ) → Room limit f → (r : Samples) → r ≡ samplesOf f k v → k < 2 ^ numberBits → v < 65536

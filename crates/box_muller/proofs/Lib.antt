@@ -1,4 +1,5 @@
--- Laws of the rounding, demand 3, the readings, and the theorems.
+-- The refusals, laws of the rounding, demand 3, the readings, and the theorems.
+pub mod Refusals
 pub mod RoundingLaws
 mod RoundingMargin
 pub mod Closeness

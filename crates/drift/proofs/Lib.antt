@@ -3,3 +3,4 @@ pub mod Fitness
 pub mod Runs
 pub mod Latest
 pub mod Theorems
+pub mod Refusals

@@ -1,5 +1,5 @@
--- The theorems of specs/Theorems.antt: both sums after any run of samples, and many samples at once.
-use mathlib.Core.Path.{_≡_, refl, ap, sym, _∙_}
+-- The theorems of specs/Theorems.antt: both sums after any run of samples, and many samples at once, alone and mixed with pushes.
+use mathlib.Core.Path.{_≡_, refl, ap, sym, subst, _∙_}
 use mathlib.Core.Bool.{Bool, true, false, cond}
 use mathlib.Core.List.{List, [], _∷_, _++_, append-assoc, append-nil}
 use Prim.Native.Nat.{ℕ, _-_, _*_, _^_, _≤_}
@@ -13,7 +13,8 @@ use mir.Syntax.{w16}
 use mir.Val.{SFits}
 use borrow.Author.Tests.{le-leb}
 use Rattle.drift.specs.Drift.{Window, WindowAnswer, mostSize, mostSum, sizeFit, fitOf, emptyPlaces, emptyWindow, accepted, refusal, checkedOf, madeOf, movedOf, pushedOf, pushedFrom, pushedAll}
-use Rattle.drift.specs.Theorems.{Samples, latest, sumOf, itself, square, after, Drift, OneByOne}
+use Rattle.drift.specs.Theorems.{Samples, latest, sumOf, itself, square, after, Drift, OneByOne, Push, pushing, pushes, samplesOf, joined, Mixed}
+use Rattle.drift.specs.Theorems.Push.{one, many}
 use Rattle.signs.proofs.Sizes.{product-size, fits-size}
 use Rattle.drift.proofs.Fitness.{Fit, true-fit}
 use Rattle.drift.proofs.Latest.{grown, latest-more, sum-bound, Shape, filling, shape-bounds, shape-more, sum-follows}
@@ -30,6 +31,14 @@ from-window : (r : WindowAnswer) (l : List ℤ) → pushedFrom r l .window ≡ a
 unfolding pushedFrom after
 from-window r [] = refl
 from-window r (x ∷ l) = from-window (pushedOf (r .window) x) l
+
+from-append : (r : WindowAnswer) (l m : List ℤ) → pushedFrom r (l ++ m) ≡ pushedFrom (pushedFrom r l) m
+unfolding pushedFrom
+from-append r [] m = refl
+from-append r (x ∷ l) m = from-append (pushedOf (r .window) x) l m
+
+as-accepted : (r : WindowAnswer) → r .code ≡ 0 → r ≡ accepted (r .window)
+as-accepted r e = λ i. record { code = e i; window = r .window }
 
 all-more : (w : Window) (l : List ℤ) (x : ℤ) → pushedAll w (l ++ (x ∷ [])) ≡ pushedOf (pushedAll w l .window) x
 unfolding pushedAll pushedFrom
@@ -60,6 +69,11 @@ samples-more : (q : List ℤ) (x : ℤ) → Samples q → SFits w16 x → Sample
 unfolding Samples
 samples-more [] x s f = (f, tt)
 samples-more (y ∷ q) x (g, s) f = (g, samples-more q x s f)
+
+samples-apart : (l m : List ℤ) → Samples (l ++ m) → Samples l × Samples m
+unfolding Samples
+samples-apart [] m s = (tt, s)
+samples-apart (x ∷ l) m (f, s) = let (a, b) = samples-apart l m s in ((f, a), b)
 
 samples-rest : (q : List ℤ) → Samples q → Samples (drop 1 q)
 unfolding Samples
@@ -164,3 +178,31 @@ module _ (n : ℕ) (some : 1 ≤ n) (most : n ≤ mostSize) where
         sum-within = rw made-is (f .sum-small);
         squares-within = rw made-is (f .squares-small);
       }
+
+  -- ---- One at a time and many at once, mixed
+
+  -- a push of either kind on a window of the run: its samples one by one
+  each : (seen : List ℤ) (w : Window) → Holds n (latest n seen) w → (p : Push) → pushing w p ≡ pushedFrom (accepted w) (samplesOf p)
+  unfolding pushedFrom checkedOf
+  each seen w h (one x) = refl
+  each seen w h (many l) = sym (all-from w l) ∙ rw (checkedOf, fine-true (latest n seen) w h)
+
+  all-joined : (l : List Push) (seen : List ℤ) (w : Window) → Holds n (latest n seen) w → Samples (joined l)
+      → pushes (accepted w) l ≡ pushedFrom (accepted w) (joined l)
+  unfolding pushes joined pushedFrom
+  all-joined [] seen w h s = refl
+  all-joined (p ∷ l) seen w h s =
+      let (sp, sl) = samples-apart (samplesOf p) (joined l) s in
+      let (z, h′) = run (samplesOf p) seen (accepted w) refl h sp in
+      let r = pushedFrom (accepted w) (samplesOf p) in
+      let on : pushes r l ≡ pushedFrom r (joined l) = subst (λ (q : WindowAnswer). pushes q l ≡ pushedFrom q (joined l)) (sym (as-accepted r z)) (all-joined l (seen ++ samplesOf p) (r .window) h′ sl) in
+      rw (each seen w h p) (on ∙ sym (from-append (accepted w) (samplesOf p) (joined l)))
+
+  -- However the samples are pushed, no push is refused and the window is that of the joined samples.
+  pub mixed : (l : List Push) → Samples (joined l) → Mixed n l
+  mixed l s =
+      let (z, h) = run (joined l) [] (accepted (emptyWindow n)) refl start s in
+      rw made-is
+      (all-joined l [] (emptyWindow n) start s
+      ∙ as-accepted _ z
+      ∙ ap accepted (from-window (accepted (emptyWindow n)) (joined l)))

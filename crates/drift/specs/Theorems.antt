@@ -1,12 +1,13 @@
--- What a window's sums are (document 02, Job 9), proved in proofs/Latest.antt.
-use Prim.Native.Nat.{ℕ, _-_, _≤_}
+-- What a window's sums are and when a call on one is refused (document 02, Job 9), proved in proofs/Theorems.antt and proofs/Refusals.antt.
+use Prim.Native.Nat.{ℕ, _-_, _≤_, _<_}
 use mathlib.Core.Path.{_≡_}
 use mathlib.Core.List.{List, [], _∷_, _++_}
-use lib.IntN.{ℤ, pos, natAbs, _+ℤ_, _*ℤ_}
+use mathlib.Core.Logic.{_↔_, _⊎_}
+use lib.IntN.{ℤ, pos, negsuc, natAbs, _+ℤ_, _*ℤ_}
 use lib.ListN.{length, drop}
 use mir.Syntax.{w16}
 use mir.Val.{SFits}
-use Rattle.drift.specs.Drift.{Window, mostSum, madeOf, pushedOf, pushedAll}
+use Rattle.drift.specs.Drift.{Window, WindowAnswer, mostSum, windowOf, emptyPlaces, accepted, madeOf, pushedOf, pushedAll}
 
 -- "16-bit samples"
 unfoldable pub Samples : List ℤ → Type 0
@@ -56,3 +57,75 @@ pub record OneByOne (w : Window) : Type 0 where
   pub one : (x : ℤ) → pushedAll w (x ∷ []) ≡ pushedOf w x
   pub more : (samples : List ℤ) (x : ℤ) → pushedAll w (samples ++ (x ∷ [])) ≡ pushedOf (pushedAll w samples .window) x
   pub window : (x : ℤ) (samples : List ℤ) → pushedAll w (x ∷ samples) .window ≡ after w (x ∷ samples)
+
+-- ---- One at a time and many at once, mixed
+
+pub data Push : Type 0 where
+  one : ℤ → Push
+  many : List ℤ → Push
+
+abbrev pub pushing : Window → Push → WindowAnswer
+pushing w (one x) = pushedOf w x
+pushing w (many samples) = pushedAll w samples
+
+-- The answer of the last of some pushes, each passed the window that the one before returned.
+unfoldable pub pushes : WindowAnswer → List Push → WindowAnswer
+pushes answer [] = answer
+pushes answer (p ∷ l) = pushes (pushing (answer .window) p) l
+
+-- The samples of all of them, joined.
+abbrev pub samplesOf : Push → List ℤ
+samplesOf (one x) = x ∷ []
+samplesOf (many samples) = samples
+
+unfoldable pub joined : List Push → List ℤ
+joined [] = []
+joined (p ∷ l) = samplesOf p ++ joined l
+
+-- "After any run of samples from its making": however they are pushed, the code is 0 and the window is that of the joined samples.
+abbrev pub Mixed : ℕ → List Push → Type 0
+Mixed n l = pushes (madeOf n) l ≡ accepted (afterRun n (joined l))
+
+-- ---- Refusals, with the document's own numbers
+
+-- "N outside 1 to 4096"
+abbrev pub SizeOutside : ℕ → Type 0
+SizeOutside n = (n < 1) ⊎ (4096 < n)
+
+-- "a sum beyond 2^42 in size"
+abbrev pub Beyond : ℤ → Type 0
+Beyond sum = 4398046511104 < natAbs sum
+
+-- "17: N outside 1 to 4096, at making or in a window passed in, one said to hold more than N or marking a place outside it, or a sum beyond 2^42 in
+-- size".
+pub data Unfit (w : Window) : Type 0 where
+  size-outside : SizeOutside (w .size) → Unfit w
+  more-held : w .size < w .held → Unfit w
+  place-outside : w .size ≤ w .place → Unfit w
+  sum-beyond : Beyond (w .sum) → Unfit w
+  squares-beyond : Beyond (w .squares) → Unfit w
+
+-- 17 just where the cause holds, and 0 just where it does not.
+pub record JustFor (cause : Type 0) (code : ℕ) : Type 0 where
+  pub refused : (code ≡ 17) ↔ cause
+  pub fine : (code ≡ 0) ↔ (cause → ⊥)
+
+pub record Seventeen : Type 0 where
+  pub making : (n : ℕ) → JustFor (SizeOutside n) (madeOf n .code)
+  pub pushing : (w : Window) (x : ℤ) → JustFor (Unfit w) (pushedOf w x .code)
+  -- with no samples the window is tested; with more, the last push decides: a refused window is unfit
+  pub none : (w : Window) → JustFor (Unfit w) (pushedAll w [] .code)
+  pub many : (w : Window) (samples : List ℤ) (x : ℤ) → JustFor (Unfit (pushedAll w samples .window)) (pushedAll w (samples ++ (x ∷ [])) .code)
+
+-- A window of one sample, none held, with these sums.
+abbrev pub withSums : ℤ → ℤ → Window
+withSums sum squares = windowOf 1 0 0 emptyPlaces sum squares
+
+-- A sum of 2^42 in size is accepted and the next is refused, either sum and either sign.
+pub record Limit (x : ℤ) : Type 0 where
+  pub at : pushedOf (withSums (pos 4398046511104) (pos 4398046511104)) x .code ≡ 0
+  pub at-minus : pushedOf (withSums (negsuc 4398046511103) (negsuc 4398046511103)) x .code ≡ 0
+  pub past-sum : pushedOf (withSums (pos 4398046511105) (pos 0)) x .code ≡ 17
+  pub past-sum-minus : pushedOf (withSums (negsuc 4398046511104) (pos 0)) x .code ≡ 17
+  pub past-squares : pushedOf (withSums (pos 0) (pos 4398046511105)) x .code ≡ 17
+  pub past-squares-minus : pushedOf (withSums (pos 0) (negsuc 4398046511104)) x .code ≡ 17

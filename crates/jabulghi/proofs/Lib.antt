@@ -1,2 +1,3 @@
--- What the proofs of several functions use.
+-- What the proofs of several functions use, and the theorem of specs/Refused.antt.
 pub mod Stored
+pub mod Refused

@@ -2,6 +2,8 @@
 ghost use mathlib.Core.Path.{_≡_};
 ghost use Prim.Native.Nat.{_<_, _^_};
 ghost use mathlib.Core.List.{[], _∷_};
+ghost use lib.IntN.{pos};
+ghost use lib.ListN.{getD};
 ghost use Rattle.radius.specs.Steps.{numberBits, inverse};
 ghost use Rattle.box_muller.specs.Steps.{fractionBits};
 ghost use Rattle.box_muller.specs.Sample.{samplesOf, nineSixteenths};
@@ -17,8 +19,8 @@ use crate::words::unpacked;
 pub extern "C" fn jabulghi_sample(k: u64, v: u32, samples: &mut [i16; 2]) -> u32
     ensures { λ r. ⌜ r ≡ samplesOf fractionBits k v .code ⌝ }
     ensures { λ _. ⌜ now (samples .exit) ≡ samplesOf fractionBits k v .first ∷ samplesOf fractionBits k v .second ∷ [] ⌝ }
-    ensures close { λ _. ⌜ (k < 2 ^ numberBits → v < 65536 → Close nineSixteenths fractionBits (inverse k) v (samplesOf fractionBits k v .first) (samplesOf fractionBits k v .second)) ⌝ }
-    ensures closer { λ _. ⌜ (k < 2 ^ numberBits → v < 65536 → Close thirtyThreeSixtyFourths fractionBits (inverse k) v (samplesOf fractionBits k v .first) (samplesOf fractionBits k v .second)) ⌝ }
+    ensures close { λ _. ⌜ (k < 2 ^ numberBits → v < 65536 → Close nineSixteenths fractionBits (inverse k) v (getD (now (samples .exit)) 0 (pos 0)) (getD (now (samples .exit)) 1 (pos 0))) ⌝ }
+    ensures closer { λ _. ⌜ (k < 2 ^ numberBits → v < 65536 → Close thirtyThreeSixtyFourths fractionBits (inverse k) v (getD (now (samples .exit)) 0 (pos 0)) (getD (now (samples .exit)) 1 (pos 0))) ⌝ }
 {
     let s = sample::sample(k, v);
     *samples = [s.first, s.second];

@@ -2,6 +2,8 @@
 ghost use mathlib.Core.Path.{_≡_};
 ghost use Prim.Native.Nat.{_<_, _^_};
 ghost use mathlib.Core.List.{[], _∷_};
+ghost use lib.IntN.{pos};
+ghost use lib.ListN.{getD};
 ghost use Rattle.radius.specs.Steps.{numberBits, inverse};
 ghost use Rattle.box_muller.specs.Steps.{fractionBits18};
 ghost use Rattle.box_muller.specs.Sample.{samplesOf, threeQuarters};
@@ -16,7 +18,7 @@ use jabulghi::words::unpacked;
 pub extern "C" fn jabulghi_sample18(k: u64, v: u32, samples: &mut [i32; 2]) -> u32
     ensures { λ r. ⌜ r ≡ samplesOf fractionBits18 k v .code ⌝ }
     ensures { λ _. ⌜ now (samples .exit) ≡ samplesOf fractionBits18 k v .first ∷ samplesOf fractionBits18 k v .second ∷ [] ⌝ }
-    ensures close { λ _. ⌜ (k < 2 ^ numberBits → v < 65536 → Close threeQuarters fractionBits18 (inverse k) v (samplesOf fractionBits18 k v .first) (samplesOf fractionBits18 k v .second)) ⌝ }
+    ensures close { λ _. ⌜ (k < 2 ^ numberBits → v < 65536 → Close threeQuarters fractionBits18 (inverse k) v (getD (now (samples .exit)) 0 (pos 0)) (getD (now (samples .exit)) 1 (pos 0))) ⌝ }
 {
     let s = sample::sample18(k, v);
     *samples = [s.first, s.second];

@@ -6,10 +6,9 @@ ghost use Rattle.marks.specs.Marks.{places, placeToSave, placeToReturn, placeTo
 ghost use Rattle.jabulghi_marks.specs.Members.{members, labelsOf, storedIn, savedIn, returnedWords, droppedIn};
 use crate::members::WORDS;
 use crate::members::labels_of;
-use crate::members::with_name;
-use crate::members::with_word;
-use crate::members::with_words;
+use crate::members::put_words;
 use crate::members::words_at;
+use buffer::put;
 use jabulghi::words::unpacked;
 use marks::PLACES;
 use marks::call::place_to_drop;
@@ -35,10 +34,10 @@ fn store(
     ensures { λ _. ⌜ members (now (used .exit)) (now (lengths .exit)) (now (names .exit)) (now (records .exit)) ≡ storedIn (members (now (used .entry)) (now (lengths .entry)) (now (names .entry)) (now (records .entry))) place mark label words ⌝ }
 {
     let bytes = label.bytes;
-    *used = with_word(*used, place, mark);
-    *lengths = with_word(*lengths, place, label.length);
-    *names = with_name(*names, place * NAME_LENGTH, bytes);
-    *records = with_words(*records, place * WORDS, words);
+    used[place] = mark;
+    lengths[place] = label.length;
+    put(names, place * NAME_LENGTH, &bytes);
+    put_words(records, place * WORDS, &words);
 }
 
 // Saves the record under a name.

@@ -48,7 +48,7 @@ pub fn labels_of(
 }
 
 // Words written into others from a place on.
-fn put_words(out: &mut [u32], at: usize, words: &[u32])
+pub fn put_words(out: &mut [u32], at: usize, words: &[u32])
     requires { ⌜ at + length (now words) ≤ length (now out) ⌝ }
     ensures { λ _. ⌜ now (out .exit) ≡ written (now (out .entry)) at (now (words .entry)) ⌝ }
 {
@@ -67,41 +67,4 @@ pub fn words_at(records: [u32; PLACES * WORDS], at: usize) -> [u32; WORDS]
     let mut words = [0u32; WORDS];
     put_words(&mut words, 0, &records[at..at + WORDS]);
     words
-}
-
-// The names with one in a place.
-pub fn with_name(
-    names: [u8; PLACES * NAME_LENGTH],
-    at: usize,
-    bytes: [u8; NAME_LENGTH],
-) -> [u8; PLACES * NAME_LENGTH]
-    ensures { λ r. ⌜ r ≡ written names at bytes ⌝ }
-{
-    let mut next = names;
-    put(&mut next, at, &bytes);
-    next
-}
-
-// The records with one in a place.
-pub fn with_words(
-    records: [u32; PLACES * WORDS],
-    at: usize,
-    words: [u32; WORDS],
-) -> [u32; PLACES * WORDS]
-    requires { ⌜ at + recordWords ≤ recordsLength ⌝ }
-    ensures { λ r. ⌜ r ≡ written records at words ⌝ }
-{
-    let mut next = records;
-    put_words(&mut next, at, &words);
-    next
-}
-
-// The words with one in a place.
-pub fn with_word(words: [u32; PLACES], place: usize, word: u32) -> [u32; PLACES]
-    requires { ⌜ place < places ⌝ }
-    ensures { λ r. ⌜ r ≡ set words place word ⌝ }
-{
-    let mut next = words;
-    next[place] = word;
-    next
 }

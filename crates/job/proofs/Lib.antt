@@ -3,4 +3,5 @@ pub mod Bounds
 pub mod Going
 pub mod Answered
 pub mod Jobs
+pub mod Pairs
 pub mod Theorems

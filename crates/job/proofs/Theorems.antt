@@ -1,13 +1,14 @@
 -- The theorems of specs/Theorems.antt.
-use Prim.Native.Nat.{ℕ, _+_, _-_, _*_, _≤_, _<_}
+use Prim.Native.Nat.{ℕ, suc, _+_, _-_, _*_, _%_, _≤_, _<_}
 use native.Mathlib.Decide.{decLe}
 use native.Mathlib.Omega.{arith}
 use mathlib.Core.Path.{_≡_, refl, sym, ap, _∙_}
 use mathlib.Core.Bool.{Bool, true, false, cond, true≢false}
 use mathlib.Core.List.{List, map, [], _∷_, _++_}
-use lib.Dec.{eqb, ltb}
+use mathlib.Core.Logic.{_↔_}
+use lib.Dec.{eqb, leb, ltb}
 use lib.ListN.{length, length-append}
-use borrow.Author.Tests.{eqb-true, eqb-false, le-leb, ltb-false, not-false}
+use borrow.Author.Tests.{eqb-true, eqb-false, leb-true, leb-false, ltb-false, not-false}
 use Rattle.text.specs.Scan.{lines}
 use Rattle.text.proofs.Decimal.{decimal-length}
 use Rattle.job_refusals.specs.Limits.{mostBytes, lastLine, listingRoom, longestListing}
@@ -15,15 +16,17 @@ use Rattle.job_lines.specs.Forms.{Form, seeds, sigma, shot, noForm, readLine, p
 use Rattle.listing_writer.specs.Listing.{header, endRow}
 use Rattle.job_refusals.specs.Refusals.{formless, misplaced, tooMany, beyond, seedCode, refusal}
 use Rattle.job.specs.Job.{Outcome, refused, listed, onto, outcome, start, listingOf, jobOf, answerOf, settingAfter, printed}
-use Rattle.job.specs.Theorems.{Theorems, Accepts, textOf, rows, isShot, shots}
+use Rattle.job.specs.Theorems.{Theorems, Accepts, textOf, rows, isShot, shots, Drawn}
 use Rattle.job.specs.Private.{Steady, rowLength}
 use Rattle.job.specs.declared.state.Setting.{Setting}
+use Rattle.job.specs.declared.JobAnswer.{JobAnswer}
 use Rattle.listing_writer.proofs.Rows.{header-length, end-length}
-use Rattle.job_refusals.proofs.Refused.{seed-not-10}
+use Rattle.job_refusals.proofs.Refused.{seed-apart}
 use Rattle.job_refusals.proofs.Accepted.{accepted-line}
 use Rattle.job.proofs.Bounds.{steps}
 use Rattle.job.proofs.Going.{outcome-yes, outcome-no}
 use Rattle.job.proofs.Answered.{job-short}
+use Rattle.job.proofs.Pairs.{drawn-pairs}
 use Rattle.job.proofs.Jobs.{
   onto-refused,
   outcome-bad,
@@ -100,57 +103,99 @@ longest text bytes e = listing-short text bytes (short-job text bytes e)
 fits : (text bytes : List ℕ) → jobOf text ≡ listed bytes → length bytes ≤ listingRoom
 fits text bytes e = omega (arith, longest text bytes e)
 
--- ---- no line and no record has the code 10
+-- ---- no line and no record has the code 5 or 10
 
-refusal-not-10 : (k : ℕ) (x : Form) → refusal k x ≡ 10 → ⊥
-unfolding refusal
-refusal-not-10 k x = go (formless x) (misplaced k x) (tooMany k x) (beyond x)
+module _ (m : ℕ) (own : m % 5 ≡ 0) (low : 0 < m) (high : m ≤ 10) where
+  refusal-apart : (k : ℕ) (x : Form) → refusal k x ≡ m → ⊥
+  unfolding refusal
+  refusal-apart k x = go (formless x) (misplaced k x) (tooMany k x) (beyond x)
+    where
+      go : (a b c d : Bool) → _≡_ {A = ℕ} (cond a 6 (cond b 8 (cond c 9 (cond d 7 (seedCode x))))) m → ⊥
+      go true b c d e = omega (arith, e)
+      go false true c d e = omega (arith, e)
+      go false false true d e = omega (arith, e)
+      go false false false true e = omega (arith, e)
+      go false false false false e = seed-apart x m low (omega arith) e
+
+  abbrev Apart : Outcome → Type 0
+  Apart (refused n k) = n ≡ m → ⊥
+  Apart (listed l) = Unit {0}
+
+  apart-onto : (a : List ℕ) (o : Outcome) → Apart o → Apart (onto a o)
+  apart-onto a (refused n k) h = h
+  apart-onto a (listed l) h = tt
+
+  outcome-apart : (ls : List (List ℕ)) (k : ℕ) (s : Setting) → Apart (outcome k s ls)
+  unfolding outcome
+  outcome-apart [] k s = go (ltb k 3)
+    where
+      go : (b : Bool) → Apart (cond b (refused 8 k) (listed (endRow (k - 3))))
+      go true = λ e. omega (arith, e)
+      go false = tt
+  outcome-apart (l ∷ ls) k s = go (outcome-apart ls (k + 1) (settingAfter (readLine l) s)) (eqb (refusal k (readLine l)) 0)
+    where
+      go : Apart (outcome (k + 1) (settingAfter (readLine l) s) ls) → (b : Bool)
+          → Apart (cond b (onto (printed (readLine l) s) (outcome (k + 1) (settingAfter (readLine l) s) ls))
+          (refused (refusal k (readLine l)) k))
+      go ih true = apart-onto (printed (readLine l) s) (outcome (k + 1) (settingAfter (readLine l) s) ls) ih
+      go ih false = refusal-apart k (readLine l)
+
+  listing-apart : (text : List ℕ) → Apart (listingOf text)
+  unfolding listingOf
+  listing-apart text = apart-onto header (outcome 1 start (lines text)) (outcome-apart (lines text) 1 start)
+
+-- so that no job has the code 10
+job-apart : (text : List ℕ) → Apart 10 refl (omega arith) (omega arith) (jobOf text)
+unfolding jobOf
+job-apart text = go (ltb mostBytes (length text))
   where
-    go : (a b c d : Bool) → _≡_ {A = ℕ} (cond a 6 (cond b 8 (cond c 9 (cond d 7 (seedCode x))))) 10 → ⊥
-    go true b c d e = omega (arith, e)
-    go false true c d e = omega (arith, e)
-    go false false true d e = omega (arith, e)
-    go false false false true e = omega (arith, e)
-    go false false false false e = seed-not-10 x e
-
-abbrev Not10 : Outcome → Type 0
-Not10 (refused n k) = n ≡ 10 → ⊥
-Not10 (listed l) = Unit {0}
-
-not-10-onto : (a : List ℕ) (o : Outcome) → Not10 o → Not10 (onto a o)
-not-10-onto a (refused n k) h = h
-not-10-onto a (listed l) h = tt
-
-outcome-not-10 : (ls : List (List ℕ)) (k : ℕ) (s : Setting) → Not10 (outcome k s ls)
-unfolding outcome
-outcome-not-10 [] k s = go (ltb k 3)
-  where
-    go : (b : Bool) → Not10 (cond b (refused 8 k) (listed (endRow (k - 3))))
+    go : (b : Bool) → Apart 10 refl (omega arith) (omega arith) (cond b (refused 5 0) (listingOf text))
     go true = λ e. omega (arith, e)
-    go false = tt
-outcome-not-10 (l ∷ ls) k s = go (outcome-not-10 ls (k + 1) (settingAfter (readLine l) s)) (eqb (refusal k (readLine l)) 0)
-  where
-    go : Not10 (outcome (k + 1) (settingAfter (readLine l) s) ls) → (b : Bool)
-        → Not10 (cond b (onto (printed (readLine l) s) (outcome (k + 1) (settingAfter (readLine l) s) ls))
-        (refused (refusal k (readLine l)) k))
-    go ih true = not-10-onto (printed (readLine l) s) (outcome (k + 1) (settingAfter (readLine l) s) ls) ih
-    go ih false = refusal-not-10 k (readLine l)
+    go false = listing-apart 10 refl (omega arith) (omega arith) text
 
-job-not-10 : (text : List ℕ) → Not10 (jobOf text)
-unfolding jobOf listingOf
-job-not-10 text = go (ltb mostBytes (length text))
-  where
-    go : (b : Bool) → Not10 (cond b (refused 5 0) (onto header (outcome 1 start (lines text))))
-    go true = λ e. omega (arith, e)
-    go false = not-10-onto header (outcome 1 start (lines text)) (outcome-not-10 (lines text) 1 start)
+-- the code of an answer: 10 just where there is a listing, longer than the room; else that of the outcome
+module _ (room : ℕ) where
+  answer-10 : (o : Outcome) → Apart 10 refl (omega arith) (omega arith) o
+      → (answerOf o room .code ≡ 10) ↔ ((bytes : List ℕ) × (o ≡ listed bytes) × (room < length bytes))
+  unfolding answerOf
+  answer-10 (refused n k) h = (λ e. absurd (h e), λ r. absurd (refused-not-listed n k (r .0) (r .1)))
+  answer-10 (listed bytes) h = by (leb (length bytes) room) refl
+    where
+      by : (t : Bool) → leb (length bytes) room ≡ t
+          → (answerOf (listed bytes) room .code ≡ 10) ↔ ((l : List ℕ) × (listed bytes ≡ listed l) × (room < length l))
+      by true t = (
+        λ e. let f = rw t at e in absurd (omega (arith, f)),
+        λ r. absurd (omega (arith, leb-true (length bytes) room t, r .2, ap length (bytes-same bytes (r .0) (r .1)))),
+      )
+      by false t = (λ e. (bytes, refl, omega (arith, leb-false (length bytes) room t)), λ r. rw t)
+
+  answer-not-5 : (o : Outcome) → Apart 5 refl (omega arith) (omega arith) o → answerOf o room .code ≡ 5 → ⊥
+  unfolding answerOf
+  answer-not-5 (refused n k) h e = h e
+  answer-not-5 (listed bytes) h e = by (leb (length bytes) room) e
+    where
+      by : (t : Bool) → cond {A = JobAnswer} t (record { code = 0; line = 0; length = length bytes }) (record { code = 10; line = 0; length = 0 }) .code ≡ 5 → ⊥
+      by true e = omega (arith, e)
+      by false e = omega (arith, e)
+
+  just-5 : (text : List ℕ) → (answerOf (jobOf text) room .code ≡ 5) ↔ (60000 < length text)
+  unfolding jobOf answerOf
+  just-5 text = by (ltb mostBytes (length text)) refl
+    where
+      by : (t : Bool) → ltb mostBytes (length text) ≡ t → (answerOf (cond t (refused 5 0) (listingOf text)) room .code ≡ 5) ↔ (60000 < length text)
+      by true t = (λ e. leb-true (suc mostBytes) (length text) t, λ h. refl)
+      by false t = (
+        λ e. absurd (answer-not-5 (listingOf text) (listing-apart 5 refl (omega arith) (omega arith) text) e),
+        λ h. absurd (omega (arith, h, ltb-false mostBytes (length text) t)),
+      )
+
+  just-10 : (text : List ℕ) → (answerOf (jobOf text) room .code ≡ 10) ↔ ((bytes : List ℕ) × (jobOf text ≡ listed bytes) × (room < length bytes))
+  just-10 text = answer-10 (jobOf text) (job-apart text)
 
 never-too-long : (text : List ℕ) → answerOf (jobOf text) listingRoom .code ≡ 10 → ⊥
-unfolding answerOf
-never-too-long text e = go (jobOf text) refl (job-not-10 text) e
-  where
-    go : (o : Outcome) → jobOf text ≡ o → Not10 o → answerOf o listingRoom .code ≡ 10 → ⊥
-    go (refused n k) p h e = h e
-    go (listed bytes) p h e = let t = rw (le-leb (length bytes) listingRoom (fits text bytes p)) at e in omega (arith, t)
+never-too-long text e =
+    let (bytes, p, long) = just-10 listingRoom text .0 e in
+    omega (arith, long, fits text bytes p)
 
 first-bad : (text l : List ℕ) (xs : List Form) (ls : List (List ℕ)) → length text ≤ mostBytes → Accepts 1 xs
     → lines text ≡ map printLine xs ++ (l ∷ ls) → (refusal (1 + length xs) (readLine l) ≡ 0 → ⊥)
@@ -209,12 +254,20 @@ job-listed text bytes e =
     let (xs, a, n, t, b) = listed-says text bytes (short-job text bytes e) in
     (xs, a, n, t, b ∙ rw (shots-count xs a n))
 
+shot-pairs : (text bytes : List ℕ) → jobOf text ≡ listed bytes → Drawn text bytes
+shot-pairs text bytes e =
+    let (xs, a, n, t, b) = listed-says text bytes (short-job text bytes e) in
+    drawn-pairs text bytes xs a n t b
+
 pub theorems : Theorems
 theorems = record {
   listed-job = listed-job;
   job-listed = job-listed;
+  shot-pairs = shot-pairs;
   first-bad = first-bad;
   missing-line = missing-line;
+  just-5 = λ text room. just-5 room text;
+  just-10 = λ text room. just-10 room text;
   longest = longest;
   fits = fits;
   never-too-long = never-too-long;

@@ -1,3 +1,4 @@
 pub mod RoundTrip
 pub mod Reading
 pub mod ShotLines
+pub mod Exact

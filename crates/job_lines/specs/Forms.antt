@@ -8,7 +8,8 @@ use lib.ListN.{getD}
 use Rattle.text.specs.Limits.{decimalBound}
 use Rattle.text.specs.Ascii.{ascii}
 use Rattle.text.specs.Fields.{name, digitString, value, decimal, partOf}
-use Rattle.text.specs.Forms.{printForm, readForm}
+use Rattle.text.specs.Forms.{printForm, readForm, noPlace, placesFrom}
+use Rattle.text.specs.declared.field.Place.{Place}
 use Rattle.job_lines.specs.declared.Seeds.{Seeds as SeedsFields}
 use Rattle.job_lines.specs.declared.Sigma.{Sigma as SigmaFields}
 use Rattle.job_lines.specs.declared.Shot.{Shot as ShotFields}
@@ -107,3 +108,14 @@ said line (Seeds s) = seedsIn s
 said line (Sigma s) = sigmaIn s
 said line (Shot s) = shotIn line s
 said line NoForm = noForm
+
+-- where the first and the second name of a shot's line stand in it
+abbrev pub namePlace : List ℕ → ℕ → Place
+namePlace line i = getD (placesFrom 0 shotForm line) i noPlace
+
+-- the case of the enum for what a line says
+unfoldable pub lineIn : List ℕ → Form → Line
+lineIn line (seeds a0 a1 a2 b0 b1 b2) = Seeds (record { a0 = a0; a1 = a1; a2 = a2; b0 = b0; b1 = b1; b2 = b2 })
+lineIn line (sigma d b) = Sigma (record { distance = d; bearing = b })
+lineIn line (shot from to d b) = Shot (record { from = namePlace line 0; to = namePlace line 1; distance = d; bearing = b })
+lineIn line noForm = NoForm

@@ -11,7 +11,8 @@ use text::form::read_form;
 ghost use mathlib.Core.Path.{_≡_};
 ghost use lib.ListN.{take};
 ghost use Rattle.text.specs.Forms.{fieldsAt};
-ghost use Rattle.job_lines.specs.Forms.{seedsOf, sigmaOf, shotOf, readLine, said};
+ghost use Rattle.job_lines.specs.Forms.{seedsOf, sigmaOf, shotOf, readLine, said, lineIn};
+ghost use Rattle.job_lines.specs.Private.{NamesAt};
 
 // Line 1: the registers of both streams.
 pub struct Seeds {
@@ -82,6 +83,7 @@ fn sigma_line(line: &[u8], c: Found) -> Line
 // The shot that four fields give.
 fn shot_line(line: &[u8], c: Found) -> Line
     ensures { λ r. ⌜ said (now (line .entry)) r ≡ shotOf (fieldsAt (now (line .entry)) (take 4 (c .places))) ⌝ }
+    ensures { λ r. ⌜ NamesAt (c .places) r ⌝ }
 {
     let places = c.places;
     let from = places[0];
@@ -103,6 +105,7 @@ fn shot_line(line: &[u8], c: Found) -> Line
 // What a line, with its line feed, says.
 pub fn read_line(line: &[u8]) -> Line
     ensures { λ r. ⌜ said (now (line .entry)) r ≡ readLine (now (line .entry)) ⌝ }
+    ensures { λ r. ⌜ r ≡ lineIn (now (line .entry)) (readLine (now (line .entry))) ⌝ }
 {
     let seeds = read_form(b"(seeds (a # # #) (b # # #))\n", line);
     if seeds.ok {

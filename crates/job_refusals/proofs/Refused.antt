@@ -98,14 +98,14 @@ module _ (k d b : ℕ) where
     unfolding refusal formless misplaced tooMany beyond seedCode
     shot-0 h e f g = rw (le-ltb k 3 h, le-ltb lastLine k e, le-ltb mostDistance d f, le-ltb mostBearing b g)
 
--- seeding does not answer with a job's own code for a listing that is too long
-pub seed-not-10 : (x : Form) → seedCode x ≡ 10 → ⊥
+-- seeding answers with 0, 11 or 12
+pub seed-apart : (x : Form) (m : ℕ) → 0 < m → m < 11 → seedCode x ≡ m → ⊥
 unfolding seedCode seedOf
-seed-not-10 (seeds a0 a1 a2 b0 b1 b2) e =
-    record-cases (λ (n : ℕ). n ≡ 10 → ⊥) _ (λ e. omega (arith, e)) (λ e. omega (arith, e)) (λ e. omega (arith, e)) e
-seed-not-10 (sigma d b) e = omega (arith, e)
-seed-not-10 (shot from to d b) e = omega (arith, e)
-seed-not-10 noForm e = omega (arith, e)
+seed-apart (seeds a0 a1 a2 b0 b1 b2) m low high e =
+    record-cases (λ (n : ℕ). n ≡ m → ⊥) _ (λ e. omega (arith, e)) (λ e. omega (arith, e)) (λ e. omega (arith, e)) e
+seed-apart (sigma d b) m low high e = omega (arith, e)
+seed-apart (shot from to d b) m low high e = omega (arith, e)
+seed-apart noForm m low high e = omega (arith, e)
 
 -- no name in a line matters
 pub names-apart : (k : ℕ) (text : List ℕ) (x : Line) → refusal k (said [] x) ≡ refusal k (said text x)

@@ -5,3 +5,4 @@ pub mod Names
 pub mod First
 pub mod Theorems
 pub mod Runs
+pub mod Refusals

@@ -6,7 +6,7 @@ use Prim.Native.Nat.{ℕ, _+_, _≤_}
 use native.Mathlib.Omega.{arith}
 use native.Mathlib.Nat.{min-eq-left, zero-add}
 use lib.Dec.{leb}
-use lib.ListN.{length, take, drop, replicate}
+use lib.ListN.{length, drop, replicate}
 use lib.Seq.{sets, sets-eq, take-append-seam}
 use borrow.Author.Tests.{le-leb, leb-true}
 use Rattle.text.specs.Limits.{nameLength}
@@ -14,24 +14,25 @@ use Rattle.buffer.specs.Buffer.{written}
 use Rattle.marks.specs.declared.label.Label.{Label}
 use Rattle.text.proofs.SameBytes.{same-refl, same-bytes}
 use Rattle.marks.specs.Marks.{hasName, labelOf}
+use Rattle.marks.specs.Refusals.{Has}
 
 -- a test that is not passed
 pub not-passed : (t : Bool) → (t ≡ true → ⊥) → t ≡ false
 not-passed true h = absurd (h refl)
 not-passed false h = refl
 
--- what a place with a name says of itself
-pub record Has (bytes : List ℕ) (label : Label) : Type 0 where
-  pub used : label .used ≡ true
-  pub short : label .length ≤ nameLength
-  pub is : take (label .length) (label .bytes) ≡ bytes
-
+-- what a place with a name says of itself, and what does so has the name
 pub has : (bytes : List ℕ) (label : Label) → hasName bytes label ≡ true → Has bytes label
 unfolding hasName
 has bytes label e =
     let (used, rest) = and-eq-true-iff (label .used) _ .0 e in
     let (short, is) = and-eq-true-iff (leb (label .length) nameLength) _ .0 rest in
     record { used = used; short = leb-true _ _ short; is = same-bytes _ _ is }
+
+pub has-name : (bytes : List ℕ) (label : Label) → Has bytes label → hasName bytes label ≡ true
+unfolding hasName
+has-name bytes label h =
+    rw (hasName, h .used, le-leb (label .length) nameLength (h .short), h .is) (same-refl bytes)
 
 -- The label of a name has that name,
 pub own-name : (bytes : List ℕ) → length bytes ≤ nameLength → hasName bytes (labelOf bytes) ≡ true

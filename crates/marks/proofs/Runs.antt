@@ -14,7 +14,7 @@ use Rattle.streams.specs.declared.Generator.{Generator}
 use Rattle.streams.specs.declared.RecordAnswer.{RecordAnswer}
 use Rattle.streams.specs.Streams.{Call, recordCode, openCode, noteCode, ownCode, roomCode, firstCause, ifAccepted}
 use Rattle.streams.specs.Recurrence.{InRange, Sound, seedFrom}
-use Rattle.streams.proofs.Theorems.{sound, sound-accepted, seeded-range, fit-call}
+use Rattle.streams.proofs.Theorems.{sound, sound-accepted, seeded, seeded-range, fit-call}
 use Rattle.streams.proofs.Causes.{lone-cause}
 use Rattle.noise.specs.Noise.{blockHolds}
 use Rattle.noise.specs.Runs.{returned, handed, sumOver}
@@ -22,8 +22,9 @@ use Rattle.noise.specs.Runs.{run as run-on-record}
 use Rattle.noise.proofs.Runs.{returned-code, next-is, call-sound, unfit-call, run-count}
 use Rattle.marks.specs.declared.label.Label.{Label}
 use Rattle.marks.specs.Marks.{Marks, places, hasName, labelOf, noLabel, noRecord, empty, placeOf, savePlace, idleCode, nameCode, placeCode, placeToSave, placeToReturn, placeToDrop, stored, savedOf, returnedOf, droppedOf, Sized}
-use Rattle.marks.specs.Runs.{State, MarkCall, codeIn, nextIn, run, Tally, tallied, tally, Untouched}
-use Rattle.marks.specs.Runs.MarkCall.{on-record, a-save, a-return, a-drop}
+use Rattle.marks.specs.Runs.{State, MarkCall, codeIn, nextIn, run, Tally, tallied, tally, Untouched, Becomes, AllBecome}
+use Rattle.marks.specs.Runs.MarkCall.{on-record, becomes, a-save, a-return, a-drop}
+use Rattle.marks.specs.Theorems.{ComesBack, Ranged, AllSaved, Counts, Settled, Grown, OfRuns}
 use Rattle.marks.proofs.Placing.{each-none}
 use Rattle.marks.proofs.Names.{has}
 use Rattle.marks.proofs.First.{first-passes}
@@ -34,6 +35,7 @@ use Rattle.marks.proofs.Theorems.{save-sized, save-return, save-leaves,
 pub next-sized : (c : MarkCall) (s : State) → Sized (s .marks) → Sized (nextIn c s .marks)
 unfolding nextIn
 next-sized (on-record c) s h = h
+next-sized (becomes g) s h = h
 next-sized (a-save x) s h = save-sized (s .marks) h (s .generator) x
 next-sized (a-return x) s h = h
 next-sized (a-drop x) s h = drop-sized (s .marks) h x
@@ -49,6 +51,7 @@ pub untouched : (l : List MarkCall) (s : State) (x : List ℕ) (h : Generator) �
 unfolding run nextIn
 untouched [] s x h sized u = refl
 untouched (on-record c ∷ l) s x h sized u = untouched l (nextIn (on-record c) s) x h sized u
+untouched (becomes g ∷ l) s x h sized u = untouched l (nextIn (becomes g) s) x h sized u
 untouched (a-save y ∷ l) s x h sized (other, u) =
     untouched l (nextIn (a-save y) s) x h (save-sized (s .marks) sized (s .generator) y) u
     ∙ save-leaves (s .marks) sized (s .generator) y h x other
@@ -56,30 +59,25 @@ untouched (a-return y ∷ l) s x h sized u = untouched l (nextIn (a-return y) s)
 untouched (a-drop y ∷ l) s x h sized (other, u) =
     untouched l (nextIn (a-drop y) s) x h (drop-sized (s .marks) sized y) u ∙ drop-leaves (s .marks) sized y h x other
 
--- Save, then any run that does not touch that mark, then return: refused for the record passed in alone; accepted, the record is the one
--- that was saved,
-pub comes-back : (s : State) (x : List ℕ) (l : List MarkCall) → Sized (s .marks) → codeIn (a-save x) s ≡ 0 → Untouched x l
-    → (h : Generator) → returnedOf (run l (nextIn (a-save x) s) .marks) h x
-    ≡ record { code = idleCode h; next = ifAccepted (idleCode h) (s .generator) h }
-unfolding codeIn nextIn
-comes-back s x l sized e u h =
-    untouched l (nextIn (a-save x) s) x h (save-sized (s .marks) sized (s .generator) x) u
-    ∙ save-return (s .marks) sized (s .generator) x h e
+-- Save, then any run that does not touch that mark, then return: the saved record.
+module _ (s : State) (x : List ℕ) (l : List MarkCall) (sized : Sized (s .marks)) (e : codeIn (a-save x) s ≡ 0) (u : Untouched x l) where
+  answer : (h : Generator) → returnedOf (run l (nextIn (a-save x) s) .marks) h x
+      ≡ record { code = idleCode h; next = ifAccepted (idleCode h) (s .generator) h }
+  unfolding codeIn nextIn
+  answer h =
+      untouched l (nextIn (a-save x) s) x h (save-sized (s .marks) sized (s .generator) x) u
+      ∙ save-return (s .marks) sized (s .generator) x h e
 
--- so that every block from there, of either width, holds the samples that followed the save.
-pub as-before : (s : State) (x : List ℕ) (l : List MarkCall) → Sized (s .marks) → codeIn (a-save x) s ≡ 0 → Untouched x l
-    → let later : State = run l (nextIn (a-save x) s) in
-    codeIn (a-return x) later ≡ 0
-    → (nextIn (a-return x) later .generator ≡ s .generator)
-    × ((f : ℕ) (old : List ℤ) → blockHolds f (nextIn (a-return x) later .generator) old ≡ blockHolds f (s .generator) old)
-unfolding codeIn nextIn
-as-before s x l sized e u k =
-    let later = run l (nextIn (a-save x) s) in
-    let answer = comes-back s x l sized e u (later .generator) in
-    let fits : idleCode (later .generator) ≡ 0 = sym (ap (λ (r : RecordAnswer). r .code) answer) ∙ k in
-    let is : returnedOf (later .marks) (later .generator) x .next ≡ s .generator
-    = ap (λ (r : RecordAnswer). r .next) answer ∙ rw fits in
-    (is, λ f old. ap (λ (g : Generator). blockHolds f g old) is)
+  exactly : let later : State = run l (nextIn (a-save x) s) in
+      codeIn (a-return x) later ≡ 0 → nextIn (a-return x) later .generator ≡ s .generator
+  unfolding codeIn nextIn
+  exactly k =
+      let later = run l (nextIn (a-save x) s) in
+      let fits : idleCode (later .generator) ≡ 0 = sym (ap (λ (r : RecordAnswer). r .code) (answer (later .generator))) ∙ k in
+      ap (λ (r : RecordAnswer). r .next) (answer (later .generator)) ∙ rw fits
+
+  pub comes-back : ComesBack s x l
+  comes-back = record { answer = answer; exactly = exactly; samples = λ k f old. ap (λ (g : Generator). blockHolds f g old) (exactly k) }
 
 -- ---- What holds of every record
 
@@ -116,11 +114,12 @@ module _ (Now Saved : Generator → Type 0)
   stored-each marks p m g sized new old =
       put-both Under (marks .labels) (marks .records) p m g (sized .labels-size ∙ sym (sized .records-size)) new old
 
-  -- Where a call on the record keeps it, what is saved is so, and what is returned to is so, every call keeps both.
-  pub next-each : (c : MarkCall) (s : State) → Each Now Saved s → Each Now Saved (nextIn c s)
+  -- Where a call on the record keeps it, what is saved is so, what is returned to is so, and so is a record from elsewhere, every call keeps both.
+  pub next-each : (c : MarkCall) (s : State) → Becomes Now c → Each Now Saved s → Each Now Saved (nextIn c s)
   unfolding nextIn
-  next-each (on-record c) s h = record { sized = h .sized; current = goes-on c (s .generator) (h .current); kept = h .kept }
-  next-each (a-save x) s h =
+  next-each (becomes g) s b h = record { sized = h .sized; current = b; kept = h .kept }
+  next-each (on-record c) s b h = record { sized = h .sized; current = goes-on c (s .generator) (h .current); kept = h .kept }
+  next-each (a-save x) s b h =
       record {
         sized = save-sized (s .marks) (h .sized) (s .generator) x;
         current = h .current;
@@ -129,7 +128,7 @@ module _ (Now Saved : Generator → Type 0)
             (λ fits good at. stored-each (s .marks) _ (labelOf x) (s .generator) (h .sized)
             (λ used. is-saved (s .generator) fits (h .current)) (h .kept));
       }
-  next-each (a-return x) s h =
+  next-each (a-return x) s b h =
       record {
         sized = h .sized;
         current =
@@ -138,7 +137,7 @@ module _ (Now Saved : Generator → Type 0)
             (omega (arith, at, h .sized .labels-size))) .used)));
         kept = h .kept;
       }
-  next-each (a-drop x) s h =
+  next-each (a-drop x) s b h =
       record {
         sized = drop-sized (s .marks) (h .sized) x;
         current = h .current;
@@ -147,17 +146,12 @@ module _ (Now Saved : Generator → Type 0)
             (λ at. stored-each (s .marks) _ noLabel noRecord (h .sized) (λ used. absurd (false≢true used)) (h .kept));
       }
 
-  pub run-each : (l : List MarkCall) (s : State) → Each Now Saved s → Each Now Saved (run l s)
+  pub run-each : (l : List MarkCall) (s : State) → AllBecome Now l → Each Now Saved s → Each Now Saved (run l s)
   unfolding run
-  run-each [] s h = h
-  run-each (c ∷ l) s h = run-each l (nextIn c s) (next-each c s h)
+  run-each [] s b h = h
+  run-each (c ∷ l) s (b, bs) h = run-each l (nextIn c s) bs (next-each c s b h)
 
 -- ---- The count
-
--- Registers of 32 bits, as every record of a program has.
-pub record Ranged (g : Generator) : Type 0 where
-  pub range-a : InRange (g .a)
-  pub range-b : InRange (g .b)
 
 call-ranged : (c : Call) (g : Generator) → Ranged g → Ranged (returned c g .next)
 call-ranged c g h = by-test (eqb (recordCode g) 0) refl
@@ -178,6 +172,7 @@ step : (c : MarkCall) (s : State) (t : Tally) → Each Ranged Ranged s → s .ge
     → nextIn c s .generator .count ≡ tallied c s t .base + tallied c s t .since
 unfolding nextIn tallied codeIn
 step (on-record c) s t h e = call-count c (s .generator) (h .current) ∙ omega (arith, e)
+step (becomes g) s t h e = sym (add-zero (g .count))
 step (a-save x) s t h e = e
 step (a-return x) s t h e = by-test (eqb (returnedOf (s .marks) (s .generator) x .code) 0) refl
   where
@@ -192,24 +187,20 @@ step (a-return x) s t h e = by-test (eqb (returnedOf (s .marks) (s .generator) x
 step (a-drop x) s t h e = e
 
 -- A run keeps the count: where it began and the pairs handed out or skipped since.
-pub run-tally : (l : List MarkCall) (s : State) (t : Tally) → Each Ranged Ranged s → s .generator .count ≡ t .base + t .since
-    → run l s .generator .count ≡ tally l s t .base + tally l s t .since
+pub run-tally : (l : List MarkCall) (s : State) (t : Tally) → AllBecome Ranged l → Each Ranged Ranged s → s .generator .count ≡ t .base + t .since
+    → Counts l s t
 unfolding run tally
-run-tally [] s t h e = e
-run-tally (c ∷ l) s t h e =
-    run-tally l (nextIn c s) (tallied c s t)
-    (next-each Ranged Ranged call-ranged (λ g fits r. r) (λ g r. r) c s h) (step c s t h e)
+run-tally [] s t b h e = e
+run-tally (c ∷ l) s t (b, bs) h e =
+    run-tally l (nextIn c s) (tallied c s t) bs
+    (next-each Ranged Ranged call-ranged (λ g fits r. r) (λ g r. r) c s b h) (step c s t h e)
 
--- From seeding on, accepted or refused, with any set: the count is 0, or the saved count at the last accepted return, and what was handed
--- out or skipped since.
-pub count-from-seeding : (a b : Stream) (marks : Marks) (l : List MarkCall) → InRange a → InRange b
-    → let s : State = record { generator = seedFrom a b .next; marks = marks } in
-    Sized marks → ((i : ℕ) → getD (marks .labels) i noLabel .used ≡ true → Ranged (getD (marks .records) i noRecord))
-    → run l s .generator .count
-    ≡ tally l s (record { base = 0; since = 0 }) .base + tally l s (record { base = 0; since = 0 }) .since
-count-from-seeding a b marks l ra rb sized saved =
+pub count-from-seeding : (a b : Stream) (marks : Marks) (l : List MarkCall) → InRange a → InRange b → AllBecome Ranged l
+    → Sized marks → AllSaved Ranged marks
+    → Counts l (record { generator = seedFrom a b .next; marks = marks }) (record { base = 0; since = 0 })
+count-from-seeding a b marks l ra rb others sized saved =
     let (na, nb, zero-count, _, _) = seeded-range a b ra rb in
-    run-tally l (record { generator = seedFrom a b .next; marks = marks }) (record { base = 0; since = 0 })
+    run-tally l (record { generator = seedFrom a b .next; marks = marks }) (record { base = 0; since = 0 }) others
     (record { sized = sized; current = record { range-a = na; range-b = nb }; kept = saved }) zero-count
 
 -- ---- Sets grown from the empty one
@@ -222,11 +213,6 @@ each-free (suc n) (suc i) x = each-free n i x
 empty-sized : Sized empty
 empty-sized = record { labels-size = length-replicate places noLabel; records-size = length-replicate places noRecord }
 
--- a saved record: fit, with no request open
-pub record Settled (g : Generator) : Type 0 where
-  pub fits : Sound g
-  pub none-open : openCode g ≡ 0
-
 idle : (g : Generator) → idleCode g ≡ 0 → Sound g → Settled g
 unfolding idleCode
 idle g e h = record { fits = h; none-open = each-none (recordCode g ∷ openCode g ∷ []) e 1 }
@@ -236,34 +222,34 @@ fit-idle : (g : Generator) → Sound g → idleCode g ≡ openCode g
 unfolding idleCode
 fit-idle g h = rw (sound-accepted g h) (lone-cause (openCode g))
 
-module _ (g : Generator) (fits : Sound g) (l : List MarkCall) where
-  grown : Each Sound Settled (run l (record { generator = g; marks = empty }))
-  grown =
-      run-each Sound Settled call-sound idle (λ r h. h .fits) l (record { generator = g; marks = empty })
+-- a run of a fit record in which every record from elsewhere is fit
+module _ (g : Generator) (fits : Sound g) (l : List MarkCall) (others : AllBecome Sound l) where
+  held : Each Sound Settled (run l (record { generator = g; marks = empty }))
+  held =
+      run-each Sound Settled call-sound idle (λ r h. h .fits) l (record { generator = g; marks = empty }) others
       (record {
         sized = empty-sized;
         current = fits;
         kept = λ i used. absurd (false≢true (sym (ap (λ (label : Label). label .used) (each-free places i noLabel)) ∙ used));
       })
 
-  -- Every saved record is fit, with no request open.
-  pub saved-settled : (i : ℕ) → getD (run l (record { generator = g; marks = empty }) .marks .labels) i noLabel .used ≡ true
-      → Settled (getD (run l (record { generator = g; marks = empty }) .marks .records) i noRecord)
-  saved-settled = grown .kept
-
-  -- An accepted generator is refused later only for its note, for a call's own arguments, or for its count,
-  pub never-refused : (c : Call) → let s : State = run l (record { generator = g; marks = empty }) in
-      codeIn (on-record c) s
-      ≡ firstCause (noteCode c (s .generator) ∷ ownCode c (s .generator) ∷ roomCode c (s .generator) ∷ [])
-  unfolding codeIn
-  never-refused c = returned-code c _ ∙ fit-call c _ (grown .current)
-
-  -- by a save or a return for its note or the name, and by a drop for the name.
-  pub names-refused : (x : List ℕ) → let s : State = run l (record { generator = g; marks = empty }) in
-      (codeIn (a-save x) s
-      ≡ firstCause (openCode (s .generator) ∷ nameCode x ∷ placeCode (savePlace (s .marks .labels) x) 20 ∷ []))
-      × (codeIn (a-return x) s
-      ≡ firstCause (openCode (s .generator) ∷ nameCode x ∷ placeCode (placeOf (s .marks .labels) x) 19 ∷ []))
-      × (codeIn (a-drop x) s ≡ firstCause (nameCode x ∷ placeCode (placeOf (s .marks .labels) x) 19 ∷ []))
+  pub grown : Grown g l
   unfolding codeIn savedOf placeToSave returnedOf placeToReturn droppedOf placeToDrop
-  names-refused x = (rw (fit-idle _ (grown .current)), rw (fit-idle _ (grown .current)), refl)
+  grown =
+      record {
+        saved-settled = held .kept;
+        never-refused = λ c. returned-code c _ ∙ fit-call c _ (held .current);
+        names-refused = λ x. (rw (fit-idle _ (held .current)), rw (fit-idle _ (held .current)), refl);
+      }
+
+seeded-sound : (a b : Stream) → InRange a → InRange b → seedFrom a b .code ≡ 0 → Sound (seedFrom a b .next)
+seeded-sound a b ra rb e = let (is-fresh, is-sound) = seeded a b ra rb e in rw is-fresh is-sound
+
+pub of-runs : OfRuns
+of-runs =
+    record {
+      comes-back = comes-back;
+      count-from-seeding = count-from-seeding;
+      grown = λ a b l ra rb e others. grown (seedFrom a b .next) (seeded-sound a b ra rb e) l others;
+      seeded = seeded-sound;
+    }

@@ -1,2 +1,4 @@
 pub mod Marks
 pub mod Runs
+pub mod Refusals
+pub mod Theorems

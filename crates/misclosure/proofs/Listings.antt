@@ -20,7 +20,7 @@ use Rattle.listing_writer.specs.Listing.{endRow}
 use Rattle.listing_writer.proofs.Rows.{row-length, end-length}
 use Rattle.sums.specs.Sums.{Shot, mostShots, mostDistance}
 use Rattle.sums.specs.Spans.{Span, Chosen, lowShots, Ranged, EqualReadings}
-use Rattle.listing_reader.specs.Entries.{headerOf, isHeader, rowForm, Said, leg, last, neither, endOf, readEntry, rowOf}
+use Rattle.listing_reader.specs.Entries.{headerOf, isHeader, rowForm, Said, leg, last, neither, readEntry, rowOf}
 use Rattle.listing_reader.proofs.RoundTrip.{Alike, row-line, row-read, end-line, end-said, end-read, header-line, header-lengths, header-read, header-is, Printed, entry-printed}
 use Rattle.misclosure.specs.Misclosure.{
   lastLine,
@@ -38,7 +38,7 @@ use Rattle.misclosure.specs.Misclosure.{
   headed,
   listingOf,
 }
-use Rattle.misclosure.specs.Theorems.{Row, Ordered, spanIn, spansIn, rowText, rowsText, textOf, LinkedRow, Linked, EqualRows, chosenRows, longestRow, longestListing}
+use Rattle.misclosure.specs.Theorems.{Row, Ordered, spanIn, spansIn, rowText, rowsText, textOf, LinkedRow, Linked, EqualRows, SayAlike, ListAlike, chosenRows, longestRow, longestListing}
 use Rattle.misclosure.proofs.Lines.{in-range, leg-0, last-0, leg-within, last-count}
 use Rattle.misclosure.proofs.Going.{outcome-yes, outcome-no}
 
@@ -305,41 +305,58 @@ linked-second b (r ∷ first) second station (row, h) = linked-second b first se
 
 -- ---- one listing of either kind, where low equals high throughout
 
--- a last row is read alike by both
-module _ (k n : ℕ) (station : List ℕ) where
-  abbrev x : Said
-  x = endOf (decimal n ∷ [])
+onward-alike : (k : ℕ) (x : Said) (ls ms : List (List ℕ)) (o : Outcome) → SayAlike ls ms → onward k x ls o ≡ onward k x ms o
+unfolding SayAlike noLines
+onward-alike k (leg from to low high step) ls ms o h = refl
+onward-alike k (last count) [] [] o h = refl
+onward-alike k (last count) [] (m ∷ ms) o h = absurd h
+onward-alike k (last count) (l ∷ ls) [] o h = absurd h
+onward-alike k (last count) (l ∷ ls) (m ∷ ms) o h = refl
+onward-alike k neither ls ms o h = refl
 
-  last-read : (b : Bool) → outcome b k station (lines (endRow n))
-      ≡ cond (eqb (refusal k station x) 0) (onward k x [] (refused 6 (k + 1))) (refused (refusal k station x) k)
-  unfolding outcome lines
-  last-read b =
-      ap (λ (l : List ℕ). outcome b k station (lines l)) (sym (append-nil (endRow n)))
-      ∙ ap (outcome b k station) (end-line n [])
-      ∙ ap (λ (y : Said). cond (eqb (refusal k station y) 0) (onward k y [] (refused 6 (k + 1))) (refused (refusal k station y) k)) (end-said n b)
+outcome-alike : (ls ms : List (List ℕ)) → SayAlike ls ms → (k : ℕ) (station : List ℕ) → outcome true k station ms ≡ outcome false k station ls
+unfolding SayAlike outcome
+outcome-alike [] [] h k station = refl
+outcome-alike [] (m ∷ ms) h k station = absurd h
+outcome-alike (l ∷ ls) [] h k station = absurd h
+outcome-alike (l ∷ ls) (m ∷ ms) (same, h) k station =
+    let x = readEntry false l in
+    let on : (o : Outcome) → Outcome = λ o. cond (eqb (refusal k station x) 0) o (refused (refusal k station x) k) in
+    ap (λ (y : Said). cond (eqb (refusal k station y) 0) (onward k y ms (outcome true (k + 1) (stationAfter y) ms)) (refused (refusal k station y) k)) (sym same)
+    ∙ ap (λ (o : Outcome). on (onward k x ms o)) (outcome-alike ls ms h (k + 1) (stationAfter x))
+    ∙ ap on (sym (onward-alike k x ls ms (outcome false (k + 1) (stationAfter x) ls) h))
 
-  outcome-last : outcome true k station (lines (endRow n)) ≡ outcome false k station (lines (endRow n))
-  outcome-last = last-read true ∙ sym (last-read false)
+headed-alike : (ls ms : List (List ℕ)) → ListAlike ls ms → headed true ms ≡ headed false ls
+unfolding ListAlike headed
+headed-alike [] [] h = refl
+headed-alike [] (m ∷ ms) h = absurd h
+headed-alike (l ∷ ls) [] h = absurd h
+headed-alike (l ∷ ls) (m ∷ ms) (same, h) =
+    ap₂ (λ (b : Bool) (o : Outcome). cond b o (refused 6 1)) (sym same) (outcome-alike ls ms h 2 [])
 
-outcome-equal : (rows : List Row) → EqualRows rows → (k n : ℕ) (station : List ℕ)
-    → outcome true k station (lines (rowsText true rows ++ endRow n)) ≡ outcome false k station (lines (rowsText false rows ++ endRow n))
-unfolding EqualRows rowsText
-outcome-equal [] h k n station = outcome-last k n station
-outcome-equal (r ∷ rows) (hf, ht, hd, hs, same, h) k n station =
+pub lines-outcome : (one two : List ℕ) → ListAlike (lines one) (lines two) → listingOf true two ≡ listingOf false one
+unfolding listingOf
+lines-outcome one two h = headed-alike (lines one) (lines two) h
+
+-- rows with low equal to high, and the end, say the same
+rows-alike : (n : ℕ) (rows : List Row) → EqualRows rows → SayAlike (lines (rowsText false rows ++ endRow n)) (lines (rowsText true rows ++ endRow n))
+unfolding EqualRows rowsText SayAlike lines
+rows-alike n [] h =
+    let end : lines (endRow n) ≡ endRow n ∷ [] = ap lines (sym (append-nil (endRow n))) ∙ end-line n [] in
+    rw end (end-said n false ∙ sym (end-said n true), tt)
+rows-alike n (r ∷ rows) (hf, ht, hd, hs, same, h) =
     let far : r .high < decimalBound = omega (arith, hd, same) in
-    let by : (b : Bool) → Alike b (r .low) (r .high) → outcome b k station (lines (rowsText b (r ∷ rows) ++ endRow n)) ≡ _ =
-    λ b alike. ap (λ (l : List ℕ). outcome b k station (lines l)) (append-assoc (rowText b r) (rowsText b rows) (endRow n))
-    ∙ outcome-row b k station (r .from) (r .to) (r .low) (r .high) (r .step) (rowsText b rows ++ endRow n) hf ht hd far hs alike in
-    by true tt
-    ∙ ap (λ (o : Outcome). cond (eqb (refusal k station (leg (r .from) (r .to) (r .low) (r .high) (r .step))) 0) (onto (spanIn r) o)
-    (refused (refusal k station (leg (r .from) (r .to) (r .low) (r .high) (r .step))) k)) (outcome-equal rows h (k + 1) n (r .to))
-    ∙ sym (by false same)
+    let by : (b : Bool) → lines (rowsText b (r ∷ rows) ++ endRow n) ≡ rowText b r ∷ lines (rowsText b rows ++ endRow n) =
+    λ b. ap lines (append-assoc (rowText b r) (rowsText b rows) (endRow n))
+    ∙ row-line (r .from) (r .to) (r .low) (r .high) (r .step) hf ht b (rowsText b rows ++ endRow n) in
+    let read = row-read (r .from) (r .to) (r .low) (r .high) (r .step) hf ht in
+    rw (by false, by true) (read false same hd far hs ∙ sym (read true tt hd far hs), rows-alike n rows h)
 
 pub equal-outcome : (rows : List Row) → EqualRows rows → listingOf true (textOf true rows) ≡ listingOf false (textOf false rows)
 unfolding textOf
 equal-outcome rows h =
     listing-headed true (rowsText true rows ++ endRow (length rows))
-    ∙ outcome-equal rows h 2 (length rows) []
+    ∙ outcome-alike _ _ (rows-alike (length rows) rows h) 2 []
     ∙ sym (listing-headed false (rowsText false rows ++ endRow (length rows)))
 
 -- ---- a choice as a listing of one distance each

@@ -20,10 +20,13 @@ use Rattle.misclosure.proofs.Listings.{
   accepted-longest,
   linked-first,
   linked-second,
+  lines-outcome,
   equal-outcome,
   chosen-linked,
 }
 use Rattle.misclosure.proofs.Answer.{equal-answer}
+use Rattle.misclosure.proofs.Lines.{neither-6}
+use Rattle.misclosure.proofs.Causes.{shot-codes, end-code}
 
 -- ---- runs joined, by the shots that each kind of sum takes
 
@@ -56,6 +59,9 @@ module _ (first second : List Row) (few : length (first ++ second) ≤ mostShots
 pub theorems : Theorems
 unfolding missOf intervalsOf total Linked
 theorems = record {
+  shot-codes = shot-codes;
+  end-code = end-code;
+  neither-code = neither-6;
   accepted-listing = linked-accepted;
   listing-accepted = accepted-linked;
   longest = accepted-longest;
@@ -63,6 +69,7 @@ theorems = record {
       let (few, ranged) = accepted-ranged false text l e in
       let a = choice-allowed l (lowShots l) few ranged (low-chosen l ranged) in
       rw e (sums.theorems .close (lowShots l) a, sums.theorems .closer (lowShots l) a);
+  within-margin = λ text l e. rw e (sums.theorems .within-margin (lowShots l));
   no-shots = rw (linked-accepted false [] tt (omega arith));
   joined = λ first second h few.
       let p = miss-linked first (first-few first second few) (linked-first false first second [] h) in
@@ -71,6 +78,7 @@ theorems = record {
   spans = λ text l e.
       let (few, ranged) = accepted-ranged true text l e in
       rw e (spans l few ranged);
+  fine-spans = λ text l e. rw e (sums.theorems .fine-spans l);
   choice = λ rows c h few e.
       let (linked, count, same) = chosen-linked rows c [] h e in
       miss-linked (chosenRows rows c) (omega (arith, few, count)) linked
@@ -83,6 +91,7 @@ theorems = record {
         northing = rounded (total cosine l);
       }) same;
   equal-readings = λ rows h. ap intervalsOf (equal-outcome rows h) ∙ equal-answer (textOf false rows);
+  equal-lines = λ one two h. ap intervalsOf (lines-outcome one two h) ∙ equal-answer one;
   intervals-joined = λ first second h few.
       let p = intervals-linked first (first-few first second few) (linked-first true first second [] h) in
       let q = intervals-linked second (second-few first second few) (linked-second true first second [] h) in

@@ -1,18 +1,21 @@
 -- What the definitions of a listing's sums say, as theorems: the record below has a proof in proofs/Theorems.antt.
-use Prim.Native.Nat.{ℕ, _+_, _*_, _≤_, _<_}
+use Prim.Native.Nat.{ℕ, _+_, _-_, _*_, _≤_, _<_}
 use mathlib.Core.Path.{_≡_}
 use mathlib.Core.Bool.{Bool, true, false}
 use mathlib.Core.List.{List, [], _∷_, _++_, map}
+use mathlib.Core.Logic.{_↔_}
 use lib.IntN.{pos, _+ℤ_}
 use lib.ListN.{length}
 use Rattle.text.specs.Limits.{decimalBound}
 use Rattle.text.specs.Fields.{name}
+use Rattle.text.specs.Scan.{lines}
 use Rattle.listing_writer.specs.Listing.{endRow}
-use Rattle.listing_reader.specs.Entries.{headerOf, rowOf}
+use Rattle.listing_reader.specs.Entries.{headerOf, isHeader, leg, last, neither, readEntry, rowOf}
 use Rattle.sums.specs.Sums.{Shot, sine, cosine, total, rounded, mostShots, mostDistance}
 use Rattle.sums.specs.Exact.{exactSine, exactCosine, Close}
 use Rattle.sums.specs.Spans.{Span, Chosen, lowShots, Spans}
-use Rattle.misclosure.specs.Misclosure.{mostStep, follows, accepted, listingOf, missOf, bothEnds, intervalsOf}
+use Rattle.sums.specs.Margin.{distances, margin, CloseBy, FineSpans}
+use Rattle.misclosure.specs.Misclosure.{mostStep, follows, refusal, accepted, listingOf, missOf, bothEnds, intervalsOf}
 use Rattle.misclosure.specs.declared.Miss.{Miss}
 use Rattle.misclosure.specs.declared.IntervalSums.{IntervalSums}
 use Rattle.misclosure.specs.declared.Ends.{Ends}
@@ -68,6 +71,20 @@ EqualRows [] = Unit {0}
 EqualRows (r ∷ rows) =
     (name (r .from) ≡ true) × (name (r .to) ≡ true) × (r .low < decimalBound) × (r .step < decimalBound) × (r .low ≡ r .high) × EqualRows rows
 
+-- two listings, the first of one distance a shot, the second of two, that say the same line by line, whatever each line says: low equals high in each
+-- shot, and where a line of one is no shot and no end (6), so is the other's; the headers are both right or both wrong
+unfoldable pub SayAlike : List (List ℕ) → List (List ℕ) → Type 0
+SayAlike [] [] = Unit {0}
+SayAlike [] (m ∷ ms) = ⊥
+SayAlike (l ∷ ls) [] = ⊥
+SayAlike (l ∷ ls) (m ∷ ms) = (readEntry false l ≡ readEntry true m) × SayAlike ls ms
+
+unfoldable pub ListAlike : List (List ℕ) → List (List ℕ) → Type 0
+ListAlike [] [] = Unit {0}
+ListAlike [] (m ∷ ms) = ⊥
+ListAlike (l ∷ ls) [] = ⊥
+ListAlike (l ∷ ls) (m ∷ ms) = (isHeader false l ≡ isHeader true m) × SayAlike ls ms
+
 -- the same shots, each with the distance that was chosen for it
 unfoldable pub chosenRows : List Row → List Shot → List Row
 chosenRows [] c = []
@@ -107,7 +124,25 @@ infixl 60 _+ᵉ_
 abbrev pub _+ᵉ_ : Ends → Ends → Ends
 x +ᵉ y = record { low = x .low +ℤ y .low; high = x .high +ℤ y .high }
 
+-- line k of a listing says a shot, after a station
+module _ (k : ℕ) (station from to : List ℕ) (low high step : ℕ) where
+  -- within its limits: at most 500 shots, the header being line 1, 1,008,242 mm and 65,535 steps
+  abbrev pub WithinLimits : Type 0
+  WithinLimits = (k ≤ 501) × (low ≤ 1008242) × (high ≤ 1008242) × (step ≤ 65535)
+
+  -- "24 .. tests both", "25 .. after 24 .. and before 23": each just where its cause holds and none before it does, and 0 where none does
+  pub record ShotCodes (code : ℕ) : Type 0 where
+    pub just-24 : (code ≡ 24) ↔ (WithinLimits → ⊥)
+    pub just-25 : (code ≡ 25) ↔ (WithinLimits × (high < low))
+    pub just-23 : (code ≡ 23) ↔ (WithinLimits × (low ≤ high) × (follows station from ≡ false))
+    pub just-0 : (code ≡ 0) ↔ (WithinLimits × (low ≤ high) × (follows station from ≡ true))
+
 pub record Theorems : Type 0 where
+  -- the codes of a shot's line; 6 is that of an end with a false count and of a line that is neither
+  pub shot-codes : (k : ℕ) (station from to : List ℕ) (low high step : ℕ) → ShotCodes k station from to low high step (refusal k station (leg from to low high step))
+  pub end-code : (k : ℕ) (station : List ℕ) (count : ℕ)
+      → ((refusal k station (last count) ≡ 6) ↔ (count ≡ k - 2 → ⊥)) × ((refusal k station (last count) ≡ 0) ↔ (count ≡ k - 2))
+  pub neither-code : (k : ℕ) (station : List ℕ) → refusal k station neither ≡ 6
   -- a listing of either kind is accepted just where it is that of at most 500 such shots
   pub accepted-listing : (between : Bool) (rows : List Row) → Linked between [] rows → length rows ≤ mostShots
       → listingOf between (textOf between rows) ≡ accepted (spansIn rows)
@@ -119,6 +154,9 @@ pub record Theorems : Type 0 where
   pub close : (text : List ℕ) (l : List Span) → listingOf false text ≡ accepted l
       → Close 3 (lowShots l) (missOf (listingOf false text) .easting) (missOf (listingOf false text) .northing)
       × Close 2 (lowShots l) (missOf (listingOf false text) .easting) (missOf (listingOf false text) .northing)
+  -- and at most 1/2 + 3 L / 2^30 mm, L the run's length in mm
+  pub within-margin : (text : List ℕ) (l : List Span) → listingOf false text ≡ accepted l
+      → CloseBy (margin (distances (lowShots l))) (lowShots l) (missOf (listingOf false text) .easting) (missOf (listingOf false text) .northing)
   -- "No shots give 0 and 0."
   pub no-shots : missIn [] ≡ record { code = 0; line = 0; east = pos 0; north = pos 0; easting = pos 0; northing = pos 0 }
   -- "Where a run of shots joined to a second is accepted, it adds up, before rounding, to the two sums added."
@@ -131,6 +169,11 @@ pub record Theorems : Type 0 where
       (intervalsOf (listingOf true text) .easting .low) (intervalsOf (listingOf true text) .easting .high)
       × Spans cosine exactCosine l (intervalsOf (listingOf true text) .north .low) (intervalsOf (listingOf true text) .north .high)
       (intervalsOf (listingOf true text) .northing .low) (intervalsOf (listingOf true text) .northing .high)
+  -- the exact sum of any choice, fractions of a millimetre among them, lies between the ends, widened by 1/2 + 3 L / 2^30 mm, L the longest that the
+  -- run can be
+  pub fine-spans : (text : List ℕ) (l : List Span) → listingOf true text ≡ accepted l
+      → FineSpans exactSine l (intervalsOf (listingOf true text) .easting .low) (intervalsOf (listingOf true text) .easting .high)
+      × FineSpans exactCosine l (intervalsOf (listingOf true text) .northing .low) (intervalsOf (listingOf true text) .northing .high)
   -- the sums of a choice are those of Job 13's listing with the distances chosen
   pub choice : (rows : List Row) (c : List Shot) → Linked true [] rows → length rows ≤ mostShots → Chosen (spansIn rows) c
       → missIn (chosenRows rows c) ≡ record {
@@ -143,6 +186,8 @@ pub record Theorems : Type 0 where
       }
   -- "Where low equals high throughout, it is Job 13's result": code and line too, where it is refused
   pub equal-readings : (rows : List Row) → EqualRows rows → intervalsIn rows ≡ asIntervals (missIn rows)
+  -- and where it is no listing of any shots: code (6 among them) and line, sums 0
+  pub equal-lines : (one two : List ℕ) → ListAlike (lines one) (lines two) → intervalsOf (listingOf true two) ≡ asIntervals (missOf (listingOf false one))
   -- joined runs
   pub intervals-joined : (first second : List Row) → Linked true [] (first ++ second) → length (first ++ second) ≤ mostShots
       → (intervalsIn (first ++ second) .east ≡ intervalsIn first .east +ᵉ intervalsIn second .east)

@@ -129,7 +129,7 @@ pub pair-is : (f : ℕ) (g : Generator) → Sound g → pairsCode g 1 ≡ 0
     }
 unfolding pairOf
 pair-is f g h e =
-    let (hk, hv) = numbers-bounded g h in
+    let (hk, hv) = numbers-bounded g (h .range-a) (h .range-b) in
     let accepted : uniformsOf g .code ≡ 0 = ap (λ (u : Uniforms). u .code) (uniforms-accepted g e) in
     rw (pairOf, accepted, accepts f (uniformsOf g .k) (uniformsOf g .v) hk hv)
 
@@ -139,7 +139,7 @@ pub samples-words : (f n : ℕ) (g : Generator) → Sound g → g .waiting ≡ 0
 unfolding samples pairWords samplesAt
 samples-words f zero g h none room = refl
 samples-words f (suc n) g h none room =
-    let (hk, hv) = numbers-bounded g h in
+    let (hk, hv) = numbers-bounded g (h .range-a) (h .range-b) in
     let high : (uniformsOf g .k * 65536 + uniformsOf g .v) / 65536 ≡ uniformsOf g .k = omega (arith, hv) in
     let low : (uniformsOf g .k * 65536 + uniformsOf g .v) % 65536 ≡ uniformsOf g .v = omega (arith, hv) in
     let accepted : pairsCode g 1 ≡ 0 = pairs-accepted g 1 .1 (sound-accepted g h, omega arith, none) in

@@ -1,3 +1,4 @@
+pub mod Drawn
 pub mod Laws
 pub mod Notes
 mod ChunkLaws

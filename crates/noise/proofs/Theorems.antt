@@ -140,7 +140,7 @@ samples-second f (suc n) (suc i) g d h =
 pub pair-close : (limit : Fraction) (f : ℕ) (g : Generator) → Room limit f → Sound g → pairOf f g .code ≡ 0
     → Close limit f (inverse (uniformsOf g .k)) (uniformsOf g .v) (pairOf f g .first) (pairOf f g .second)
 pair-close limit f g enough h e =
-    let (hk, hv) = numbers-bounded g h in
+    let (hk, hv) = numbers-bounded g (h .range-a) (h .range-b) in
     rw (pair-is f g h (rw (pair-code f g) at e)) (samples-close limit f (uniformsOf g .k) (uniformsOf g .v) enough hk hv)
 
 -- n pairs on, the next pair is accepted where no request is open and the count has room for it: so is each of the 500 pairs of a job, whose
@@ -172,7 +172,7 @@ pairs-alike g = (refl, refl)
 
 -- ---- The twelve readings of document 01
 
--- an equation of two lists holds at each place
+-- readings whose samples are those of the table hold, each of them
 each-holds : (l : List Reading) → map (λ (r : Reading). samplesOf fractionBits (r .k) (r .v)) l
     ≡ map (λ (r : Reading). record { code = 0; first = r .first; second = r .second }) l
     → (rest : List Check) → AllHold rest → AllHold (map of-samples l ++ rest)

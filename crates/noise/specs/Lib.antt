@@ -1,4 +1,5 @@
 pub mod Noise
+pub mod Drawn
 pub mod Private
 pub mod Runs
 pub mod Readings

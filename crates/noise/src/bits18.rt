@@ -29,7 +29,7 @@ pub fn sampled18(drawn: Uniforms) -> PairAnswer18
     }
     let s = sample::sample18(drawn.k, drawn.v);
     PairAnswer18 {
-        code: 0,
+        code: s.code,
         first: s.first,
         second: s.second,
         next,

@@ -48,7 +48,7 @@ pub fn sampled(drawn: Uniforms) -> PairAnswer
     }
     let s = sample::sample(drawn.k, drawn.v);
     PairAnswer {
-        code: 0,
+        code: s.code,
         first: s.first,
         second: s.second,
         next,

@@ -30,7 +30,7 @@ RegisterBack k q s = (x : ℕ) → x < 2 ^ 32 → 2 ^ (32 - k) ≤ x → Back (2
 abbrev pub SameDraws : Stream → Stream → Type 0
 SameDraws u v = (i : ℕ) → drawAt u (suc i) ≡ drawAt v (suc i)
 
--- Two records with no stream in common: neither a nor b draws the same numbers in both.
+-- Two records apart: their streams a do not draw the same numbers, nor do their streams b. Of a of the one and b of the other nothing is said.
 abbrev pub Apart : Generator → Generator → Type 0
 Apart g h = (SameDraws (g .a) (h .a) → ⊥) × (SameDraws (g .b) (h .b) → ⊥)
 

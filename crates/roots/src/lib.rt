@@ -2,10 +2,11 @@
 // right whatever the guess is.
 ghost use mathlib.Core.Path.{_≡_};
 ghost use mathlib.Core.Bool.{not};
-ghost use Prim.Native.Nat.{_^_, _<_, min};
+ghost use Prim.Native.Nat.{min};
 ghost use lib.Dec.{T};
+ghost use lib.ListN.{length};
 ghost use lib.Ieee.{isNan};
-ghost use Rattle.roots.specs.Root.{wholeRoot};
+ghost use Rattle.roots.specs.Root.{wholeRoot, Guess, Guessed};
 
 // What a guess is below.
 const GUESSES: u64 = 1 << 24;
@@ -36,9 +37,9 @@ fn bits_of(x: f64) -> u64 {
 }
 
 // Near the root of x, for x below 2^48: about 1 over the root, one step of Newton's, then one of the third order with the product. The
-// last sum has the rounded root in its last 24 bits. The contract is a bound alone.
+// last sum has the rounded root in its last 24 bits. The contract is a bound alone: which guess it is, is left to the program.
 pub fn guess(x: u64) -> u64
-    ensures { λ r. ⌜ r < 2 ^ 24 ⌝ }
+    ensures { λ r. ⌜ Guess r ⌝ }
 {
     let f = float_of(x);
     let start = about_inverse_root(f64::to_bits(f));
@@ -54,9 +55,10 @@ fn lesser(m: usize, n: usize) -> usize
     if m < n { m } else { n }
 }
 
-// A guess at the root of each x that has a place in g. There is no contract but the length of g, and no jump, so that the compiler
-// makes several at a time.
-pub fn guesses(x: &[u64], g: &mut [u64]) {
+// A guess at the root of each x that has a place in g, with no jump, so that the compiler makes several at a time.
+pub fn guesses(x: &[u64], g: &mut [u64])
+    ensures { λ _. ⌜ Guessed (length (now (x .entry))) (now (g .entry)) (now (g .exit)) ⌝ }
+{
     let n = lesser(x.len(), g.len());
     let mut i = 0;
     while i < n {

@@ -59,3 +59,8 @@ taken-cases = refl
 pub taken-lengths : map (takenCode (with-b 2 0 1 2)) (2 ∷ 3 ∷ 4 ∷ 5 ∷ 6 ∷ []) ≡ 16 ∷ 16 ∷ 0 ∷ 16 ∷ 16 ∷ []
 unfolding askedCode takenCode
 taken-lengths = refl
+
+-- "16: n above 1,000,000, asked": 1,000,000 pairs are accepted, and one more is not.
+pub asked-cases : map askedCode (1000000 ∷ 1000001 ∷ []) ≡ 0 ∷ 16 ∷ []
+unfolding askedCode
+asked-cases = refl

@@ -302,15 +302,15 @@ output-lt : (u : Stream) → InRange u → output u < 2 ^ 32
 unfolding output
 output-lt u h = xor-lt 32 (bitXor (u .s0) (u .s1)) (u .s2) (xor-lt 32 (u .s0) (u .s1) (h .s0-range) (h .s1-range)) (h .s2-range)
 
-pub numbers-bounded : (g : Generator) → Sound g → (uniformsOf g .k < 2 ^ 48) × (uniformsOf g .v < 65536)
+pub numbers-bounded : (g : Generator) → InRange (g .a) → InRange (g .b) → (uniformsOf g .k < 2 ^ 48) × (uniformsOf g .v < 65536)
 unfolding uniformsOf
-numbers-bounded g h = by-test (eqb (pairsCode g 1) 0)
+numbers-bounded g ra rb = by-test (eqb (pairsCode g 1) 0)
   where
     a : output (advance (g .a)) < 2 ^ 32
-    a = output-lt (advance (g .a)) (advance-range (g .a) (h .range-a))
+    a = output-lt (advance (g .a)) (advance-range (g .a) ra)
 
     b : output (advance (g .b)) < 2 ^ 32
-    b = output-lt (advance (g .b)) (advance-range (g .b) (h .range-b))
+    b = output-lt (advance (g .b)) (advance-range (g .b) rb)
 
     by-test : (t : Bool)
         → (cond t (output (advance (g .a)) * 65536 + output (advance (g .b)) / 65536) 0 < 2 ^ 48)

@@ -5,4 +5,5 @@ pub mod Parts
 pub mod SumLaws
 pub mod Nearness
 pub mod Choices
+pub mod FineChoices
 pub mod Theorems

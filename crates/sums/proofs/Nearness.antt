@@ -1,4 +1,4 @@
--- The rounded sums are less than 2 mm, and so less than 3 mm, from the exact ones.
+-- The rounded sums are within the margin of their run's length from the exact ones: less than 2 mm, and so less than 3 mm.
 use mathlib.Core.Path.{_≡_, ap, sym, _∙_}
 use mathlib.Core.Bool.{Bool, true, false, cond}
 use mathlib.Core.List.{List, [], _∷_}
@@ -8,28 +8,29 @@ use native.Mathlib.Omega.{arith}
 use lib.ListN.{length}
 use lib.IntN.{ℤ, pos, negℤ, negℤ-negℤ}
 use lib.Pow.{pow-pos}
+use Rattle.exact.specs.Fraction.{Fraction, _≤ᶠ_}
 use Rattle.exact.specs.Pair.{Enclosure, above, below, along}
 use Rattle.angle.specs.Margin.{Member}
 use Rattle.angle.proofs.Members.{members-near}
 use Rattle.sums.specs.Points.{Point, _≤ᵖ_, _<ᵖ_, _+ᵖ_, _·ᵖ_, wholePoint, signed, lowest, highest}
 use Rattle.sums.specs.Sums.{Shot, sine, cosine, total, rounded, mostShots, mostDistance, Bounded, Allowed}
 use Rattle.sums.specs.Exact.{sumOf, lowEnd, highEnd, exactSine, exactCosine, Near, Close}
+use Rattle.sums.specs.Margin.{distances, margin, NearBy, CloseBy}
 use Rattle.sums.proofs.PointLaws.{≤ᵖ-trans, +ᵖ-mono, ·ᵖ-mono}
 use Rattle.sums.proofs.Parts.{neg-parts, product-parts, rounded-parts}
-use Rattle.sums.proofs.SumLaws.{distances}
 
 -- z - m and z + m, over 2^30
-abbrev lower : ℤ → ℕ → Point
+abbrev pub lower : ℤ → ℕ → Point
 lower z m = record { plus = above z; minus = below z + m; bottom = 2 ^ 30; positive = pow-pos 30 }
 
-abbrev upper : ℤ → ℕ → Point
+abbrev pub upper : ℤ → ℕ → Point
 upper z m = record { plus = above z + m; minus = below z; bottom = 2 ^ 30; positive = pow-pos 30 }
 
 from-low : (n k b t : ℕ) → n ≤ k + 3 → k * b ≤ t * 2 ^ 30 → n * b ≤ t * 2 ^ 30 + 3 * b
 from-low n k b t h l = omega (arith, l, mul-le-mul-right b h)
 
 -- a member's enclosure lies within 3 units of 2^-30 of G
-member-ends : (G : ℤ) (e : Enclosure) → Member G e → (lower G 3 ≤ᵖ lowest e) × (highest e ≤ᵖ upper G 3)
+pub member-ends : (G : ℤ) (e : Enclosure) → Member G e → (lower G 3 ≤ᵖ lowest e) × (highest e ≤ᵖ upper G 3)
 member-ends G e m =
     let low = from-low (m .size) (m .size - 3) (e .low .bottom) (e .low .top) (omega arith) (m .low) in
     go (e .negative) (m .value) low
@@ -115,4 +116,45 @@ close-within k room l ok = record {
   bits = 96;
   sines = sum-near mostShots k room sine (exactSine 96) (λ v. members-near v .0) l (ok .0) (ok .1);
   cosines = sum-near mostShots k room cosine (exactCosine 96) (λ v. members-near v .1) l (ok .0) (ok .1);
+}
+
+-- within the margin of M
+pub from-lower : (L : ℕ) (T : ℤ) (x : Point) → lower T (3 * L) ≤ᵖ x → wholePoint (rounded T) ≤ᵖ x +ᵖ signed false (margin L)
+from-lower L T x h = omega (arith, h, mul-le-mul-right (x .bottom) (rounded-parts T .0))
+
+pub from-upper : (L : ℕ) (T : ℤ) (x : Point) → x ≤ᵖ upper T (3 * L) → x ≤ᵖ wholePoint (rounded T) +ᵖ signed false (margin L)
+from-upper L T x h = omega (arith, h, mul-le-mul-right (x .bottom) (rounded-parts T .1))
+
+sum-by : (G : ℕ → ℤ) (E : ℕ → Enclosure) → ((v : ℕ) → Member (G v) (E v)) → (l : List Shot) → NearBy (margin (distances l)) (rounded (total G l)) E l
+unfolding NearBy
+sum-by G E near l x from to =
+    let L = distances l in
+    let T = total G l in (
+      from-lower L T x (≤ᵖ-trans (lower T (3 * L)) (lowEnd E l) x (sum-low G E near l) from),
+      from-upper L T x (≤ᵖ-trans x (highEnd E l) (upper T (3 * L)) to (sum-high G E near l)),
+    )
+
+pub within-margin : (l : List Shot) → CloseBy (margin (distances l)) l (rounded (total sine l)) (rounded (total cosine l))
+within-margin l = record {
+  bits = 96;
+  sines = sum-by sine (exactSine 96) (λ v. members-near v .0) l;
+  cosines = sum-by cosine (exactCosine 96) (λ v. members-near v .1) l;
+}
+
+-- a wider margin
+wider-by : (ε η : Fraction) → ε ≤ᶠ η → (r : ℤ) (E : ℕ → Enclosure) (l : List Shot) → NearBy ε r E l → NearBy η r E l
+unfolding NearBy
+wider-by ε η h r E l near x from to =
+    let add : (y : Point) → y +ᵖ signed false ε ≤ᵖ y +ᵖ signed false η =
+    λ y. +ᵖ-mono y y (signed false ε) (signed false η) (omega arith) (omega (arith, h)) in
+    let (low, high) = near x from to in (
+      ≤ᵖ-trans (wholePoint r) (x +ᵖ signed false ε) (x +ᵖ signed false η) low (add x),
+      ≤ᵖ-trans x (wholePoint r +ᵖ signed false ε) (wholePoint r +ᵖ signed false η) high (add (wholePoint r)),
+    )
+
+pub wider : (ε η : Fraction) → ε ≤ᶠ η → (l : List Shot) (east north : ℤ) → CloseBy ε l east north → CloseBy η l east north
+wider ε η h l east north c = record {
+  bits = c .bits;
+  sines = wider-by ε η h east (exactSine (c .bits)) l (c .sines);
+  cosines = wider-by ε η h north (exactCosine (c .bits)) l (c .cosines);
 }

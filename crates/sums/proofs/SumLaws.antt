@@ -12,6 +12,7 @@ use Rattle.exact.proofs.MemberLaws.{Meet, members-overlap, members-narrow}
 use Rattle.sums.specs.Points.{Point, _≤ᵖ_, _<ᵖ_, _+ᵖ_, _·ᵖ_, signed, lowest, highest}
 use Rattle.sums.specs.Sums.{Shot, product, total}
 use Rattle.sums.specs.Exact.{sumOf, lowEnd, highEnd, exactSine, exactCosine}
+use Rattle.sums.specs.Margin.{distances}
 use Rattle.sums.proofs.PointLaws.{≤ᵖ-trans, ≤ᵖ-<ᵖ-trans, +ᵖ-mono, ·ᵖ-mono}
 use Rattle.signs.proofs.Sizes.{sum-size, product-size}
 
@@ -27,11 +28,6 @@ total-joined G (s ∷ l) m =
 pub total-more : (G : ℕ → ℤ) (l : List Shot) (s : Shot) → total G (l ++ (s ∷ [])) ≡ total G l +ℤ product G s
 unfolding total
 total-more G l s = total-joined G l (s ∷ []) ∙ ap (λ (z : ℤ). total G l +ℤ z) (+ℤ-idr (product G s))
-
--- the distances of a run, added
-unfoldable pub distances : List Shot → ℕ
-distances [] = 0
-distances (s ∷ l) = s .distance + distances l
 
 -- the size of a sum whose factors are at most K
 pub total-size : (G : ℕ → ℤ) (K : ℕ) → ((v : ℕ) → natAbs (G v) ≤ K) → (l : List Shot) → natAbs (total G l) ≤ distances l * K

@@ -10,8 +10,9 @@ use Rattle.angle.proofs.QuarterTurn.{signed-quarter}
 use Rattle.sums.specs.Sums.{Shot, sine, cosine, total}
 use Rattle.sums.specs.Theorems.{Theorems, halfTurned}
 use Rattle.sums.proofs.SumLaws.{sum-mono, total-joined, sums-overlap, sums-narrow}
-use Rattle.sums.proofs.Nearness.{close-within}
+use Rattle.sums.proofs.Nearness.{close-within, within-margin, wider}
 use Rattle.sums.proofs.Choices.{spans, equal-sums}
+use Rattle.sums.proofs.FineChoices.{fine-spans}
 
 -- two quarter turns change both signs
 half-signed : (v : ℕ) → v < 65536 → signedOf ((v + 32768) % 65536) ≡ (negℤ (signedOf v .0), negℤ (signedOf v .1))
@@ -36,8 +37,11 @@ cancel G s e =
 pub theorems : Theorems
 unfolding total
 theorems = record {
+  limits = (refl, refl, refl);
   close = close-within _ (omega arith);
   closer = close-within _ (omega arith);
+  within-margin = within-margin;
+  ten-km = λ l h. wider _ _ (omega (arith, h)) l _ _ (within-margin l);
   points = λ E P h l. (sum-mono _ P (λ v. h v .0) l, sum-mono P _ (λ v. h v .1) l);
   overlap = sums-overlap;
   narrow = sums-narrow;
@@ -47,5 +51,6 @@ theorems = record {
       let e = half-signed (s .step) h in
       (cancel sine s (ap (λ (p : ℤ × ℤ). p .0) e), cancel cosine s (ap (λ (p : ℤ × ℤ). p .1) e));
   spans = spans;
+  fine-spans = fine-spans;
   equal-readings = equal-sums;
 }

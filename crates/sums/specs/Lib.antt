@@ -4,4 +4,5 @@ pub mod Points
 pub mod Sums
 pub mod Exact
 pub mod Spans
+pub mod Margin
 pub mod Theorems

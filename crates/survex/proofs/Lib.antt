@@ -2,4 +2,5 @@ pub mod ShotLines
 pub mod Measures
 pub mod Walks
 pub mod Answers
+pub mod Refusals
 pub mod Theorems

@@ -1,5 +1,5 @@
 -- The theorems of specs/Theorems.antt.
-use Prim.Native.Nat.{ℕ, _+_, _-_, _*_, _≤_}
+use Prim.Native.Nat.{ℕ, _+_, _-_, _*_, _≤_, _<_}
 use native.Mathlib.Omega.{arith}
 use mathlib.Core.Path.{_≡_, refl, sym, ap, subst, _∙_}
 use mathlib.Core.Bool.{Bool, true, false, cond, and-eq-true-iff, false≢true}
@@ -26,8 +26,20 @@ use Rattle.survex_leg.specs.Legs.{Said, leg, wrong, words, readLeg}
 use Rattle.survex_leg.proofs.Facts.{leg-facts}
 use Rattle.job_lines.proofs.ShotLines.{shot-length}
 use Rattle.survex.specs.Survex.{dataForm, found, isData, legLine, onLeg, legsFrom, survexFrom, survexOf}
-use Rattle.survex.specs.Theorems.{remaining, shotOf, shotsIn, Fit, AllFit, Theorems}
+use Rattle.survex_lines.specs.Theorems.{remaining}
+use Rattle.survex.specs.Theorems.{shotOf, shotsIn, Fit, AllFit, FirstBad, Theorems}
 use Rattle.text.proofs.Plain.{name-length}
+use Rattle.survex.proofs.Refusals.{
+  leg-21,
+  leg-22,
+  leg-0,
+  leg-codes,
+  survex-first,
+  survex-tells,
+  codes-length,
+  survex-none,
+  survex-data,
+}
 
 abbrev shots : List (List ℕ) → List Form
 shots ls = map (λ l. shotOf (legLine l)) ls
@@ -269,6 +281,22 @@ module _ (xs : List Form) (h : AllFit xs) (few : length xs ≤ mostShots) (one t
       let f = job-theorems.theorems .fits (textOf whole) _ l in
       rw (← text-whole, l, le-leb _ listingRoom f)
 
+-- ---- The line that is refused
+
+bad-first : (text : List ℕ) (code k : ℕ) → survexOf text ≡ refused code k → (remaining (lines text) ≡ [] → ⊥)
+    → (i : ℕ) × (k ≡ i + 1) × (i < length (lines text)) × FirstBad text i code
+unfolding survexOf
+bad-first text code k e r =
+    let t = survex-tells (lines text) 1 code k e r in
+    (t .i, omega (arith, t .is), omega (arith, t .within, codes-length false (lines text)), t .first)
+
+line-after : (text : List ℕ) (code k : ℕ) → survexOf text ≡ refused code k → length (lines text) < k → remaining (lines text) ≡ []
+line-after text code k e h = go (remaining (lines text)) refl
+  where
+    go : (v : List (List ℕ)) → remaining (lines text) ≡ v → v ≡ []
+    go [] q = refl
+    go (m ∷ ms) q = let (i, is, within, f) = bad-first text code k e (λ z. omega (arith, ap length (sym q ∙ z))) in absurd (omega (arith, is, within, h))
+
 pub theorems : Theorems
 unfolding survexOf
 theorems = record {
@@ -276,7 +304,19 @@ theorems = record {
   accepted = λ text l ls e d h.
       survex-accepted (lines text) 1 l ls e d (subst (λ (v : List (List ℕ)). AllFit (shots (drop 1 v))) e h)
       ∙ ap (λ (v : List (List ℕ)). listed (textOf (shots (drop 1 v)))) (sym e);
-  converted = λ text bytes e. survex-converted (lines text) 1 bytes e;
+  converted = λ text bytes e.
+      let (l, ls, r, d) = survex-data (lines text) 1 bytes e in
+      let c = survex-converted (lines text) 1 bytes e in
+      (l, ls, r, d, c .0, c .1);
+  first-bad = λ text i code f.
+      survex-first (lines text) 1 i code f ∙ ap (refused code) {x = 1 + i} {y = i + 1} (omega arith);
+  bad-first = bad-first;
+  no-data-line = λ text e. survex-none (lines text) 1 e ∙ ap (refused 21) {x = 1 + length (lines text)} {y = length (lines text) + 1} (omega arith);
+  line-after = line-after;
+  leg-21 = leg-21;
+  leg-22 = leg-22;
+  leg-0 = leg-0;
+  leg-codes = leg-codes;
   read-back = λ text bytes e.
       let c = survex-converted (lines text) 1 bytes e in ap (λ (b : List ℕ). map readLine (lines b)) (c .0) ∙ lines-fit (shotsIn text) (c .1);
   listed-job = λ text bytes one two e few p q.

@@ -6,12 +6,29 @@ use mathlib.Core.List.{List}
 use lib.Dec.{leb, eqb}
 use lib.ListN.{length, getD}
 use borrow.Author.Tests.{leb-true, eq-eqb, ne-eqb}
-use Rattle.text.specs.Fields.{name}
+use Rattle.text.specs.Fields.{name, partOf}
+use Rattle.job_lines.specs.declared.Shot.{Shot}
 use Rattle.text.specs.declared.field.NumberRead.{NumberRead}
 use Rattle.text.proofs.Tests.{test, _and_, each}
 use Rattle.job_lines.specs.Forms.{fieldAt}
 use Rattle.survex_leg.specs.Limits.{tapeDecimals, compassDecimals, mostTape, compassTurn}
-use Rattle.survex_leg.specs.Legs.{Reads, leg, wrong, isDecimal, tapeIn, compassIn, level, stepOf, legForm, legRange, readLeg}
+use Rattle.survex_leg.specs.Legs.{
+  Said,
+  Reads,
+  leg,
+  wrong,
+  wordAt,
+  isDecimal,
+  tapeIn,
+  compassIn,
+  level,
+  stepOf,
+  legForm,
+  legRange,
+  readLeg,
+  legAt,
+}
+use Rattle.survex_leg.specs.declared.LegLine.the-variants.{Leg, Wrong}
 use Rattle.survex_leg.specs.Private.{NumbersOf}
 use Rattle.survex_leg.specs.declared.LegNumbers.{LegNumbers}
 
@@ -75,3 +92,14 @@ module _ (v : List (List ℕ)) where
           → leg (fieldAt v 0) (fieldAt v 1) (n .tape) b ≡ readLeg v
       unfolding readLeg
       is-leg g b k = sym (rw (formed, ← ranged, g, k, s .tape e, s .compass e))
+
+-- the line as the code holds it
+module _ (line : List ℕ) (x : Said) where
+  pub told-wrong : (n : ℕ) → wrong n ≡ x → (wrong n ≡ x) × (Wrong n ≡ legAt line x)
+  unfolding legAt
+  told-wrong n e = (e, ap (legAt line) e)
+
+  pub told-leg : (s : Shot) → leg (partOf line (s .from)) (partOf line (s .to)) (s .distance) (s .bearing) ≡ x → s .from ≡ wordAt line 0 → s .to ≡ wordAt line (wordAt line 0 .to)
+      → (leg (partOf line (s .from)) (partOf line (s .to)) (s .distance) (s .bearing) ≡ x) × (Leg s ≡ legAt line x)
+  unfolding legAt
+  told-leg s e f g = (e, sym (rw (← e, ← g, ← f)))

@@ -15,8 +15,8 @@ use Rattle.text.specs.Fields.{partOf}
 use Rattle.text.specs.declared.field.Place.{Place}
 use Rattle.text.proofs.Scan.{run-length, run-take}
 use Rattle.survex_lines.specs.Lines.{blank, notBlank}
-use Rattle.survex_leg.specs.Legs.{startsWord, words}
-use Rattle.survex_leg.specs.Private.{wordAt, Fielded}
+use Rattle.survex_leg.specs.Legs.{startsWord, words, wordAt}
+use Rattle.survex_leg.specs.Private.{Fielded}
 
 -- past the blanks stands nothing, or a byte that is none
 skipped : List ℕ → List ℕ
@@ -212,6 +212,8 @@ fields-are line ok f t m c k s ef et em ec ek es eo =
     record {
       five =
           eo ∙ rw (es, read-some line 5 (k .to) r5) (rw (ek, read-some line 4 (c .to) r4) (five-is (length (words line))));
+      from-place = ef;
+      to-place = et ∙ ap (λ (p : Place). wordAt line (p .to)) ef;
       from = rw ef (read-field line 0 0 r0);
       to = rw et (read-field line 1 (f .to) r1);
       tape = rw em (read-field line 2 (t .to) r2);

@@ -11,7 +11,8 @@ use Rattle.text.specs.Fields.{all, within, digit, name, value, partOf}
 use Rattle.text.specs.declared.field.NumberRead.{NumberRead}
 use Rattle.job_lines.specs.Forms.{fieldAt}
 use Rattle.listing_writer.specs.Rounding.{turnSteps}
-use Rattle.survex_lines.specs.Lines.{blank}
+use Rattle.survex_lines.specs.Lines.{blank, notBlank}
+use Rattle.text.specs.declared.field.Place.{Place}
 use Rattle.survex_leg.specs.Limits.{wholeDigits, tapeDecimals, compassDecimals, mostTape, compassTurn}
 use Rattle.survex_leg.specs.declared.LegLine.{LegLine}
 use Rattle.survex_leg.specs.declared.LegLine.the-variants.{Leg, Wrong}
@@ -26,6 +27,12 @@ startsWord (x ∷ xs) = not (blank x)
 unfoldable pub words : List ℕ → List (List ℕ)
 words [] = []
 words (x ∷ xs) = cond (blank x) (words xs) (cond (startsWord xs) (before x (words xs)) ((x ∷ []) ∷ words xs))
+
+-- where the field after the blanks from a place on stands
+unfoldable pub wordAt : List ℕ → ℕ → Place
+wordAt line at =
+    let from = at + length (upTo notBlank (drop at line)) in
+    record { from = from; to = from + length (upTo blank (drop from line)) }
 
 -- ---- "Tape and compass are 1 to 4 digits, then perhaps a point and 1 or more decimals; too many decimals get 21."
 
@@ -98,3 +105,8 @@ readLeg v =
 abbrev pub legIn : List ℕ → LegLine → Said
 legIn line (Leg s) = leg (partOf line (s .from)) (partOf line (s .to)) (s .distance) (s .bearing)
 legIn line (Wrong n) = wrong n
+
+-- the case of the enum for what a line says: the names of a leg by the places of the first field and of the one after it
+unfoldable pub legAt : List ℕ → Said → LegLine
+legAt line (leg from to d b) = Leg (record { from = wordAt line 0; to = wordAt line (wordAt line 0 .to); distance = d; bearing = b })
+legAt line (wrong n) = Wrong n

@@ -5,27 +5,20 @@ use mathlib.Core.Bool.{true, false, cond, not, _&&_, _||_}
 use mathlib.Core.List.{List}
 use lib.Dec.{ltb, eqb}
 use lib.ListN.{length, drop}
-use Rattle.text.specs.Scan.{upTo}
 use Rattle.text.specs.Limits.{decimalBound}
 use Rattle.text.specs.Fields.{name, value, partOf}
-use Rattle.text.specs.declared.field.Place.{Place}
 use Rattle.text.specs.declared.field.NumberRead.{NumberRead}
 use Rattle.job_lines.specs.Forms.{fieldAt}
-use Rattle.survex_lines.specs.Lines.{blank, notBlank}
 use Rattle.survex_leg.specs.Limits.{tapeDecimals, compassDecimals}
-use Rattle.survex_leg.specs.Legs.{words, digitsUpTo, isDecimal, tapeIn, compassIn}
+use Rattle.survex_leg.specs.Legs.{words, wordAt, digitsUpTo, isDecimal, tapeIn, compassIn}
 use Rattle.survex_leg.specs.declared.LegFields.{LegFields}
 use Rattle.survex_leg.specs.declared.LegNumbers.{LegNumbers}
-
--- the field after the blanks from a place on
-unfoldable pub wordAt : List ℕ → ℕ → Place
-wordAt line at =
-    let from = at + length (upTo notBlank (drop at line)) in
-    record { from = from; to = from + length (upTo blank (drop from line)) }
 
 -- the places of a leg's fields
 pub record Fielded (line : List ℕ) (r : LegFields) : Type 0 where
   pub five : r .ok ≡ eqb (length (words line)) 5
+  pub from-place : r .from ≡ wordAt line 0
+  pub to-place : r .to ≡ wordAt line (wordAt line 0 .to)
   pub from : partOf line (r .from) ≡ fieldAt (words line) 0
   pub to : partOf line (r .to) ≡ fieldAt (words line) 1
   pub tape : partOf line (r .tape) ≡ fieldAt (words line) 2

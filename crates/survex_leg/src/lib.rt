@@ -16,8 +16,8 @@ ghost use lib.Dec.{leb, ltb};
 ghost use Rattle.text.specs.Limits.{mostDigits, decimalBound};
 ghost use Rattle.text.specs.Fields.{Spells};
 ghost use Rattle.survex_leg.specs.Limits.{tapeDecimals, mostTape, compassTurn};
-ghost use Rattle.survex_leg.specs.Legs.{words, digitsUpTo, Reads, level, stepOf, readLeg, legIn};
-ghost use Rattle.survex_leg.specs.Private.{wordAt, Fielded, DecimalsOf, joinedOf, NumbersOf};
+ghost use Rattle.survex_leg.specs.Legs.{words, wordAt, digitsUpTo, Reads, level, stepOf, readLeg, legIn, legAt};
+ghost use Rattle.survex_leg.specs.Private.{Fielded, DecimalsOf, joinedOf, NumbersOf};
 
 // The digits before the point.
 pub const WHOLE_DIGITS: usize = 4;
@@ -231,6 +231,7 @@ fn step_of(compass: u64) -> u64
 // What the line of a leg says, once comments and the blanks at its ends are passed over.
 pub fn leg_of(line: &[u8]) -> LegLine
     ensures { λ r. ⌜ legIn (now (line .entry)) r ≡ readLeg (words (now (line .entry))) ⌝ }
+    ensures { λ r. ⌜ r ≡ legAt (now (line .entry)) (readLeg (words (now (line .entry)))) ⌝ }
 {
     let f = fields_of(line);
     if !f.ok {

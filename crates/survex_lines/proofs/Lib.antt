@@ -1,3 +1,4 @@
 pub mod Trim
 pub mod Places
 pub mod Onward
+pub mod Theorems

@@ -183,3 +183,29 @@ module _ {A : Type 0} (F : ℕ → List (List ℕ) → A)
           let w = rw is-l at (end-within text at h) in
           let i = ih (ap (λ (m : List ℕ). lines (drop (at + length m) text)) (sym is-l) ∙ tail-eq-of-cons-eq here) (w .1) in
           rw (passed-here at n l ls u) (omega (arith, i, w .0))
+
+  -- where none remains, the text is at its end
+  pub none-next : (text : List ℕ) (ls : List (List ℕ)) (at n : ℕ) → lines (drop at text) ≡ ls → remainingIn at n ls .found ≡ false
+      → lines (drop (remainingIn at n ls .next) text) ≡ []
+  unfolding remainingIn
+  none-next text [] at n e f = e
+  none-next text (l ∷ ls) at n e f = go (remains l) refl (none-next text ls (at + length l) (n + 1))
+    where
+      h : at < length text
+      h = some-line text at l ls e
+
+      here : firstLine (drop at text) ∷ lines (drop (at + length (firstLine (drop at text))) text) ≡ l ∷ ls
+      here = sym (lines-from text at h) ∙ e
+
+      is-l : firstLine (drop at text) ≡ l
+      is-l = head-eq-of-cons-eq here
+
+      go : (t : Bool) → remains l ≡ t
+          → (lines (drop (at + length l) text) ≡ ls → remainingIn (at + length l) (n + 1) ls .found ≡ false
+          → lines (drop (remainingIn (at + length l) (n + 1) ls .next) text) ≡ [])
+          → lines (drop (remainingIn at n (l ∷ ls) .next) text) ≡ []
+      go true u ih = absurd (true≢false (sym (ap isFound (kept-here at n l ls u)) ∙ f))
+      go false u ih =
+          let p = passed-here at n l ls u in
+          ap (λ (r : Remaining). lines (drop (r .next) text)) p ∙
+          ih (ap (λ (m : List ℕ). lines (drop (at + length m) text)) (sym is-l) ∙ tail-eq-of-cons-eq here) (sym (ap isFound p) ∙ f)

@@ -2,6 +2,7 @@
 use Rattle.text.specs.Theorems.{Theorems}
 use Rattle.text.proofs.Decimal.{digit-string-decimal, value-decimal, decimal-value, decimal-head}
 use Rattle.text.proofs.Forms.{read-printed, printed-read}
+use Rattle.text.proofs.Steps.{places-found}
 use Rattle.text.proofs.Split.{line-first, line-last, join-lines}
 
 pub theorems : Theorems
@@ -11,6 +12,7 @@ theorems = record {
   no-leading-zero = decimal-head;
   read-printed = read-printed;
   printed-read = printed-read;
+  places = places-found;
   line-first = line-first;
   line-last = line-last;
   lines-whole = join-lines;

@@ -1,10 +1,10 @@
 -- Forms: bytes that a line has as they stand, and # for each of its fields. The printer and the reader of a form.
-use Prim.Native.Nat.{ℕ, suc}
+use Prim.Native.Nat.{ℕ, suc, _+_}
 use mathlib.Core.Bool.{Bool, true, false, cond}
 use mathlib.Core.List.{List, [], _∷_, _++_, map}
 use mathlib.Core.Option.{Option, some, none}
-use lib.Dec.{leb, eqb}
-use lib.ListN.{length, getD, take, drop}
+use lib.Dec.{leb, ltb, eqb}
+use lib.ListN.{length, getD, take, drop, set, replicate}
 use Rattle.text.specs.Limits.{formFields}
 use Rattle.text.specs.Ascii.{byte}
 use Rattle.text.specs.Scan.{field}
@@ -58,3 +58,36 @@ fieldsAt line places = map (partOf line) places
 -- the fields that were found: as many places as the form has, or none
 unfoldable pub foundIn : List ℕ → List ℕ → Found → Option (List (List ℕ))
 foundIn form line c = cond (c .ok) (some (fieldsAt line (take (marks form) (c .places)))) none
+
+-- ---- Where the fields stand
+
+-- one byte of a form: # takes the next field, any other byte is the line's next
+unfoldable pub formStep : ℕ → List ℕ → Found → Found
+formStep f line c =
+    let end = c .at + length (field (drop (c .at) line)) in
+    let none : Found = record { ok = false; at = c .at; count = c .count; places = c .places } in
+    cond (mark f)
+    (cond (leb formFields (c .count)) none
+    (record { ok = true; at = end; count = c .count + 1; places = set (c .places) (c .count) (record { from = c .at; to = end }) }))
+    (cond (leb (length line) (c .at)) none
+    (record { ok = eqb (getD line (c .at) 0) f; at = c .at + 1; count = c .count; places = c .places }))
+
+-- a form from some byte on, up to the first that does not fit; at its end the line must be at its end
+unfoldable pub foundFrom : List ℕ → List ℕ → Found → Found
+foundFrom [] line c = cond (ltb (c .at) (length line)) (record { ok = false; at = c .at; count = c .count; places = c .places }) c
+foundFrom (f ∷ form) line c = cond (formStep f line c .ok) (foundFrom form line (formStep f line c)) (formStep f line c)
+
+-- a place where no field was found
+abbrev pub noPlace : Place
+noPlace = record { from = 0; to = 0 }
+
+-- how far a form fits a line: all that was found
+unfoldable pub foundOf : List ℕ → List ℕ → Found
+foundOf form line = foundFrom form line (record { ok = true; at = 0; count = 0; places = replicate formFields noPlace })
+
+-- the places of a form's fields in a line, from a place on: each from where the bytes before its # end
+unfoldable pub placesFrom : ℕ → List ℕ → List ℕ → List Place
+placesFrom at [] line = []
+placesFrom at (f ∷ form) line =
+    let end = at + length (field (drop at line)) in
+    cond (mark f) (record { from = at; to = end } ∷ placesFrom end form line) (placesFrom (at + 1) form line)

@@ -4,4 +4,3 @@ pub mod Scan
 pub mod Fields
 pub mod Forms
 pub mod Theorems
-pub mod Private

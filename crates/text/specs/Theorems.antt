@@ -4,12 +4,12 @@ use mathlib.Core.Path.{_≡_}
 use mathlib.Core.Bool.{Bool, true, false, cond, not, _&&_}
 use mathlib.Core.List.{List, [], _∷_, _++_}
 use mathlib.Core.Option.{some}
-use lib.ListN.{length, getD}
+use lib.ListN.{length, getD, take}
 use Rattle.text.specs.Limits.{decimalBound}
 use Rattle.text.specs.Ascii.{byte}
 use Rattle.text.specs.Scan.{separator, lineFeed, lines}
 use Rattle.text.specs.Fields.{all, digitString, value, decimal}
-use Rattle.text.specs.Forms.{mark, marks, printForm, readForm}
+use Rattle.text.specs.Forms.{mark, marks, printForm, readForm, foundOf, placesFrom}
 
 -- a field that holds no separator
 unfoldable pub plain : List ℕ → Bool
@@ -46,6 +46,8 @@ pub record Theorems : Type 0 where
   pub read-printed : (form : List ℕ) (vs : List (List ℕ)) → formed form ≡ true → allPlain vs ≡ true → length vs ≡ marks form
       → readForm form (printForm form vs) ≡ some vs
   pub printed-read : (form line : List ℕ) (vs : List (List ℕ)) → readForm form line ≡ some vs → printForm form vs ≡ line
+  -- where a form fits a line, the places that are found are those of the form's fields
+  pub places : (form line : List ℕ) → foundOf form line .ok ≡ true → take (marks form) (foundOf form line .places) ≡ placesFrom 0 form line
   -- a line ends with the first line feed, or with the text; the lines are the text
   pub line-first : (l rest : List ℕ) → noFeed l ≡ true → lines (l ++ byte "\n" ∷ rest) ≡ (l ++ (byte "\n" ∷ [])) ∷ lines rest
   pub line-last : (x : ℕ) (l : List ℕ) → noFeed (x ∷ l) ≡ true → lines (x ∷ l) ≡ (x ∷ l) ∷ []

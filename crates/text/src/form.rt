@@ -3,8 +3,7 @@ use crate::field::Place;
 use crate::limits::FORM_FIELDS;
 use crate::line::scan;
 ghost use mathlib.Core.Path.{_≡_};
-ghost use Rattle.text.specs.Forms.{foundIn, readFew};
-ghost use Rattle.text.specs.Private.{formStep};
+ghost use Rattle.text.specs.Forms.{foundIn, readFew, formStep, foundOf};
 
 // How far a form fits a line: the places of the fields so far, and where the rest of the line begins.
 pub struct Found {
@@ -58,6 +57,7 @@ fn form_step(f: u8, line: &[u8], c: Found) -> Found
 // The places of a line's fields, where it is of the form; a form of more fields than are read has no line.
 pub fn read_form(form: &[u8], line: &[u8]) -> Found
     ensures { λ r. ⌜ readFew (now (form .entry)) (now (line .entry)) ≡ foundIn (now (form .entry)) (now (line .entry)) r ⌝ }
+    ensures { λ r. ⌜ r ≡ foundOf (now (form .entry)) (now (line .entry)) ⌝ }
 {
     let mut c = Found {
         ok: true,

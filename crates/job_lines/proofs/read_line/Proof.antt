@@ -1,8 +1,9 @@
 -- `read_line` meets its contract.
 use native.Mathlib.Omega.{arith}
-use mathlib.Core.Path.{refl, sym, _∙_}
+use mathlib.Core.Path.{refl, sym, ap, _∙_}
 use Rattle.job_lines.specs.Forms.{seedsForm, sigmaForm, shotForm}
 use Rattle.job_lines.proofs.Reading.{found, missed}
+use Rattle.job_lines.proofs.Exact.{isShot, seeds-other, sigma-other, told-other, told-shot}
 use Rattle.job_lines.proofs.RoundTrip.{all-marks, read-seeds, read-sigma, read-shot, read-none}
 use Rattle.job_lines.proofs.read_line.Statement.{statement}
 use Rattle.job_lines.proofs.read_line.Tie as tie
@@ -18,8 +19,9 @@ seeds-line-requires c κs = tt
 
 returns : tie.Need-returns
 unfolding seedsForm sigmaForm shotForm
-returns c = c .seeds-line .ensures ∙ sym
-    (read-seeds _ _ (found seedsForm _ _ (c .before .before .read-form .ensures) (omega (arith, all-marks .0)) 6 (all-marks .0) (c .before .if1 .taken)))
+returns c =
+    let e = read-seeds _ _ (found seedsForm _ _ (c .before .before .read-form .ensures .0) (omega (arith, all-marks .0)) 6 (all-marks .0) (c .before .if1 .taken)) in
+    told-other _ _ _ (c .seeds-line .ensures ∙ sym e) (ap isShot e ∙ seeds-other _)
 
 slice-aggregate-read-form-2 : tie.Need-slice-aggregate-read-form-2
 slice-aggregate-read-form-2 c = refl
@@ -33,10 +35,11 @@ sigma-line-requires c κs = tt
 returns-2 : tie.Need-returns-2
 unfolding seedsForm sigmaForm shotForm
 returns-2 c =
-    let p = missed seedsForm _ _ (c .before .before .before .before .before .read-form .ensures) (omega (arith, all-marks .0))
+    let p = missed seedsForm _ _ (c .before .before .before .before .before .read-form .ensures .0) (omega (arith, all-marks .0))
     (c .before .before .before .before .if1 .left) in
-    c .sigma-line .ensures ∙ sym (read-sigma _ _ p
-    (found sigmaForm _ _ (c .before .before .read-form2 .ensures) (omega (arith, all-marks .1)) 2 (all-marks .1) (c .before .if2 .taken)))
+    let e = read-sigma _ _ p
+    (found sigmaForm _ _ (c .before .before .read-form2 .ensures .0) (omega (arith, all-marks .1)) 2 (all-marks .1) (c .before .if2 .taken)) in
+    told-other _ _ _ (c .sigma-line .ensures ∙ sym e) (ap isShot e ∙ sigma-other _)
 
 slice-aggregate-read-form-3 : tie.Need-slice-aggregate-read-form-3
 slice-aggregate-read-form-3 c = refl
@@ -50,20 +53,22 @@ shot-line-requires c κs = tt
 returns-3 : tie.Need-returns-3
 unfolding seedsForm sigmaForm shotForm
 returns-3 c =
-    let p = missed seedsForm _ _ (c .before .before .before .before .before .before .before .before .read-form .ensures) (omega (arith, all-marks .0))
+    let p = missed seedsForm _ _ (c .before .before .before .before .before .before .before .before .read-form .ensures .0) (omega (arith, all-marks .0))
     (c .before .before .before .before .before .before .before .if1 .left) in
-    let q = missed sigmaForm _ _ (c .before .before .before .before .before .read-form2 .ensures) (omega (arith, all-marks .1))
+    let q = missed sigmaForm _ _ (c .before .before .before .before .before .read-form2 .ensures .0) (omega (arith, all-marks .1))
     (c .before .before .before .before .if2 .left) in
-    c .shot-line .ensures ∙ sym (read-shot _ _ p q
-    (found shotForm _ _ (c .before .before .read-form3 .ensures) (omega (arith, all-marks .2)) 4 (all-marks .2) (c .before .if3 .taken)))
+    let e = read-shot _ _ p q
+    (found shotForm _ _ (c .before .before .read-form3 .ensures .0) (omega (arith, all-marks .2)) 4 (all-marks .2) (c .before .if3 .taken)) in
+    told-shot _ _ _ _ (c .shot-line .ensures .0 ∙ sym e) (c .shot-line .ensures .1) (c .before .before .read-form3 .ensures .1) (c .before .if3 .taken) (all-marks .2)
 
 returns-4 : tie.Need-returns-4
 unfolding seedsForm sigmaForm shotForm
 returns-4 c =
-    let p = missed seedsForm _ _ (c .before .before .before .before .before .before .before .read-form .ensures) (omega (arith, all-marks .0))
+    let p = missed seedsForm _ _ (c .before .before .before .before .before .before .before .read-form .ensures .0) (omega (arith, all-marks .0))
     (c .before .before .before .before .before .before .if1 .left) in
-    let q = missed sigmaForm _ _ (c .before .before .before .before .read-form2 .ensures) (omega (arith, all-marks .1)) (c .before .before .before .if2 .left) in
-    sym (read-none _ p q (missed shotForm _ _ (c .before .read-form3 .ensures) (omega (arith, all-marks .2)) (c .if3 .left)))
+    let q = missed sigmaForm _ _ (c .before .before .before .before .read-form2 .ensures .0) (omega (arith, all-marks .1)) (c .before .before .before .if2 .left) in
+    let e = read-none _ p q (missed shotForm _ _ (c .before .read-form3 .ensures .0) (omega (arith, all-marks .2)) (c .if3 .left)) in
+    told-other _ _ _ (sym e) (ap isShot e)
 
 pub read-line-spec : {M : Type 1} → statement M
 read-line-spec =

@@ -1,5 +1,6 @@
 -- `shot_line` meets its contract.
 use native.Mathlib.Omega.{arith}
+use mathlib.Core.Path.{refl}
 use Rattle.job_lines.proofs.Reading.{shot-said, test-fails, test-passes}
 use Rattle.job_lines.proofs.shot_line.Statement.{statement}
 use Rattle.job_lines.proofs.shot_line.Tie as tie
@@ -41,13 +42,13 @@ returns : tie.Need-returns
 returns c =
     let b = c .before in
     let a = b .before .before .before .before .before .before .before .before .before .before .before .before .before .args in
-    test-fails (b .both3 .result) _ _ (shot-said (a .line .now) (a .c) (b .before .before .before .before .before .before .before .digit-string-at .result) (b .before .before .before .before .before .digit-string-at2 .result) (b .before .before .before .before .before .before .before .digit-string-at .ensures) (b .before .before .before .before .before .digit-string-at2 .ensures) (b .before .before .before .before .name-at .result) (b .before .before .before .name-at2 .result) (b .before .before .both .result) (b .before .both2 .result) (b .both3 .result) (b .before .before .before .before .name-at .ensures) (b .before .before .before .name-at2 .ensures) (b .before .before .both .ensures) (b .before .both2 .ensures) (b .both3 .ensures)) (c .if1 .taken)
+    (test-fails (b .both3 .result) _ _ (shot-said (a .line .now) (a .c) (b .before .before .before .before .before .before .before .digit-string-at .result) (b .before .before .before .before .before .digit-string-at2 .result) (b .before .before .before .before .before .before .before .digit-string-at .ensures) (b .before .before .before .before .before .digit-string-at2 .ensures) (b .before .before .before .before .name-at .result) (b .before .before .before .name-at2 .result) (b .before .before .both .result) (b .before .both2 .result) (b .both3 .result) (b .before .before .before .before .name-at .ensures) (b .before .before .before .name-at2 .ensures) (b .before .before .both .ensures) (b .before .both2 .ensures) (b .both3 .ensures)) (c .if1 .taken), tt)
 
 returns-2 : tie.Need-returns-2
 returns-2 c =
     let b = c .before in
     let a = b .before .before .before .before .before .before .before .before .before .before .before .before .before .args in
-    test-passes (b .both3 .result) _ _ (shot-said (a .line .now) (a .c) (b .before .before .before .before .before .before .before .digit-string-at .result) (b .before .before .before .before .before .digit-string-at2 .result) (b .before .before .before .before .before .before .before .digit-string-at .ensures) (b .before .before .before .before .before .digit-string-at2 .ensures) (b .before .before .before .before .name-at .result) (b .before .before .before .name-at2 .result) (b .before .before .both .result) (b .before .both2 .result) (b .both3 .result) (b .before .before .before .before .name-at .ensures) (b .before .before .before .name-at2 .ensures) (b .before .before .both .ensures) (b .before .both2 .ensures) (b .both3 .ensures)) (c .if1 .left)
+    (test-passes (b .both3 .result) _ _ (shot-said (a .line .now) (a .c) (b .before .before .before .before .before .before .before .digit-string-at .result) (b .before .before .before .before .before .digit-string-at2 .result) (b .before .before .before .before .before .before .before .digit-string-at .ensures) (b .before .before .before .before .before .digit-string-at2 .ensures) (b .before .before .before .before .name-at .result) (b .before .before .before .name-at2 .result) (b .before .before .both .result) (b .before .both2 .result) (b .both3 .result) (b .before .before .before .before .name-at .ensures) (b .before .before .before .name-at2 .ensures) (b .before .before .both .ensures) (b .before .both2 .ensures) (b .both3 .ensures)) (c .if1 .left), (refl, refl))
 
 pub shot-line-spec : {M : Type 1} → statement M
 shot-line-spec =

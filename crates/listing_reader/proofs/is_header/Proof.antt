@@ -15,7 +15,7 @@ read-form-requires c κs = tt
 
 returns : tie.Need-returns
 unfolding headerOf
-returns c = rw (c .before .before .if1 .taken) (header-found true _ _ (c .read-form .ensures))
+returns c = rw (c .before .before .if1 .taken) (header-found true _ _ (c .read-form .ensures .0))
 
 slice-aggregate-read-form-2 : tie.Need-slice-aggregate-read-form-2
 slice-aggregate-read-form-2 c = refl
@@ -25,7 +25,7 @@ read-form-requires-2 c κs = tt
 
 returns-2 : tie.Need-returns-2
 unfolding header headerOf
-returns-2 c = rw (c .before .before .if1 .left) (header-found false _ _ (c .read-form2 .ensures))
+returns-2 c = rw (c .before .before .if1 .left) (header-found false _ _ (c .read-form2 .ensures .0))
 
 pub is-header-spec : {M : Type 1} → statement M
 is-header-spec =

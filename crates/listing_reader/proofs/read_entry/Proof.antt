@@ -33,14 +33,14 @@ returns-2 c =
     let b = c .before .before .before .before .before .before .before .args .between in
     let p = missed (rowForm b) _ _ (c .before .before .before .before .before .row-fields .ensures) (row-few b) (c .before .before .before .before .if1 .left) in
     c .end-entry .ensures
-    ∙ sym (read-end b _ _ p (found endForm _ _ (c .before .before .read-form .ensures) (omega (arith, end-marks)) 1 end-marks (c .before .if2 .taken)))
+    ∙ sym (read-end b _ _ p (found endForm _ _ (c .before .before .read-form .ensures .0) (omega (arith, end-marks)) 1 end-marks (c .before .if2 .taken)))
 
 returns-3 : tie.Need-returns-3
 unfolding endForm
 returns-3 c =
     let b = c .before .before .before .before .before .before .args .between in
     let p = missed (rowForm b) _ _ (c .before .before .before .before .row-fields .ensures) (row-few b) (c .before .before .before .if1 .left) in
-    sym (read-neither b _ p (missed endForm _ _ (c .before .read-form .ensures) (omega (arith, end-marks)) (c .if2 .left)))
+    sym (read-neither b _ p (missed endForm _ _ (c .before .read-form .ensures .0) (omega (arith, end-marks)) (c .if2 .left)))
 
 pub read-entry-spec : {M : Type 1} → statement M
 read-entry-spec =

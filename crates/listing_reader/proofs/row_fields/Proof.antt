@@ -12,7 +12,7 @@ read-form-requires c κs = tt
 
 returns : tie.Need-returns
 unfolding rowForm
-returns c = rw (c .before .before .if1 .taken) (c .read-form .ensures)
+returns c = rw (c .before .before .if1 .taken) (c .read-form .ensures .0)
 
 slice-aggregate-read-form-2 : tie.Need-slice-aggregate-read-form-2
 slice-aggregate-read-form-2 c = refl
@@ -22,7 +22,7 @@ read-form-requires-2 c κs = tt
 
 returns-2 : tie.Need-returns-2
 unfolding rowForm
-returns-2 c = rw (c .before .before .if1 .left) (c .read-form2 .ensures)
+returns-2 c = rw (c .before .before .if1 .left) (c .read-form2 .ensures .0)
 
 pub row-fields-spec : {M : Type 1} → statement M
 row-fields-spec =

@@ -1,6 +1,10 @@
 -- `pair` is `pairOf`: the samples of the two numbers drawn.
+use mathlib.Core.Path.{ap, _∙_}
+use native.Mathlib.Omega.{arith}
 use borrow.Author.Needs.{needs}
-use Rattle.noise.specs.Noise.{pairOf}
+use Rattle.box_muller.specs.Steps.{fractionBits}
+use Rattle.noise.specs.Noise.{sampledOf}
+use Rattle.noise.proofs.Drawn.{pair-sampled}
 use Rattle.noise.proofs.pair.Statement.{statement}
 use Rattle.noise.proofs.pair.Tie as tie
 
@@ -11,8 +15,11 @@ sampled-requires : tie.Need-sampled-requires
 sampled-requires c κs = search needs
 
 returns : tie.Need-returns
-unfolding pairOf
-returns c = rw (← c .before .uniforms .ensures) (c .sampled .ensures)
+returns c =
+    let start = c .before .before in
+    let drawn = c .before .uniforms .ensures in
+    c .sampled .ensures ∙ ap (sampledOf fractionBits) drawn
+    ∙ pair-sampled fractionBits (start .args .g) (omega (arith, start .good)) (omega (arith, start .good))
 
 pub pair-spec : {M : Type 1} → statement M
 pair-spec = tie.close (tie.spec uniforms-requires sampled-requires returns)

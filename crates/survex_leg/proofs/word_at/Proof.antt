@@ -1,5 +1,5 @@
 -- `survex_leg::word_at` meets its contract.
-use Rattle.survex_leg.specs.Private.{wordAt}
+use Rattle.survex_leg.specs.Legs.{wordAt}
 use borrow.Author.Needs.{needs}
 use Rattle.survex_leg.proofs.word_at.Statement.{statement}
 use Rattle.survex_leg.proofs.word_at.Tie as tie

@@ -1,17 +1,21 @@
 -- `jabulghi_pair` meets its contract: code, samples and record are those of the samples of two numbers drawn.
-use mathlib.Core.Path.{_≡_, refl}
+use mathlib.Core.Path.{_≡_, refl, ap, _∙_}
+use native.Mathlib.Omega.{arith}
 use mir.Syntax.{w16}
 use mir.Val.{SFits}
 use Rattle.box_muller.specs.Steps.{fractionBits}
-use Rattle.noise.specs.Noise.{pairOf}
+use Rattle.noise.specs.Noise.{sampledOf, pairOf}
+use Rattle.noise.proofs.Drawn.{pair-sampled}
 use Rattle.jabulghi.proofs.Stored.{stored}
 use Rattle.jabulghi.proofs.pair.jabulghi_pair.Statement.{statement}
 use Rattle.jabulghi.proofs.pair.jabulghi_pair.Tie as tie
 
 -- it is the pair of the record
 pair-is : (c : tie.After-sampled) → c .sampled .result ≡ pairOf fractionBits (c .before .before .unpacked .result)
-unfolding pairOf
-pair-is c = rw (← (c .before .uniforms .ensures)) (c .sampled .ensures)
+pair-is c =
+    let read = c .before .before .unpacked in
+    c .sampled .ensures ∙ ap (sampledOf fractionBits) (c .before .uniforms .ensures)
+    ∙ pair-sampled fractionBits (read .result) (omega (arith, read .ok)) (omega (arith, read .ok))
 
 returns : tie.Need-returns
 returns c =

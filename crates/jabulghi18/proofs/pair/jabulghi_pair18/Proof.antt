@@ -1,11 +1,13 @@
 -- `jabulghi_pair18` meets its contract: code, samples and record are those of the samples of two numbers drawn.
 use mathlib.Core.Path.{_≡_, ap, _∙_}
 use mathlib.Core.List.{[], _∷_}
+use native.Mathlib.Omega.{arith}
 use mir.Syntax.{w32}
 use mir.Val.{SFits}
 use Rattle.box_muller.specs.Steps.{fractionBits18}
 use Rattle.noise.specs.declared.PairAnswer18.{PairAnswer18}
-use Rattle.noise.specs.Noise.{pairAs18, pairOf}
+use Rattle.noise.specs.Noise.{sampledOf, pairAs18, pairOf}
+use Rattle.noise.proofs.Drawn.{pair-sampled}
 use Rattle.jabulghi.specs.Words.{wordsOf}
 use Rattle.jabulghi.proofs.Stored.{stored}
 use Rattle.jabulghi18.proofs.pair.jabulghi_pair18.Statement.{statement}
@@ -13,8 +15,11 @@ use Rattle.jabulghi18.proofs.pair.jabulghi_pair18.Tie as tie
 
 -- it is the pair of the record
 pair-is : (c : tie.After-sampled18) → c .sampled18 .result ≡ pairAs18 (pairOf fractionBits18 (c .before .before .unpacked .result))
-unfolding pairOf
-pair-is c = rw (← (c .before .uniforms .ensures)) (c .sampled18 .ensures)
+pair-is c =
+    let read = c .before .before .unpacked in
+    let drawn = ap (sampledOf fractionBits18) (c .before .uniforms .ensures) in
+    let pair = pair-sampled fractionBits18 (read .result) (omega (arith, read .ok)) (omega (arith, read .ok)) in
+    c .sampled18 .ensures ∙ ap pairAs18 (drawn ∙ pair)
 
 returns : tie.Need-returns
 returns c =

@@ -4,41 +4,51 @@ use borrow.Author.Needs.{needs}
 use Rattle.jabulghi_marks.proofs.calls.store.Statement.{statement}
 use Rattle.jabulghi_marks.proofs.calls.store.Tie as tie
 
-with-word-requires : tie.Need-with-word-requires
-with-word-requires c κs = search needs
+mul-used : tie.Need-mul-used
+mul-used c = search needs
 
-with-word-requires-2 : tie.Need-with-word-requires-2
-with-word-requires-2 c κs = search needs
+element-write-used : tie.Need-element-write-used
+element-write-used c = search needs
 
-mul-with-name : tie.Need-mul-with-name
-mul-with-name c = search needs
+mul-lengths : tie.Need-mul-lengths
+mul-lengths c = search needs
 
-with-name-requires : tie.Need-with-name-requires
-with-name-requires c κs = search needs
+element-write-lengths : tie.Need-element-write-lengths
+element-write-lengths c = search needs
 
-mul-with-words : tie.Need-mul-with-words
-mul-with-words c = search needs
+mul-put : tie.Need-mul-put
+mul-put c = search needs
 
-with-words-requires : tie.Need-with-words-requires
-with-words-requires c κs = search needs
+slice-aggregate-put : tie.Need-slice-aggregate-put
+slice-aggregate-put c = search needs
+
+put-requires : tie.Need-put-requires
+put-requires c κs = search needs
+
+mul-put-words : tie.Need-mul-put-words
+mul-put-words c = search needs
+
+slice-aggregate-put-words : tie.Need-slice-aggregate-put-words
+slice-aggregate-put-words c = search needs
+
+put-words-requires : tie.Need-put-words-requires
+put-words-requires c κs = search needs
 
 returns : tie.Need-returns
-returns c =
-    rw (
-      c .before .before .before .before .before .before .with-word .ensures,
-      c .before .before .before .before .with-word2 .ensures,
-      c .before .before .with-name .ensures,
-      c .with-words .ensures,
-    ) refl
+returns c = rw (c .before .before .before .put .ensures .1, c .put-words .ensures) refl
 
 pub store-spec : {M : Type 1} → statement M
 store-spec =
     tie.close
     (tie.spec
-    with-word-requires
-    with-word-requires-2
-    mul-with-name
-    with-name-requires
-    mul-with-words
-    with-words-requires
+    mul-used
+    element-write-used
+    mul-lengths
+    element-write-lengths
+    mul-put
+    slice-aggregate-put
+    put-requires
+    mul-put-words
+    slice-aggregate-put-words
+    put-words-requires
     returns)

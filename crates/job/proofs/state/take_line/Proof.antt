@@ -19,7 +19,7 @@ returns : tie.Need-returns
 returns c =
     let at = c .before .before .before .before .before .before in
     let k = at .args .s .line in
-    let code = c .before .before .line-code .ensures ∙ names-apart k (at .args .line .now) (c .before .before .before .read-line .result) ∙ ap (refusal k) (c .before .before .before .read-line .ensures) in
+    let code = c .before .before .line-code .ensures ∙ names-apart k (at .args .line .now) (c .before .before .before .read-line .result) ∙ ap (refusal k) (c .before .before .before .read-line .ensures .0) in
     taken-off (at .args .s) _ (at .args .out .now) _ _ code (c .before .if1 .taken) (c .refused-line .ensures)
 
 on-accepted-requires : tie.Need-on-accepted-requires
@@ -34,8 +34,8 @@ returns-2 : tie.Need-returns-2
 returns-2 c =
     let at = c .before .before .before .before .before .before .before .before .before in
     let k = at .args .s .line in
-    let code = c .before .before .before .before .before .line-code .ensures ∙ names-apart k (at .args .line .now) (c .before .before .before .before .before .before .read-line .result) ∙ ap (refusal k) (c .before .before .before .before .before .before .read-line .ensures) in
-    taken-on (at .args .s) _ (at .args .out .now) _ _ (sym code ∙ c .before .before .before .before .if1 .left) (rw (c .before .before .before .before .before .before .read-line .ensures) at (c .before .before .on-accepted .ensures))
+    let code = c .before .before .before .before .before .line-code .ensures ∙ names-apart k (at .args .line .now) (c .before .before .before .before .before .before .read-line .result) ∙ ap (refusal k) (c .before .before .before .before .before .before .read-line .ensures .0) in
+    taken-on (at .args .s) _ (at .args .out .now) _ _ (sym code ∙ c .before .before .before .before .if1 .left) (rw (c .before .before .before .before .before .before .read-line .ensures .0) at (c .before .before .on-accepted .ensures))
 
 pub take-line-spec : {M : Type 1} → statement M
 take-line-spec = tie.close (tie.spec read-line-requires line-code-requires refused-line-requires returns on-accepted-requires same-length returns-2)

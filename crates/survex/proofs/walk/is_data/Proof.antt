@@ -13,7 +13,7 @@ read-form-requires c κs = search needs
 
 returns : tie.Need-returns
 unfolding dataForm
-returns c = data-found _ _ (c .read-form .ensures)
+returns c = data-found _ _ (c .read-form .ensures .0)
 
 pub is-data-spec : {M : Type 1} → statement M
 is-data-spec = tie.close (tie.spec slice-aggregate-read-form read-form-requires returns)

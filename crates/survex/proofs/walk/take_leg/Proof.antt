@@ -38,7 +38,7 @@ grown-requires c κs = search needs
 
 returns : tie.Need-returns
 returns c =
-    let e = sym (c .before .before .before .leg-of .ensures) ∙ ap (legIn (c .before .before .before .before .before .before .args .line .now)) (c .before .said .given .1) in
+    let e = sym (c .before .before .before .leg-of .ensures .0) ∙ ap (legIn (c .before .before .before .before .before .before .args .line .now)) (c .before .said .given .1) in
     rw e (refl, λ z. omega (arith, wrong-facts _ _ e, z))
 
 same-length : tie.Need-same-length
@@ -46,7 +46,7 @@ same-length c = search needs
 
 returns-2 : tie.Need-returns-2
 returns-2 c =
-    let e = sym (c .before .before .before .before .before .before .before .before .before .before .before .before .leg-of .ensures) ∙ ap (legIn (c .before .before .before .before .before .before .before .before .before .before .before .before .before .before .before .args .line .now)) (c .before .before .before .before .before .before .before .before .before .before .said2 .given .1) in
+    let e = sym (c .before .before .before .before .before .before .before .before .before .before .before .before .leg-of .ensures .0) ∙ ap (legIn (c .before .before .before .before .before .before .before .before .before .before .before .before .before .before .before .args .line .now)) (c .before .before .before .before .before .before .before .before .before .before .said2 .given .1) in
     let s = shot-bytes _ _ _ (leg-short _ _ _ e) (c .before .before .before .before .before .before .before .before .shot-line .ensures .0) in
     rw (e, ← s .length-is, ← shot-part _ _ s) (refl, c .grown .ensures, c .before .before .before .put .ensures .1)
 

@@ -1,7 +1,7 @@
 -- `text::form::form_step` meets its contract.
 use borrow.Author.Tests.{lt-leb, le-leb, eq-eqb, ne-eqb}
 use borrow.Author.Needs.{needs}
-use Rattle.text.specs.Private.{formStep}
+use Rattle.text.specs.Forms.{formStep}
 use Rattle.text.proofs.form.form_step.Statement.{statement}
 use Rattle.text.proofs.form.form_step.Tie as tie
 

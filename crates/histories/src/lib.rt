@@ -1,0 +1,1 @@
+// Runs of calls on a record: definitions in specs/, laws in proofs/.
