@@ -212,19 +212,19 @@ module _ {b m : ℕ} (s : Numbers b m) where
       let twice : 2 * m + (2 ^ b - m) ≤ 2 * 2 ^ b = omega arith in
       omega (arith, meet, mul-le-mul-left y twice)
 
-  -- F, the whole part of the root of 2 Q, is at 2^20 at most 7 below the exact radius where S's excess c leaves room for it
-  radius-by : (c : ℕ) → s .S * s .r ≤ 2 * c * s .H → (F : ℕ) → 2 * (s .Q + c + 1 + s .t) ≤ (F + 7) * (F + 7) → AtLeastRadius over (dyadic 20 (F + 7))
+  -- g at 2^20 is at least the exact radius where its square leaves room for S's excess c
+  pub radius-by : (c : ℕ) → s .S * s .r ≤ 2 * c * s .H → (g : ℕ) → 2 * (s .Q + c + 1 + s .t) ≤ g * g → AtLeastRadius over (dyadic 20 g)
   unfolding AtLeastRadius
-  radius-by c small F h =
-      ln-at-least-mono (dyadic 40 (s .Q + c + 1 + s .t)) (halved (square (dyadic 20 (F + 7)))) over over (omega (arith, h)) (le-refl _)
+  radius-by c small g h =
+      ln-at-least-mono (dyadic 40 (s .Q + c + 1 + s .t)) (halved (square (dyadic 20 g))) over over (omega (arith, h)) (le-refl _)
       (logarithm-at-least c small)
 
   -- the excess in any cell
-  any-cell : s .S * s .r ≤ 2 * 128 * s .H
+  pub any-cell : s .S * s .r ≤ 2 * 128 * s .H
   any-cell = excess 128 65536 (s .r) (s .S) (s .H) (s .some) (omega arith) (omega arith) (omega (arith, s .rest)) (s .correction-low)
 
-  -- From this F on, the excess of any cell leaves that room. Below it the logarithm is small, and so m lies in the last cell, whose excess
-  -- is 9.
+  -- F, the whole part of the root of 2 Q, is at 2^20 at most 7 below the exact radius. From this F on, the excess of any cell leaves room for
+  -- that. Below it the logarithm is small, and so m lies in the last cell, whose excess is 9.
   abbrev anyCellFrom : ℕ
   anyCellFrom = 26
 
@@ -232,7 +232,7 @@ module _ {b m : ℕ} (s : Numbers b m) where
   radius-at-least narrow whole-range F root = cases (decLe anyCellFrom F)
     where
       cases : Dec (anyCellFrom ≤ F) → AtLeastRadius over (dyadic 20 (F + 7))
-      cases (yes h) = radius-by 128 any-cell F (omega (arith, root, s .few))
+      cases (yes h) = radius-by 128 any-cell (F + 7) (omega (arith, root, s .few))
       cases (no h) =
           let few : F + 1 ≤ anyCellFrom = omega arith in
           let small : s .Q + 128 + 1 + s .t ≤ 1000 = omega (arith, root, s .few, mul-le-mul few few) in
@@ -240,12 +240,12 @@ module _ {b m : ℕ} (s : Numbers b m) where
           s .last
           (near-one 1000 whole-range
           (ln-at-least-mono (dyadic 40 (s .Q + 128 + 1 + s .t)) (dyadic 40 1000) over over (omega (arith, small)) (le-refl _) (logarithm-at-least 128 any-cell))) in
-          radius-by 9 (excess 9 262143 (s .r) (s .S) (s .H) (s .some) (omega arith) (omega arith) remainder (s .correction-low)) F (omega (arith, root, one))
+          radius-by 9 (excess 9 262143 (s .r) (s .S) (s .H) (s .some) (omega arith) (omega arith) remainder (s .correction-low)) (F + 7) (omega (arith, root, one))
 
-  -- and at most 7 above it: from 8 on, Q is above 0
-  large-radius : b ≤ 50 → s .Q + s .A + s .B + s .S ≤ s .t * s .K → (g : ℕ) → 0 < g → (g + 7) * (g + 7) ≤ 2 * s .Q → AtMostRadius over (dyadic 20 g)
+  -- g at 2^20 is at most the exact radius where 2 Q exceeds its square by 2 × 27
+  pub large-radius : b ≤ 50 → s .Q + s .A + s .B + s .S ≤ s .t * s .K → (g : ℕ) → g * g + 54 ≤ 2 * s .Q → AtMostRadius over (dyadic 20 g)
   unfolding AtMostRadius
-  large-radius narrow q g above-zero root =
+  large-radius narrow q g root =
       ln-at-most-mono (dyadic 40 (s .Q - 27)) (halved (square (dyadic 20 g))) over over
       (from (s .Q - 27) (omega (arith, root))) (le-refl _)
       (logarithm-at-most narrow (positive (s .K) (eq-zero-or-pos (s .K)) q) (s .Q - 27) (omega (arith, root)))
@@ -266,6 +266,7 @@ module _ {b m : ℕ} (s : Numbers b m) where
       ln-at-most-mono (halved (square (dyadic 20 0))) (halved (square (dyadic 20 0))) (whole 1) (over) (le-refl _) (omega arith)
       (ln-one-at-most (halved (square (dyadic 20 0))) refl)
 
+  -- F is at most 7 above it: from 8 on, Q is above 0
   pub radius-at-most : b ≤ 50 → m ≤ 2 ^ b → (F : ℕ) → F * F ≤ 2 * s .Q → AtMostRadius over (dyadic 20 (F - 7))
   radius-at-most narrow whole-range F root = cases (decLe F 7)
     where
@@ -276,4 +277,4 @@ module _ {b m : ℕ} (s : Numbers b m) where
       cases (no h) =
           let e : F - 7 + 7 ≡ F = omega arith in
           let root' : (F - 7 + 7) * (F - 7 + 7) ≤ 2 * s .Q = rw e root in
-          large-radius narrow (s .difference-low (omega (arith, root, mul-le-mul-right F (lt-of-not-le h)))) (F - 7) (omega arith) root'
+          large-radius narrow (s .difference-low (omega (arith, root, mul-le-mul-right F (lt-of-not-le h)))) (F - 7) (omega (arith, root'))
