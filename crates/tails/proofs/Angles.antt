@@ -6,11 +6,16 @@ use native.Mathlib.Nat.{sub-zero}
 use native.Mathlib.Omega.{arith}
 use lib.IntN.{natAbs}
 use lib.ListN.{length, getD, length-append}
-use Rattle.tables.specs.Tables.{entryOf, cosCoarse, sinCoarse, cosFine, sinFine}
+use Rattle.tables.specs.Values.{cosCoarseList, sinCoarseList, cosFineList, sinFineList}
+use Rattle.tables.specs.Tables.{entryOf, cosCoarse, sinCoarse, cosFine, sinFine, cosCoarse-is, sinCoarse-is, cosFine-is, sinFine-is}
 use Rattle.tables.proofs.Entries.{entry-at, lengths}
+use Rattle.radius.specs.Steps.{numberBits, radiusOf}
 use Rattle.angle.specs.Steps.{sine, cosine, sineAt, cosineAt, signedOf}
-use Rattle.tails.specs.Counts.{sumBelow}
+use Rattle.sample.specs.Steps.{size}
+use Rattle.sample.specs.Sample.{samplesOf}
+use Rattle.tails.specs.Counts.{sumBelow, sumInputs}
 use Rattle.tails.proofs.SumLaws.{sum-cong, sum-front, sum-rows}
+use Rattle.tails.proofs.EachAngle.{first-size}
 use Rattle.tails.proofs.Quarters.{sum-quarters}
 
 -- the sum of n over a list
@@ -31,11 +36,21 @@ cosineBy C D c s = (C * c - D * s) / 2 ^ 30
 abbrev sineBy : ℕ → ℕ → ℕ → ℕ → ℕ
 sineBy C D c s = (D * c + C * s) / 2 ^ 30
 
+abbrev pub cosinesOf : (C D c s : List ℕ) → List ℕ
+cosinesOf = grid cosineBy
+
+abbrev pub sinesOf : (C D c s : List ℕ) → List ℕ
+sinesOf = grid sineBy
+
 abbrev pub cosines : List ℕ
-cosines = grid cosineBy cosCoarse sinCoarse cosFine sinFine
+cosines = cosinesOf cosCoarse sinCoarse cosFine sinFine
 
 abbrev pub sines : List ℕ
-sines = grid sineBy cosCoarse sinCoarse cosFine sinFine
+sines = sinesOf cosCoarse sinCoarse cosFine sinFine
+
+-- what holds of the entries holds of the tables
+pub by-entries : (P : (C D c s : List ℕ) → Type 0) → P cosCoarseList sinCoarseList cosFineList sinFineList → P cosCoarse sinCoarse cosFine sinFine
+by-entries P h = rw (cosCoarse-is, sinCoarse-is, cosFine-is, sinFine-is) h
 
 -- ---- lengths
 
@@ -127,3 +142,14 @@ module _ (n : ℕ → ℕ) where
   sum-angles =
       sum-quarters n
       ∙ ap₂ (λ (x y : ℕ). 2 * (x + y)) (sym (sum-quarter cosineBy cosineAt cosine-at)) (sym (sum-quarter sineBy sineAt sine-at))
+
+-- the sum over all inputs of a number that the size of the first sample decides
+pub inputs-by-angles : (f : ℕ) (number : ℕ → ℕ) → sumInputs f (λ r. number (natAbs (r .first)))
+    ≡ 2 * (sumOver (λ g. sumBelow (2 ^ numberBits) (λ k. number (size f (radiusOf k) g))) cosines
+    + sumOver (λ g. sumBelow (2 ^ numberBits) (λ k. number (size f (radiusOf k) g))) sines)
+unfolding sumInputs
+inputs-by-angles f number =
+    let at : ℕ → ℕ = λ g. sumBelow (2 ^ numberBits) (λ k. number (size f (radiusOf k) g)) in
+    sum-cong 65536 (λ v. sumBelow (2 ^ numberBits) (λ k. number (natAbs (samplesOf f k v .first)))) (λ v. at (natAbs (signedOf v .0)))
+    (λ v hv. sum-cong (2 ^ numberBits) _ _ (λ k hk. ap number (first-size f k v hk hv)))
+    ∙ sum-angles at

@@ -7,17 +7,17 @@ use native.Mathlib.Omega.{arith}
 use lib.Dec.{leb}
 use lib.IntN.{natAbs}
 use lib.Pow.{pow-pos, pow-add}
-use borrow.Author.Tests.{leb-true, leb-false, le-leb}
+use borrow.Author.Tests.{leb-true, leb-false, le-leb, lt-leb}
 use Rattle.radius.specs.Steps.{numberBits, radiusOf}
 use Rattle.angle.specs.Steps.{signedOf}
 use Rattle.sample.specs.Steps.{size}
 use Rattle.sample.specs.Sample.{firstOf, samplesOf}
 use Rattle.sample.specs.declared.Samples.{Samples}
 use Rattle.sample.proofs.Closeness.{accepts}
-use Rattle.sample.proofs.RoundingLaws.{size-of}
+use Rattle.sample.proofs.RoundingLaws.{size-zero, size-of}
 use Rattle.tails.specs.Counts.{one, countBelow, firstBeyondAt}
 use Rattle.tails.specs.Tails.{RayleighTail, threshold, leastRadius, closeFrom}
-use Rattle.tails.proofs.SumLaws.{sum-cong}
+use Rattle.tails.proofs.SumLaws.{sum-cong, sum-zero}
 use Rattle.tails.proofs.Pigeonhole.{count-mono}
 use Rattle.tails.proofs.Rayleigh.{close-tail}
 
@@ -76,6 +76,10 @@ module _ (f : ℕ) (few : f ≤ 49) where
         close-tail (λ k. leb s (size f (radiusOf k) g)) (leastRadius f s g)
         (λ k passes. above-quotient (threshold f s) (radiusOf k) g positive threshold-pos (reached (radiusOf k) g passes))
         (λ k fails. up-to-quotient (threshold f s) (radiusOf k) g positive (missed (radiusOf k) g fails))
+
+  -- a sine or cosine of 0 has none
+  pub none-at-zero : (s : ℕ) → 0 < s → beyondAt f s 0 ≡ 0
+  none-at-zero s some = sum-zero (2 ^ numberBits) _ (λ k. ap (λ (n : ℕ). one (leb s n)) (size-zero f (radiusOf k) few) ∙ ap one (lt-leb s 0 some))
 
   -- a larger sine or cosine has no fewer
   pub more-at : (s g g' : ℕ) → g ≤ g' → beyondAt f s g ≤ beyondAt f s g'

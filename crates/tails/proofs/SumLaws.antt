@@ -15,6 +15,11 @@ unfolding sumBelow
 sum-mono zero f g less = omega arith
 sum-mono (suc n) f g less = omega (arith, sum-mono n f g less, less n)
 
+pub sum-zero : (n : ℕ) (f : ℕ → ℕ) → ((i : ℕ) → f i ≡ 0) → sumBelow n f ≡ 0
+unfolding sumBelow
+sum-zero zero f none = refl
+sum-zero (suc n) f none = omega (arith, sum-zero n f none, none n)
+
 pub sum-add : (m n : ℕ) (f : ℕ → ℕ) → sumBelow (m + n) f ≡ sumBelow m f + sumBelow n (λ i. f (m + i))
 unfolding sumBelow
 sum-add m zero f = rw (add-zero m) (omega arith)
