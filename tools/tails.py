@@ -1,5 +1,5 @@
 #!/usr/bin/env python3
-"""Works out the rows of crate `tail_rows` (specs/Rows.antt) as its proof does, from the tables of sines and cosines, and compares them.
+"""Works out the rows of crates `tail_rows` and `tail_rows18` as their proofs do, from the tables of sines and cosines, and compares them with specs/.
 
   python3 tools/tails.py           compare the rows of specs/ with those worked out
   python3 tools/tails.py --write   write the rows anew
@@ -12,11 +12,13 @@ import re
 import sys
 
 CRATES = pathlib.Path(__file__).resolve().parent.parent / "crates"
-ROWS = CRATES / "tail_rows" / "specs" / "Rows.antt"
 TABLES = (CRATES / "tables" / "specs" / "Values.antt").read_text()
 TERMS = 120  # of the series at which a pass begins
 SIGMAS = (0.67449, 1, 2, 3, 4, 5, 6, 7, 7.5, 8, 8.2)
-LISTS = {"rows16": 11, "rows18": 13}  # and their fraction bits
+LISTS = [  # file, name, fraction bits
+    (CRATES / "tail_rows" / "specs" / "Rows.antt", "rows", 11),
+    (CRATES / "tail_rows18" / "specs" / "Rows18.antt", "rows18", 13),
+]
 
 
 def table(name):
@@ -90,20 +92,18 @@ def listed(name, found):
     return f"{name} =\n    " + "\n    ∷ ".join("row " + " ".join(f"{n:_}" for n in r) for r in found) + "\n    ∷ []\n"
 
 
-text = ROWS.read_text()
 status = 0
-for name, f in LISTS.items():
+for path, name, f in LISTS:
+    text = path.read_text()
     old = re.search(rf"^{name} =\n.*?∷ \[\]\n", text, re.M | re.S).group()
     new = listed(name, rows(f))
     if "--write" in sys.argv:
-        text = text.replace(old, new)
+        path.write_text(text.replace(old, new))
     elif old != new:
         status = 1
         for a, b in zip(old.splitlines(), new.splitlines()):
             if a != b:
-                print(f"{name}: specs {a.strip()}, worked out {b.strip()}")
-if "--write" in sys.argv:
-    ROWS.write_text(text)
-elif status == 0:
-    print("the rows of specs/ are those worked out")
+                print(f"{path.name}: {a.strip()}, worked out: {b.strip()}")
+    else:
+        print(f"{path.name}: the rows are those worked out")
 sys.exit(status)

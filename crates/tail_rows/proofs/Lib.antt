@@ -1,7 +1,8 @@
--- Shares of the exponential, and passes over the sizes of all sines and cosines; the tables, by passes that antt computes.
+-- Shares of the exponential, passes over the sizes of all sines and cosines, and the test of a row by two passes; the table.
 mod Shares
-mod Passes
-mod Starts
-mod Pairs
-mod RowTest
-pub mod Tables
+pub mod Passes
+pub mod Starts
+pub mod Pairs
+pub mod RowTest
+pub mod Rows
+pub mod Table

@@ -1,8 +1,8 @@
--- How many of the 2^64 inputs give a first sample of some size or more: proofs/Tables.antt proves it. By the symmetries of `tails` as many give a second
+-- How many of the 2^64 inputs give a first sample, of 16 bits, of some size or more: proofs/Table.antt proves it. By the symmetries of `tails` as many give a second
 -- sample of that size. tools/tails.py works the rows out.
 use mathlib.Core.List.{List, [], _∷_}
 use Prim.Native.Nat.{ℕ, _≤_}
-use Rattle.sample.specs.Steps.{fractionBits, fractionBits18}
+use Rattle.sample.specs.Steps.{fractionBits}
 use Rattle.tails.specs.Counts.{firstBeyond}
 
 -- A row: at least `low` and at most `high` inputs give a first sample of `size` units or more in size.
@@ -11,7 +11,7 @@ pub record Row : Type 0 where
   pub low : ℕ
   pub high : ℕ
 
-abbrev row : ℕ → ℕ → ℕ → Row
+abbrev pub row : ℕ → ℕ → ℕ → Row
 row s a b = record { size = s; low = a; high = b }
 
 abbrev pub Holds : ℕ → Row → Type 0
@@ -21,9 +21,9 @@ abbrev pub Every : (Row → Type 0) → List Row → Type 0
 Every P [] = Unit {0}
 Every P (r ∷ rs) = P r × Every P rs
 
--- One unit, the quartile (0.6745 σ), 1, 2, .. 7 σ, 7.5 σ, 8 σ, 8.2 σ and the largest size, in samples of 16 bits and of 18.
-abbrev pub rows16 : List Row
-rows16 =
+-- One unit, the quartile (0.6745 σ), 1, 2, .. 7 σ, 7.5 σ, 8 σ, 8.2 σ and the largest size.
+abbrev pub rows : List Row
+rows =
     row 1 18_443_090_891_320_669_352 18_443_181_094_240_890_368
     ∷ row 1_381 9_228_255_622_822_063_580 9_228_271_226_600_695_622
     ∷ row 2_048 5_855_515_338_459_346_966 5_855_528_845_349_268_780
@@ -39,23 +39,5 @@ rows16 =
     ∷ row 16_879 418 418
     ∷ []
 
-abbrev pub rows18 : List Row
-rows18 =
-    row 1 18_445_829_045_019_406_896 18_445_829_824_554_418_004
-    ∷ row 5_525 9_224_677_098_686_055_648 9_224_692_698_518_145_504
-    ∷ row 8_192 5_853_880_504_945_600_572 5_853_894_007_719_910_346
-    ∷ row 16_384 839_450_696_405_437_862 839_454_178_470_763_358
-    ∷ row 24_576 49_812_203_857_115_318 49_812_502_672_776_080
-    ∷ row 32_768 1_168_757_070_054_474 1_168_766_274_227_492
-    ∷ row 40_960 10_578_847_553_908 10_578_950_882_908
-    ∷ row 49_152 36_412_024_328 36_412_449_926
-    ∷ row 57_344 47_236_420 47_237_032
-    ∷ row 61_440 1_177_428 1_177_436
-    ∷ row 65_536 22_324 22_324
-    ∷ row 67_175 4_206 4_206
-    ∷ row 67_517 214 218
-    ∷ []
-
 pub record TailRows : Type 0 where
-  pub table16 : Every (Holds fractionBits) rows16
-  pub table18 : Every (Holds fractionBits18) rows18
+  pub table : Every (Holds fractionBits) rows

@@ -6,5 +6,7 @@ mod Rayleigh
 pub mod EachAngle
 mod Quarters
 pub mod Angles
+mod OddProduct
+mod RadiusSquares
 pub mod Symmetry
 pub mod Theorems

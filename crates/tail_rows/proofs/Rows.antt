@@ -1,4 +1,4 @@
--- The tables of specs/Rows.antt: each by a test that antt computes.
+-- What the test says of a list of rows, at the sines and cosines of the tables.
 use mathlib.Core.Path.{_≡_, sym, _∙_}
 use mathlib.Core.Bool.{Bool, true, _&&_}
 use mathlib.Core.List.{List, [], _∷_, zipWith}
@@ -7,16 +7,13 @@ use native.Mathlib.Omega.{arith}
 use lib.Dec.{T, leb}
 use lib.ListN.{length}
 use store.Enc.{and-l, and-r}
-use Rattle.exact.proofs.SeriesLaws.{scaledTop, scaledBottom}
-use Rattle.sample.specs.Steps.{fractionBits, fractionBits18}
 use Rattle.tails.specs.Counts.{one, firstBeyond}
 use Rattle.tails.proofs.EachAngle.{beyondAt, more-at}
 use Rattle.tails.proofs.Angles.{sumOver, grid, cosinesOf, sinesOf, cosines, sines, cosines-length, sines-length, by-entries, inputs-by-angles}
-use Rattle.tail_rows.specs.Rows.{Row, Holds, Every, rows16, rows18, TailRows}
-use Rattle.tail_rows.proofs.Passes.{mostFrom, leastFrom, falling}
-use Rattle.tail_rows.proofs.Starts.{mostShare, leastShare}
+use Rattle.tail_rows.specs.Rows.{Row, Holds, Every}
+use Rattle.tail_rows.proofs.Passes.{falling}
 use Rattle.tail_rows.proofs.Pairs.{larger, smaller, first, pairs-most, pairs-least}
-use Rattle.tail_rows.proofs.RowTest.{most, least, inRange, passed, ordered, bounds}
+use Rattle.tail_rows.proofs.RowTest.{passed, ordered, bounds}
 
 abbrev Ordered : List ℕ → List ℕ → Type 0
 Ordered xs ys = T (ordered (first xs) (first ys) (larger xs ys) (smaller xs ys))
@@ -35,29 +32,17 @@ row-holds f few r t =
     (bounds (first cosines) (first sines) (larger cosines sines) (smaller cosines sines) lists-ordered f few r t (sumOver n cosines + sumOver n sines)
     (pairs-least n (more-at f few (r .size)) cosines sines some same) (pairs-most n (more-at f few (r .size)) cosines sines some same))
 
--- ---- each row of a table
-
-allPassed : ℕ → ℕ → List ℕ → List ℕ → List Row → Bool
+-- all rows of a list pass the test
+unfoldable pub allPassed : ℕ → ℕ → List ℕ → List ℕ → List Row → Bool
 allPassed f peak large small [] = true
 allPassed f peak large small (r ∷ rs) = passed f peak large small r && allPassed f peak large small rs
 
-abbrev Tested : ℕ → List Row → List ℕ → List ℕ → Type 0
+abbrev pub Tested : ℕ → List Row → List ℕ → List ℕ → Type 0
 Tested f rs xs ys = T (allPassed f (first xs) (larger xs ys) (smaller xs ys) rs)
 
-all-hold : (f : ℕ) → f ≤ 49 → (rs : List Row) → Tested f rs cosines sines → Every (Holds f) rs
+pub all-hold : (f : ℕ) → f ≤ 49 → (rs : List Row) → Tested f rs cosines sines → Every (Holds f) rs
 unfolding allPassed
 all-hold f few [] t = tt
 all-hold f few (r ∷ rs) t =
     let here : Bool = passed f (first cosines) (larger cosines sines) (smaller cosines sines) r in
     (row-holds f few r (and-l here _ t), all-hold f few rs (and-r here _ t))
-
-tested16 : Tested fractionBits rows16 cosines sines
-unfolding allPassed passed inRange most least mostFrom leastFrom mostShare leastShare scaledTop scaledBottom grid zipWith
-tested16 = by-entries (λ C D c s. Tested fractionBits rows16 (cosinesOf C D c s) (sinesOf C D c s)) tt
-
-tested18 : Tested fractionBits18 rows18 cosines sines
-unfolding allPassed passed inRange most least mostFrom leastFrom mostShare leastShare scaledTop scaledBottom grid zipWith
-tested18 = by-entries (λ C D c s. Tested fractionBits18 rows18 (cosinesOf C D c s) (sinesOf C D c s)) tt
-
-pub tail-rows : TailRows
-tail-rows = record { table16 = all-hold fractionBits (omega arith) rows16 tested16; table18 = all-hold fractionBits18 (omega arith) rows18 tested18 }
