@@ -1,6 +1,6 @@
 -- The cosine of w and the sine of 16384 - w differ in the last places at most: the larger of each pair, twice, bounds both from above, and the smaller
 -- from below.
-use mathlib.Core.Path.{_≡_, refl, ap, _∙_}
+use mathlib.Core.Path.{_≡_, refl}
 use mathlib.Core.List.{List, [], _∷_, zipWith, reverse, reverseAux}
 use Prim.Native.Nat.{ℕ, _+_, _*_, _≤_, _<_, max, min}
 use native.Mathlib.Omega.{arith}

@@ -1,6 +1,6 @@
 -- Shares of the exponential at 2^97: E is at least, or at most, 2^97 exp(-(p / 2^20)² / 2). From one p to a greater one by a product and a quotient.
 use mathlib.Core.Path.{_≡_, ap}
-use mathlib.Core.Logic.{_⊎_, inl, inr}
+use mathlib.Core.Logic.{inl, inr}
 use Prim.Native.Nat.{ℕ, zero, suc, _+_, _-_, _*_, _/_, _^_, _≤_, _<_}
 use native.Mathlib.Nat.{mul-zero, zero-mul, zero-div, mul-le-mul-left, pow-zero, pow-suc, eq-zero-or-pos, div-add-mod, mod-lt}
 use native.Mathlib.Decide.{decLt}

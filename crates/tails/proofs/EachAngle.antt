@@ -1,8 +1,8 @@
 -- How many k give a sample of size s or more at one angle.
 use mathlib.Core.Path.{_≡_, ap, _∙_}
-use mathlib.Core.Bool.{Bool, true, false}
+use mathlib.Core.Bool.{true, false}
 use Prim.Native.Nat.{ℕ, suc, _+_, _-_, _*_, _/_, _^_, _≤_, _<_}
-use native.Mathlib.Nat.{lt-of-mul-lt-mul-right, mul-le-mul-left, mul-pos, div-lt-iff-lt-mul, le-div-iff-mul-le, div-add-mod, mod-lt}
+use native.Mathlib.Nat.{lt-of-mul-lt-mul-right, mul-le-mul-left, div-lt-iff-lt-mul, le-div-iff-mul-le, div-add-mod, mod-lt}
 use native.Mathlib.Omega.{arith}
 use lib.Dec.{leb}
 use lib.IntN.{natAbs}
@@ -25,16 +25,18 @@ use Rattle.tails.proofs.Rayleigh.{close-tail}
 abbrev pub beyondAt : (f s g : ℕ) → ℕ
 beyondAt f s g = countBelow (2 ^ numberBits) (λ k. leb s (size f (radiusOf k) g))
 
--- halves up: x over 2 H to nearest is at least s just where x is at least (2 s - 1) H
-half-up : (x H s : ℕ) → 0 < s → s * (2 * H) ≤ x + H → (2 * s - 1) * H ≤ x
-half-up x H (suc s) some h =
-    let e : 2 * suc s - 1 ≡ 2 * s + 1 = omega arith in
-    rw e (omega (arith, h))
+-- halves up: x over 2 H to nearest, H = 2^(49-f), is at least s just where x is at least (2 s - 1) H
+odd-multiple : (f s : ℕ) → threshold f (suc s) ≡ (2 * s + 1) * 2 ^ (49 - f)
+odd-multiple f s = ap (λ (n : ℕ). n * 2 ^ (49 - f)) (omega arith)
 
-half-down : (x H s : ℕ) → 0 < s → x + H < s * (2 * H) → x < (2 * s - 1) * H
-half-down x H (suc s) some h =
-    let e : 2 * suc s - 1 ≡ 2 * s + 1 = omega arith in
-    rw e (omega (arith, h))
+half-up : (f x s : ℕ) → 0 < s → s * (2 * 2 ^ (49 - f)) ≤ x + 2 ^ (49 - f) → threshold f s ≤ x
+half-up f x (suc s) some h = rw (odd-multiple f s) (omega (arith, h))
+
+half-down : (f x s : ℕ) → 0 < s → x + 2 ^ (49 - f) < s * (2 * 2 ^ (49 - f)) → x < threshold f s
+half-down f x (suc s) some h = rw (odd-multiple f s) (omega (arith, h))
+
+threshold-pos : (f s : ℕ) → 0 < s → 0 < threshold f s
+threshold-pos f (suc s) some = rw (odd-multiple f s) (omega (arith, pow-pos (49 - f)))
 
 -- F g ≥ c just where F is above (c - 1) / g
 above-quotient : (c F g : ℕ) → 0 < g → 0 < c → c ≤ F * g → (c - 1) / g + 1 ≤ F
@@ -58,23 +60,18 @@ module _ (f : ℕ) (few : f ≤ 49) where
     unfolding size
     reached F g e =
         let h = le-div-iff-mul-le {x = s} {y = F * g + 2 ^ (49 - f)} (pow-pos (50 - f)) .0 (leb-true s _ e) in
-        half-up (F * g) (2 ^ (49 - f)) s some (rw halves at h)
+        half-up f (F * g) s some (rw halves at h)
 
     missed : (F g : ℕ) → leb s (size f F g) ≡ false → F * g < threshold f s
     unfolding size
     missed F g e =
         let h = div-lt-iff-lt-mul {x = F * g + 2 ^ (49 - f)} {y = s} (pow-pos (50 - f)) .0 (leb-false s _ e) in
-        half-down (F * g) (2 ^ (49 - f)) s some (rw halves at h)
-
-    threshold-pos : 0 < threshold f s
-    threshold-pos =
-        let odd : 0 < 2 * s - 1 = omega arith in
-        mul-pos odd (pow-pos (49 - f))
+        half-down f (F * g) s some (rw halves at h)
 
     pub size-tail : (g : ℕ) → 0 < g → closeFrom ≤ leastRadius f s g → RayleighTail (beyondAt f s g) (leastRadius f s g - 1) (leastRadius f s g + 1)
     size-tail g positive =
         close-tail (λ k. leb s (size f (radiusOf k) g)) (leastRadius f s g)
-        (λ k passes. above-quotient (threshold f s) (radiusOf k) g positive threshold-pos (reached (radiusOf k) g passes))
+        (λ k passes. above-quotient (threshold f s) (radiusOf k) g positive (threshold-pos f s some) (reached (radiusOf k) g passes))
         (λ k fails. up-to-quotient (threshold f s) (radiusOf k) g positive (missed (radiusOf k) g fails))
 
   -- a sine or cosine of 0 has none

@@ -8,5 +8,7 @@ mod Quarters
 pub mod Angles
 mod OddProduct
 mod RadiusSquares
+mod Roundings
 pub mod Symmetry
+pub mod Variance
 pub mod Theorems

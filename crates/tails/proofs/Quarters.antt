@@ -1,5 +1,5 @@
 -- Sums over all v by quarters: the first sample takes the sine in the first and the third quarter, and the cosine in the others.
-use mathlib.Core.Path.{_≡_, refl, ap, ap₂, _∙_}
+use mathlib.Core.Path.{_≡_, refl, ap, _∙_}
 use Prim.Native.Nat.{ℕ, _+_, _*_, _/_, _%_}
 use native.Mathlib.Omega.{arith}
 use lib.IntN.{pos, natAbs}

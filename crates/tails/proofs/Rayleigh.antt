@@ -1,13 +1,13 @@
 -- Any test on k that F decides is passed by as many k as Rayleigh's tail has, to within the margins of F.
 use mathlib.Core.Path.{_≡_}
 use mathlib.Core.Bool.{Bool, true, false}
-use Prim.Native.Nat.{ℕ, _+_, _-_, _*_, _^_, _≤_, _<_}
+use Prim.Native.Nat.{ℕ, _+_, _-_, _^_, _≤_, _<_}
 use native.Mathlib.Nat.{mul-le-mul-left, mul-le-mul-right}
 use native.Mathlib.Decide.{decLe, decLt}
 use native.Mathlib.Omega.{arith}
 use lib.Dec.{leb}
 use borrow.Author.Tests.{leb-true, leb-false}
-use Rattle.exact.specs.Fraction.{Fraction, whole, dyadic, halved, square}
+use Rattle.exact.specs.Fraction.{whole, dyadic, halved, square}
 use Rattle.exact.specs.Radius.{AtMostRadius, AtLeastRadius}
 use Rattle.exact.proofs.FractionLaws.{half-square-mono, ≤ᶠ-refl}
 use Rattle.exact.proofs.LogarithmLaws.{ln-at-most-mono, ln-at-least-mono, ln-one-at-least}

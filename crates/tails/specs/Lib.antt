@@ -2,3 +2,4 @@
 pub mod Counts
 pub mod Tails
 pub mod Symmetries
+pub mod Variances
