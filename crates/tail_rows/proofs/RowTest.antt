@@ -7,7 +7,7 @@ use native.Mathlib.Omega.{arith}
 use lib.Dec.{T, leb, leb→le}
 use store.Enc.{and-l, and-r}
 use Rattle.tails.specs.Tails.{threshold, closeFrom}
-use Rattle.tails.proofs.EachAngle.{beyondAt, size-tail, more-at, none-at-zero}
+use Rattle.tails.proofs.EachAngle.{beyondAt, size-close-tail, more-at, none-at-zero}
 use Rattle.tails.proofs.Angles.{sumOver}
 use Rattle.tail_rows.specs.Rows.{Row}
 use Rattle.tail_rows.proofs.Shares.{mostBy, leastBy}
@@ -71,8 +71,8 @@ module _ (peak foot : ℕ) (large small : List ℕ) (lists : T (ordered peak foo
       most-law =
           let e = mostShare (b / peak) in
           let (positive, above) = most-start (b / peak) in
-          let here = most-here b n (more-at f few s) (size-tail f few s some) peak e peak-pos close positive above in
-          let rest = most-pass b n (more-at f few s) (size-tail f few s some) large peak (b / peak * (b / peak)) e 0 refl close large-falls positive above in
+          let here = most-here b n (more-at f few s) (size-close-tail f few s some) peak e peak-pos close positive above in
+          let rest = most-pass b n (more-at f few s) (size-close-tail f few s some) large peak (b / peak * (b / peak)) e 0 refl close large-falls positive above in
           omega (arith, here, rest, more-at f few s foot 0 foot-is, none-at-zero f few s some)
 
       least-law : b / peak + 2 ≤ lastStart → least b peak small ≤ 2 * (n peak + n foot + 2 * sumOver n small)
@@ -81,8 +81,8 @@ module _ (peak foot : ℕ) (large small : List ℕ) (lists : T (ordered peak foo
           let p = b / peak + 2 in
           let e = leastShare p in
           let below = least-start p near in
-          let here = least-here b n (more-at f few s) (size-tail f few s some) peak e peak-pos close below in
-          let rest = least-pass b n (more-at f few s) (size-tail f few s some) small peak (p * p) e 0 refl close small-falls below in
+          let here = least-here b n (more-at f few s) (size-close-tail f few s some) peak e peak-pos close below in
+          let rest = least-pass b n (more-at f few s) (size-close-tail f few s some) small peak (p * p) e 0 refl close small-falls below in
           omega (arith, here, rest)
 
   -- a sum between those over the larger and the smaller of each pair is between the row's bounds

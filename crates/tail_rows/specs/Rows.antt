@@ -1,5 +1,5 @@
--- How many of the 2^64 inputs give a first sample, of 16 bits, of some size or more: proofs/Table.antt proves it. By the symmetries of `tails` as many give a second
--- sample of that size. tools/tails.py works the rows out.
+-- How many of the 2^64 inputs give a first sample, of 16 bits, of some size or more: proofs/Table.antt proves it. As many give a second sample of that
+-- size, by the symmetries of `tails`. tools/tails.py works the rows out.
 use mathlib.Core.List.{List, [], _∷_}
 use Prim.Native.Nat.{ℕ, _≤_}
 use Rattle.sample.specs.Steps.{fractionBits}

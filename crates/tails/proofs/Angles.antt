@@ -10,10 +10,11 @@ use Rattle.tables.specs.Values.{cosCoarseList, sinCoarseList, cosFineList, sinF
 use Rattle.tables.specs.Tables.{entryOf, cosCoarse, sinCoarse, cosFine, sinFine, cosCoarse-is, sinCoarse-is, cosFine-is, sinFine-is}
 use Rattle.tables.proofs.Entries.{entry-at, lengths}
 use Rattle.radius.specs.Steps.{numberBits, radiusOf}
-use Rattle.angle.specs.Steps.{sine, cosine, sineAt, cosineAt, signedOf}
+use Rattle.angle.specs.Steps.{sine, cosine, sineAt, cosineAt}
 use Rattle.sample.specs.Steps.{size}
 use Rattle.sample.specs.Sample.{samplesOf}
 use Rattle.tails.specs.Counts.{sumBelow, sumInputs}
+use Rattle.tails.specs.Tails.{sineSize}
 use Rattle.tails.proofs.SumLaws.{sum-cong, sum-front, sum-rows}
 use Rattle.tails.proofs.EachAngle.{first-size}
 use Rattle.tails.proofs.Quarters.{sum-quarters}
@@ -138,7 +139,7 @@ module _ (n : ℕ → ℕ) where
       ∙ sym (sum-rows 128 128 (λ w. n (at w)))
 
   -- a sum over all v of what the size of the sine decides
-  pub sum-angles : sumBelow 65536 (λ v. n (natAbs (signedOf v .0))) ≡ 2 * (sumOver n cosines + sumOver n sines)
+  pub sum-angles : sumBelow 65536 (λ v. n (sineSize v)) ≡ 2 * (sumOver n cosines + sumOver n sines)
   sum-angles =
       sum-quarters n
       ∙ ap₂ (λ (x y : ℕ). 2 * (x + y)) (sym (sum-quarter cosineBy cosineAt cosine-at)) (sym (sum-quarter sineBy sineAt sine-at))
@@ -150,6 +151,6 @@ pub inputs-by-angles : (f : ℕ) (number : ℕ → ℕ) → sumInputs f (λ r. n
 unfolding sumInputs
 inputs-by-angles f number =
     let at : ℕ → ℕ = λ g. sumBelow (2 ^ numberBits) (λ k. number (size f (radiusOf k) g)) in
-    sum-cong 65536 (λ v. sumBelow (2 ^ numberBits) (λ k. number (natAbs (samplesOf f k v .first)))) (λ v. at (natAbs (signedOf v .0)))
+    sum-cong 65536 (λ v. sumBelow (2 ^ numberBits) (λ k. number (natAbs (samplesOf f k v .first)))) (λ v. at (sineSize v))
     (λ v hv. sum-cong (2 ^ numberBits) _ _ (λ k hk. ap number (first-size f k v hk hv)))
     ∙ sum-angles at

@@ -16,10 +16,10 @@ use Rattle.sample.specs.declared.Samples.{Samples}
 use Rattle.sample.proofs.Closeness.{accepts}
 use Rattle.sample.proofs.RoundingLaws.{size-zero, size-of}
 use Rattle.tails.specs.Counts.{one, countBelow, firstBeyondAt}
-use Rattle.tails.specs.Tails.{RayleighTail, threshold, leastRadius, closeFrom}
+use Rattle.tails.specs.Tails.{RayleighTail, threshold, leastRadius, closeFrom, sineSize}
 use Rattle.tails.proofs.SumLaws.{sum-cong, sum-zero}
 use Rattle.tails.proofs.Pigeonhole.{count-mono}
-use Rattle.tails.proofs.Rayleigh.{close-tail}
+use Rattle.tails.proofs.Rayleigh.{tail, close-tail}
 
 -- the number of k whose F with a sine or cosine of size g gives size s or more
 abbrev pub beyondAt : (f s g : ℕ) → ℕ
@@ -68,11 +68,18 @@ module _ (f : ℕ) (few : f ≤ 49) where
         let h = div-lt-iff-lt-mul {x = F * g + 2 ^ (49 - f)} {y = s} (pow-pos (50 - f)) .0 (leb-false s _ e) in
         half-down f (F * g) s some (rw halves at h)
 
-    pub size-tail : (g : ℕ) → 0 < g → closeFrom ≤ leastRadius f s g → RayleighTail (beyondAt f s g) (leastRadius f s g - 1) (leastRadius f s g + 1)
-    size-tail g positive =
-        close-tail (λ k. leb s (size f (radiusOf k) g)) (leastRadius f s g)
-        (λ k passes. above-quotient (threshold f s) (radiusOf k) g positive (threshold-pos f s some) (reached (radiusOf k) g passes))
-        (λ k fails. up-to-quotient (threshold f s) (radiusOf k) g positive (missed (radiusOf k) g fails))
+    module _ (g : ℕ) (positive : 0 < g) where
+      just-reached : (k : ℕ) → leb s (size f (radiusOf k) g) ≡ true → leastRadius f s g ≤ radiusOf k
+      just-reached k passes = above-quotient (threshold f s) (radiusOf k) g positive (threshold-pos f s some) (reached (radiusOf k) g passes)
+
+      just-missed : (k : ℕ) → leb s (size f (radiusOf k) g) ≡ false → radiusOf k < leastRadius f s g
+      just-missed k fails = up-to-quotient (threshold f s) (radiusOf k) g positive (missed (radiusOf k) g fails)
+
+      pub size-tail : RayleighTail (beyondAt f s g) (leastRadius f s g - 7) (leastRadius f s g + 6)
+      size-tail = tail (λ k. leb s (size f (radiusOf k) g)) (leastRadius f s g) just-reached just-missed
+
+      pub size-close-tail : closeFrom ≤ leastRadius f s g → RayleighTail (beyondAt f s g) (leastRadius f s g - 1) (leastRadius f s g + 1)
+      size-close-tail = close-tail (λ k. leb s (size f (radiusOf k) g)) (leastRadius f s g) just-reached just-missed
 
   -- a sine or cosine of 0 has none
   pub none-at-zero : (s : ℕ) → 0 < s → beyondAt f s 0 ≡ 0
@@ -89,13 +96,17 @@ module _ (f : ℕ) (few : f ≤ 49) where
       (omega (arith, x, mul-le-mul-left (radiusOf k) h)))
 
 -- the size of an accepted first sample
-pub first-size : (f k v : ℕ) → k < 2 ^ numberBits → v < 65536 → natAbs (samplesOf f k v .first) ≡ size f (radiusOf k) (natAbs (signedOf v .0))
+pub first-size : (f k v : ℕ) → k < 2 ^ numberBits → v < 65536 → natAbs (samplesOf f k v .first) ≡ size f (radiusOf k) (sineSize v)
 unfolding firstOf
 first-size f k v hk hv = ap (λ (r : Samples). natAbs (r .first)) (accepts f k v hk hv) ∙ size-of f (radiusOf k) (signedOf v .0)
 
-pub first-beyond-at : (f s v : ℕ) → v < 65536 → firstBeyondAt f s v ≡ beyondAt f s (natAbs (signedOf v .0))
+first-beyond-at : (f s v : ℕ) → v < 65536 → firstBeyondAt f s v ≡ beyondAt f s (sineSize v)
 first-beyond-at f s v hv = sum-cong (2 ^ numberBits) _ _ (λ k hk. ap (λ (n : ℕ). one (leb s n)) (first-size f k v hk hv))
 
-pub each-angle : (f s v : ℕ) → f ≤ 49 → 0 < s → v < 65536 → 0 < natAbs (signedOf v .0) → closeFrom ≤ leastRadius f s (natAbs (signedOf v .0))
-    → RayleighTail (firstBeyondAt f s v) (leastRadius f s (natAbs (signedOf v .0)) - 1) (leastRadius f s (natAbs (signedOf v .0)) + 1)
-each-angle f s v few some hv positive close = rw (first-beyond-at f s v hv) (size-tail f few s some (natAbs (signedOf v .0)) positive close)
+pub each-angle : (f s v : ℕ) → f ≤ 49 → 0 < s → v < 65536 → 0 < sineSize v
+    → RayleighTail (firstBeyondAt f s v) (leastRadius f s (sineSize v) - 7) (leastRadius f s (sineSize v) + 6)
+each-angle f s v few some hv positive = rw (first-beyond-at f s v hv) (size-tail f few s some (sineSize v) positive)
+
+pub each-angle-closer : (f s v : ℕ) → f ≤ 49 → 0 < s → v < 65536 → 0 < sineSize v → closeFrom ≤ leastRadius f s (sineSize v)
+    → RayleighTail (firstBeyondAt f s v) (leastRadius f s (sineSize v) - 1) (leastRadius f s (sineSize v) + 1)
+each-angle-closer f s v few some hv positive close = rw (first-beyond-at f s v hv) (size-close-tail f few s some (sineSize v) positive close)

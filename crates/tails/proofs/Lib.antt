@@ -1,5 +1,5 @@
--- Sums and counts; Rayleigh's tail of the radius, and at each angle; sums over all angles by quarters, and by lists of the sines and cosines; the mean
--- logarithm and the mean squares; symmetries.
+-- Sums and counts; Rayleigh's tail of the radius, and at each angle; sums over all angles, as lists of the cosines and sines; the mean square of the radius,
+-- by the product of the odd numbers, and of the samples; symmetries.
 mod SumLaws
 mod Pigeonhole
 mod Rayleigh

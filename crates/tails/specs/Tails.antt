@@ -26,11 +26,17 @@ leastRadius f s g = (threshold f s - 1) / g + 1
 abbrev pub closeFrom : ℕ
 closeFrom = 33
 
+-- the size of the sine of v, at 2^30
+abbrev pub sineSize : ℕ → ℕ
+sineSize v = natAbs (signedOf v .0)
+
 pub record Tails : Type 0 where
-  -- For every t the number of k whose F is t or more is Rayleigh's tail between 7 units of 2^-20 before t and 6 after, to within half a k.
+  -- For every t the number of k whose F is t or more is Rayleigh's tail between 7 units of 2^-20 before t and 6 after, to within half a k; from 33 on
+  -- it is the tail between one unit before t and one after.
   pub radius : (t : ℕ) → RayleighTail (radiusBeyond t) (t - 7) (t + 6)
-  -- From 33 on it is the tail between one unit before t and one after.
   pub radius-closer : (t : ℕ) → closeFrom ≤ t → RayleighTail (radiusBeyond t) (t - 1) (t + 1)
-  -- The same for the number of k whose first sample has size s or more, at every v whose sine is not 0 and every f up to 49.
-  pub each-angle : (f s v : ℕ) → f ≤ 49 → 0 < s → v < 65536 → 0 < natAbs (signedOf v .0) → closeFrom ≤ leastRadius f s (natAbs (signedOf v .0))
-      → RayleighTail (firstBeyondAt f s v) (leastRadius f s (natAbs (signedOf v .0)) - 1) (leastRadius f s (natAbs (signedOf v .0)) + 1)
+  -- The same for the number of k whose first sample has size s or more, at every v whose sine is not 0 and at every f up to 49.
+  pub each-angle : (f s v : ℕ) → f ≤ 49 → 0 < s → v < 65536 → 0 < sineSize v
+      → RayleighTail (firstBeyondAt f s v) (leastRadius f s (sineSize v) - 7) (leastRadius f s (sineSize v) + 6)
+  pub each-angle-closer : (f s v : ℕ) → f ≤ 49 → 0 < s → v < 65536 → 0 < sineSize v → closeFrom ≤ leastRadius f s (sineSize v)
+      → RayleighTail (firstBeyondAt f s v) (leastRadius f s (sineSize v) - 1) (leastRadius f s (sineSize v) + 1)
