@@ -20,7 +20,7 @@ LISTS = [  # file, name, fraction bits
     (CRATES / "tail_rows18" / "specs" / "Rows18.antt", "rows18", 13),
 ]
 QUARTILE = 0.67449
-SIGMAS = (1, 2, 3, 4, 5, 6, 7, 7.5, 8, 8.2)
+SIGMAS = (8.2, 8, 7.5, 7, 6, 5, 4, 3, 2, 1)
 TERMS = 120  # of the series at which a pass begins
 
 
@@ -86,8 +86,8 @@ def largest(f):
 
 
 def rows(f):
-    """One unit, the quartile, the sizes at SIGMAS and the largest, each with its bounds."""
-    sizes = [1, round(QUARTILE * 2**f)] + [math.ceil(x * 2**f) for x in SIGMAS] + [largest(f)]
+    """The largest size, those at SIGMAS, the quartile and one unit, each with its bounds: the rows that are cheap to test come first."""
+    sizes = [largest(f)] + [math.ceil(x * 2**f) for x in SIGMAS] + [round(QUARTILE * 2**f), 1]
     return [(size, least(b), most(b)) for size in sizes for b in [(2 * size - 1 << 49 - f) - 1]]
 
 
