@@ -86,19 +86,23 @@ sines-length = quarter-length sineBy
 entry : (table : List ℕ) (i : ℕ) → entryOf table 0 i ≡ getD table i 0
 entry table i = entry-at table 0 i (omega arith) ∙ ap (λ (j : ℕ). getD table j 0) (sub-zero i)
 
-cosine-at : (a b : ℕ) → b < 128 → cosineBy (getD cosCoarse a 0) (getD sinCoarse a 0) (getD cosFine b 0) (getD sinFine b 0) ≡ cosineAt (a * 128 + b)
-unfolding cosineAt cosine
-cosine-at a b h =
+-- the entries at w = 128 a + b
+by-place : (f : ℕ → ℕ → ℕ → ℕ → ℕ) (a b : ℕ) → b < 128
+    → f (getD cosCoarse a 0) (getD sinCoarse a 0) (getD cosFine b 0) (getD sinFine b 0)
+    ≡ f (entryOf cosCoarse 0 ((a * 128 + b) / 128)) (entryOf sinCoarse 0 ((a * 128 + b) / 128)) (entryOf cosFine 0 ((a * 128 + b) % 128))
+    (entryOf sinFine 0 ((a * 128 + b) % 128))
+by-place f a b h =
     let q : (a * 128 + b) / 128 ≡ a = omega arith in
     let r : (a * 128 + b) % 128 ≡ b = omega arith in
     rw (q, r, entry cosCoarse a, entry sinCoarse a, entry cosFine b, entry sinFine b) refl
 
+cosine-at : (a b : ℕ) → b < 128 → cosineBy (getD cosCoarse a 0) (getD sinCoarse a 0) (getD cosFine b 0) (getD sinFine b 0) ≡ cosineAt (a * 128 + b)
+unfolding cosineAt cosine
+cosine-at = by-place cosineBy
+
 sine-at : (a b : ℕ) → b < 128 → sineBy (getD cosCoarse a 0) (getD sinCoarse a 0) (getD cosFine b 0) (getD sinFine b 0) ≡ sineAt (a * 128 + b)
 unfolding sineAt sine
-sine-at a b h =
-    let q : (a * 128 + b) / 128 ≡ a = omega arith in
-    let r : (a * 128 + b) % 128 ≡ b = omega arith in
-    rw (q, r, entry cosCoarse a, entry sinCoarse a, entry cosFine b, entry sinFine b) refl
+sine-at = by-place sineBy
 
 module _ (n : ℕ → ℕ) where
   sum-append : (xs ys : List ℕ) → sumOver n (xs ++ ys) ≡ sumOver n xs + sumOver n ys
