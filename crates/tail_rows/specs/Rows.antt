@@ -2,7 +2,7 @@
 -- size, by the symmetries of `tails`. tools/tails.py works the rows out.
 use mathlib.Core.List.{List, [], _∷_}
 use Prim.Native.Nat.{ℕ, _≤_}
-use Rattle.sample.specs.Steps.{fractionBits}
+use Rattle.box_muller.specs.Steps.{fractionBits}
 use Rattle.tails.specs.Counts.{firstBeyond}
 
 -- A row: at least `low` and at most `high` inputs give a first sample of `size` units or more in size.

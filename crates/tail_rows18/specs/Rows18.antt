@@ -1,6 +1,6 @@
 -- The rows for samples of 18 bits: proofs/Table18.antt proves them. tools/tails.py works the rows out.
 use mathlib.Core.List.{List, [], _∷_}
-use Rattle.sample.specs.Steps.{fractionBits18}
+use Rattle.box_muller.specs.Steps.{fractionBits18}
 use Rattle.tail_rows.specs.Rows.{Row, row, Holds, Every}
 
 -- The largest size, 8.2 σ, 8 σ, 7.5 σ, 7, 6, .. 1 σ, the quartile (0.6745 σ) and one unit.

@@ -11,8 +11,8 @@ use Rattle.tables.specs.Tables.{entryOf, cosCoarse, sinCoarse, cosFine, sinFine
 use Rattle.tables.proofs.Entries.{entry-at, lengths}
 use Rattle.radius.specs.Steps.{numberBits, radiusOf}
 use Rattle.angle.specs.Steps.{sine, cosine, sineAt, cosineAt}
-use Rattle.sample.specs.Steps.{size}
-use Rattle.sample.specs.Sample.{samplesOf}
+use Rattle.box_muller.specs.Steps.{size}
+use Rattle.box_muller.specs.Sample.{samplesOf}
 use Rattle.tails.specs.Counts.{sumBelow, sumInputs}
 use Rattle.tails.specs.Tails.{sineSize}
 use Rattle.tails.proofs.SumLaws.{sum-cong, sum-front, sum-rows}

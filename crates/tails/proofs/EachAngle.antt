@@ -10,11 +10,11 @@ use lib.Pow.{pow-pos, pow-add}
 use borrow.Author.Tests.{leb-true, leb-false, le-leb, lt-leb}
 use Rattle.radius.specs.Steps.{numberBits, radiusOf}
 use Rattle.angle.specs.Steps.{signedOf}
-use Rattle.sample.specs.Steps.{size}
-use Rattle.sample.specs.Sample.{firstOf, samplesOf}
-use Rattle.sample.specs.declared.Samples.{Samples}
-use Rattle.sample.proofs.Closeness.{accepts}
-use Rattle.sample.proofs.RoundingLaws.{size-zero, size-of}
+use Rattle.box_muller.specs.Steps.{size}
+use Rattle.box_muller.specs.Sample.{firstOf, samplesOf}
+use Rattle.box_muller.specs.declared.Samples.{Samples}
+use Rattle.box_muller.proofs.Closeness.{accepts}
+use Rattle.box_muller.proofs.RoundingLaws.{size-zero, size-of}
 use Rattle.tails.specs.Counts.{one, countBelow, firstBeyondAt}
 use Rattle.tails.specs.Tails.{RayleighTail, threshold, leastRadius, closeFrom, sineSize}
 use Rattle.tails.proofs.SumLaws.{sum-cong, sum-zero}

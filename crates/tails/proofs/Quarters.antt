@@ -4,7 +4,7 @@ use Prim.Native.Nat.{ℕ, _+_, _*_, _/_, _%_}
 use native.Mathlib.Omega.{arith}
 use lib.IntN.{pos}
 use Rattle.angle.specs.Steps.{sineAt, cosineAt, signedOf}
-use Rattle.angle.proofs.Signs.{natAbs-neg}
+use Rattle.signs.proofs.Sizes.{natAbs-neg}
 use Rattle.tails.specs.Counts.{sumBelow}
 use Rattle.tails.specs.Tails.{sineSize}
 use Rattle.tails.proofs.SumLaws.{sum-cong, sum-rows, sum-four}

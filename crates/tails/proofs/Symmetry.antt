@@ -6,10 +6,10 @@ use native.Mathlib.Omega.{arith}
 use lib.IntN.{ℤ, pos, negsuc, negℤ, _+ℤ_, _*ℤ_, +ℤ-idr, +ℤ-assoc, +ℤ-comm, negℤ-+ℤ, negℤ-negℤ, pos-ne-negsuc, *ℤ-zero, *ℤ-negsuc, *ℤ-comm}
 use Rattle.radius.specs.Steps.{numberBits}
 use Rattle.angle.specs.Steps.{quarterOn}
-use Rattle.sample.specs.Sample.{samplesOf}
-use Rattle.sample.specs.Theorems.{turnedOn, negated}
-use Rattle.sample.specs.declared.Samples.{Samples}
-use Rattle.sample.proofs.Theorems.{theorems}
+use Rattle.box_muller.specs.Sample.{samplesOf}
+use Rattle.box_muller.specs.Theorems.{turnedOn, negated}
+use Rattle.box_muller.specs.declared.Samples.{Samples}
+use Rattle.box_muller.proofs.Theorems.{theorems}
 use Rattle.tails.specs.Counts.{one, sumBelow, sumBelowℤ, sumInputs, sumInputsℤ}
 use Rattle.tails.specs.Symmetries.{Symmetries}
 use Rattle.tails.proofs.SumLaws.{sum-cong, sum-add}

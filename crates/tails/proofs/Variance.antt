@@ -11,7 +11,7 @@ use lib.Pow.{pow-pos}
 use store.Enc.{and-l, and-r}
 use Rattle.tables.specs.Values.{cosCoarseList, sinCoarseList, cosFineList, sinFineList}
 use Rattle.radius.specs.Steps.{numberBits, radiusOf}
-use Rattle.sample.specs.Steps.{fractionBits, fractionBits18, size}
+use Rattle.box_muller.specs.Steps.{fractionBits, fractionBits18, size}
 use Rattle.tails.specs.Counts.{sumBelow, sumInputs}
 use Rattle.tails.specs.Variances.{firstSquare, bounds, bounds18, VarianceWithin, Variances}
 use Rattle.tails.proofs.EachAngle.{halves}

@@ -4,8 +4,8 @@ use Prim.Native.Nat.{ℕ, zero, suc, _+_, _^_}
 use lib.Dec.{leb}
 use lib.IntN.{ℤ, pos, natAbs, _+ℤ_}
 use Rattle.radius.specs.Steps.{numberBits, radiusOf}
-use Rattle.sample.specs.Sample.{samplesOf}
-use Rattle.sample.specs.declared.Samples.{Samples}
+use Rattle.box_muller.specs.Sample.{samplesOf}
+use Rattle.box_muller.specs.declared.Samples.{Samples}
 
 -- f 0 + f 1 + .. + f (n - 1), of numbers and of signed numbers
 unfoldable pub sumBelow : ℕ → (ℕ → ℕ) → ℕ

@@ -3,8 +3,8 @@ use mathlib.Core.Path.{_≡_}
 use mathlib.Core.Bool.{Bool}
 use Prim.Native.Nat.{ℕ, _≤_}
 use lib.IntN.{ℤ, pos, negℤ, _*ℤ_}
-use Rattle.sample.specs.Theorems.{turnedOn, negated}
-use Rattle.sample.specs.declared.Samples.{Samples}
+use Rattle.box_muller.specs.Theorems.{turnedOn, negated}
+use Rattle.box_muller.specs.declared.Samples.{Samples}
 use Rattle.tails.specs.Counts.{countInputs, sumInputs, sumInputsℤ, firstBeyond, secondBeyond}
 
 pub record Symmetries : Type 0 where

@@ -3,8 +3,8 @@ use mathlib.Core.Path.{_≡_}
 use Prim.Native.Nat.{ℕ, _+_, _-_, _*_, _^_, _≤_}
 use lib.IntN.{natAbs}
 use Rattle.radius.specs.Steps.{numberBits, radiusOf}
-use Rattle.sample.specs.Steps.{fractionBits, fractionBits18}
-use Rattle.sample.specs.declared.Samples.{Samples}
+use Rattle.box_muller.specs.Steps.{fractionBits, fractionBits18}
+use Rattle.box_muller.specs.declared.Samples.{Samples}
 use Rattle.tails.specs.Counts.{sumBelow, sumInputs}
 
 -- the squares of an answer's samples
