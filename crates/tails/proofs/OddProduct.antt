@@ -54,7 +54,7 @@ power-parts z (suc n) =
 product-step : (a b x y : ℕ) → x * y * (a * b) ≡ x * a * (y * b)
 product-step a b x y = omega arith
 
-mul-pow : (a b n : ℕ) → (a * b) ^ n ≡ a ^ n * b ^ n
+pub mul-pow : (a b n : ℕ) → (a * b) ^ n ≡ a ^ n * b ^ n
 mul-pow a b zero = rw (pow-zero (a * b), pow-zero a, pow-zero b) refl
 mul-pow a b (suc n) = rw (pow-suc (a * b) n, pow-suc a n, pow-suc b n, mul-pow a b n) (product-step a b (a ^ n) (b ^ n))
 
