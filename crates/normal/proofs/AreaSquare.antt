@@ -36,6 +36,7 @@ module _ (X Q N : ℕ) where
   unfolding u
   u-pos some = rw (pow-zero X) (omega (arith, down-pos Q 0 (N - 0) some))
 
+  -- the m-th term of the square of the sum of all u
   unfoldable pub product : ℕ → ℕ → ℕ
   product i j = u i * u j
 
@@ -79,7 +80,7 @@ module _ (X Q N : ℕ) where
       together : (d : ℕ) → Q * d ≡ X * squareTerm m → Q * ((2 * 0 + 1) * (u 0 * u (suc m)) + d) ≡ Q * (u 0 * u (suc m)) + X * squareTerm m
       together d e = omega (arith, e)
 
-  -- the terms, and the diagonals, in closed form
+  -- u and the terms of the square, in closed form
   unfoldable pub halfPiTop : ℕ → ℕ
   halfPiTop m = topTo halfPiTerm halfPiStep m
 
@@ -142,7 +143,7 @@ module _ (x : Fraction) (N : ℕ) where
   pub w-pos : 0 < w 0
   w-pos = u-pos X' Q' N (mul-pos (x .positive) (x .positive))
 
-  -- the terms of B², and k of their common part
+  -- B² is the sum of squareTerms, times X' over Q' w 0²
   abbrev pub squareTerms : ℕ → ℕ
   squareTerms = squareTerm X' Q' N
 

@@ -1,4 +1,4 @@
--- Enclosures of the area, of π/2 and of e^(x²) by n terms, and of the probability that a normal number is small.
+-- Bounds of the area, of π/2 and of e^(x²) by n terms, and so of P(|X| < x).
 use mathlib.Core.Path.{_≡_}
 use Prim.Native.Nat.{ℕ, zero, suc, _+_, _*_, _^_, _≤_}
 use native.Mathlib.Nat.{le-refl, pow-zero, pow-suc, add-zero, add-suc, mul-le-mul-left, mul-le-mul-right}
@@ -114,7 +114,7 @@ exponential-narrow p q n small (suc j) =
 
 -- ---- the probability
 
--- n terms are enough: twice x² is at most n + 1
+-- From term n on all terms at least halve.
 abbrev pub Enough : Fraction → ℕ → Type 0
 Enough x n = 2 * (x .top * x .top) ≤ suc n * (x .bottom * x .bottom)
 

@@ -2,7 +2,7 @@
 use mathlib.Core.Path.{_≡_, ap}
 use mathlib.Core.Logic.{_⊎_, inl, inr}
 use Prim.Native.Nat.{ℕ, suc, _+_, _-_, _*_, _≤_, _<_}
-use native.Mathlib.Nat.{mul-pos, mul-le-mul, mul-le-mul-left, le-of-lt, lt-of-not-le, le-of-mul-le-mul-left, mul-assoc}
+use native.Mathlib.Nat.{mul-pos, mul-le-mul, mul-le-mul-left, le-of-lt, lt-of-not-le, le-of-mul-le-mul-left, mul-assoc, add-zero}
 use native.Mathlib.Decide.{decLe}
 use native.Mathlib.Omega.{arith}
 use Rattle.exact.specs.Fraction.{Fraction, square, _*ᶠ_, _≤ᶠ_, _<ᶠ_}
@@ -23,7 +23,7 @@ fourths Q R a b Y h = omega (arith, mul-le-mul-left Y (mul-le-mul h h))
 joined : (Q R x y z u v : ℕ) → Q * x ≤ R * y → y ≤ z → Q * z ≤ R * u → R * R * u ≤ Q * Q * v → Q * Q * x ≤ Q * Q * v
 joined Q R x y z u v h₁ h₂ h₃ h₄ = omega (arith, mul-le-mul-left Q h₁, mul-le-mul-left (Q * R) h₂, mul-le-mul-left R h₃)
 
--- from N X ≤ (N + 1) B and so on, with M for N + 1
+-- What is beyond a sum is at most one part in N of it, so three sums move a / d by less than to b / d; M stands for N + 1.
 squeezed : (N M X B P p E e a b K L : ℕ) → 0 < N → N * X ≤ M * B → N * P ≤ M * p → N * E ≤ M * e → M * M * a ≤ N * N * b
     → B * B * K ≤ a * a * (P * E) * L → X * X * K ≤ b * b * (p * e) * L
 squeezed N M X B P p E e a b K L some hX hP hE hab h =
@@ -52,7 +52,7 @@ rest-least p q r = by-rest (q * r - p * q) (omega arith)
     by-rest : (c : ℕ) → q * r ≤ p * q + c → 1 * (r * (q * r)) ≤ (p * (q * r) + c * r) * 1
     by-rest c e = omega (arith, mul-le-mul-left r e)
 
--- enough parts: N = 3 a + 1
+-- N = 3 a + 1 parts are enough.
 parts : (a b : ℕ) → a < b → suc (suc (3 * a)) * suc (suc (3 * a)) * a ≤ suc (3 * a) * suc (3 * a) * b
 parts a b h = omega (arith, mul-le-mul-left (suc (3 * a) * suc (3 * a)) h)
 
@@ -71,13 +71,9 @@ module _ (x : Fraction) where
       plenty P Q some = omega (arith, mul-le-mul-left (suc (2 * P + j)) some)
 
   enough-first : Enough x first
-  unfolding first
-  enough-first = plenty (x .top * x .top) (x .bottom * x .bottom) (mul-pos (x .positive) (x .positive))
-    where
-      plenty : (P Q : ℕ) → 0 < Q → 2 * P ≤ suc (2 * P) * Q
-      plenty P Q some = omega (arith, mul-le-mul-left (suc (2 * P)) some)
+  enough-first = rw add-zero at (enough-after 0)
 
-  pub located-inside : (a b d : ℕ) (some : 0 < d) → a < b → AtLeastInside x (over b d some) ⊎ AtMostInside x (over a d some)
+  located-inside : (a b d : ℕ) (some : 0 < d) → a < b → AtLeastInside x (over b d some) ⊎ AtMostInside x (over a d some)
   located-inside a b d some h = decided (decLe _ _)
     where
       n : ℕ
@@ -97,7 +93,7 @@ module _ (x : Fraction) where
           (beyond (suc (3 * a)) _ _ (exponential-narrow (x .top * x .top) (x .bottom * x .bottom) first enough-first (3 * a)))
           (parts a b h) (le-of-lt (lt-of-not-le above))))
 
-  -- with d = b b', and what is left of 1
+  -- over one denominator d, by what is left of 1
   pub located : (t u : Fraction) → t <ᶠ u → AtMostTail x t ⊎ AtLeastTail x u
   located t u h = decided (decLe d (u .top * t .bottom))
     where

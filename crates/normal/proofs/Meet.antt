@@ -49,7 +49,7 @@ tails-meet x t u (c, inside, low) (c', inside', high) =
     (chained
     (t +ᶠ c ≤ᶠ⟨ low ⟩ whole 1 ≤ᶠ⟨ high ⟩ u +ᶠ c' ≤ᶠ⟨ +ᶠ-mono u u c' c (≤ᶠ-refl u) (inside-meet x c' c inside' inside) ⟩ u +ᶠ c ∎ᶠ))
 
--- ---- so a share that is near some fraction beyond the probability is near every one before it
+-- ---- a share that is near by some fraction is near by every one
 
 -- t = a / b ≤ c / d = t', t' ≤ S / W + (e / M) t', e ≤ M
 least-for : (a b c d S W e M : ℕ) → zero < d → e ≤ M → a * d ≤ c * b → c * (W * (M * d)) ≤ (S * (M * d) + e * c * W) * d → a * (W * (M * b)) ≤ (S * (M * b) + e * a * W) * b

@@ -35,7 +35,7 @@ halved-term y m =
     crossed : (f a t b g o : ℕ) → f * t ≤ o → f * a * (1 * (t * 2 * b * g)) ≤ 2 * a * (o * (b * g))
     crossed f a t b g o h = omega (arith, mul-le-mul-left (2 * a * b * g) h)
 
--- H T ≤ (P + t) T ≤ P T + 2 T'
+-- π/2 from above is at most a partial sum and its last term once more.
 half-pi-split : (y : Fraction) (n m : ℕ) → m ≤ n → halfPiHigh n *ᶠ term y (suc m) ≤ᶠ halfPiLow m *ᶠ term y (suc m) +ᶠ whole 2 *ᶠ term (halved y) (suc m)
 half-pi-split y n m h =
     chained
@@ -118,7 +118,7 @@ module _ (x : Fraction) (n : ℕ) where
       (≤ᶠ-refl (twice (suc n))) ⟩
       square (sumTo (areaTerm x) n) +ᶠ twice (suc n) ∎ᶠ)
 
--- ---- so every c below 1 is at most the probability at some x
+-- ---- so every c below 1 is at most P(|X| < x) for some x: 8 times the denominator of c
 
 cancelled : (b r r' t t' : ℕ) → 0 < r' → (4 * b + 2) * r * t' * r' ≤ (4 * suc b * t * r' + 2 * r * t') * r' → b * r * t' ≤ suc b * t * r'
 cancelled b r r' t t' some h =

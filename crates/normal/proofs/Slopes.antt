@@ -9,7 +9,7 @@ use Rattle.normal.specs.Probability.{doubleFactorial, areaTerm, sumTo, A
 use Rattle.normal.proofs.Sums.{topTo, sum-at-most-last, last-at-most-sum}
 use Rattle.normal.proofs.Enclosures.{areaStep, area-next, areaLow}
 
--- ---- the sums grow with x
+-- ---- a partial sum grows with x
 
 power-cross : (p q p' q' m : ℕ) → p * q' ≤ p' * q → p ^ m * q' ^ m ≤ p' ^ m * q ^ m
 power-cross p q p' q' zero h = rw (pow-zero p, pow-zero q', pow-zero p', pow-zero q) (le-refl _)
@@ -70,6 +70,7 @@ module _ (Q : ℕ) (some : 0 < Q) where
   abbrev at : ℕ → Fraction
   at W = record { top = W; bottom = Q; positive = some }
 
+  -- the area's terms 0 to n at x = W / Q come to S W n / D n
   S : ℕ → ℕ → ℕ
   S W n = topTo (areaTerm (at W)) (areaStep (at W)) n
 
@@ -92,7 +93,7 @@ module _ (Q : ℕ) (some : 0 < Q) where
   unfolding D
   D-next n = area-next (at 0) n
 
-  -- 1 + x B, over the denominator of the next sum but a factor
+  -- 1 + x B, times Q D n
   C : ℕ → ℕ → ℕ
   C W n = Q * D n + W * S W n
 

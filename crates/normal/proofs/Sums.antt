@@ -1,4 +1,4 @@
--- Sums of terms whose denominators divide one another: one denominator, growth, and what is beyond a partial sum.
+-- Sums of positive terms, each of whose denominators divides the next: over one denominator, and what may be beyond a partial sum.
 use mathlib.Core.Path.{_≡_, refl, sym, ap}
 use Prim.Native.Nat.{ℕ, zero, suc, _+_, _*_, _≤_, _<_}
 use native.Mathlib.Nat.{le-refl, le-of-eq, lt-of-not-le, mul-le-mul-left, add-zero, add-suc}
@@ -35,7 +35,7 @@ module _ (t : ℕ → Fraction) (k : ℕ → ℕ) (next : (n : ℕ) → t (suc n
       le-ind (λ m. topTo t k n * t m .bottom ≤ topTo t k m * t n .bottom) (le-refl _)
       (λ m _ before. omega (arith, mul-le-mul-left (k m) before, ap (λ z. topTo t k n * z) (next m))) m h
 
-  -- once the terms at least halve, every partial sum is at most the n-th and its last term once more
+  -- Once the terms at least halve, a partial sum and its last term once more do not grow.
   halves : (a e e' b b' c w z : ℕ) → b' ≡ c * b → 2 * e' ≤ c * e → (a + e) * w ≤ z * b → (c * a + e' + e') * w ≤ z * b'
   halves a e e' b b' c w z is small h = omega (arith, mul-le-mul-left c h, mul-le-mul-left w small, ap (λ y. z * y) is)
 
@@ -46,7 +46,7 @@ module _ (t : ℕ → Fraction) (k : ℕ → ℕ) (next : (n : ℕ) → t (suc n
       le-ind (λ m. (topTo t k m + t m .top) * w ≤ z * t m .bottom) h
       (λ m g before. halves (topTo t k m) (t m .top) (t (suc m) .top) (t m .bottom) (t (suc m) .bottom) (k m) w z (next m) (small m g) before) m le
 
-  -- with what may be beyond it
+  -- the n-th partial sum, and its last term once more for what may be beyond it
   abbrev pub beyondSum : ℕ → Fraction
   beyondSum n = over (topTo t k n + t n .top) (t n .bottom) (t n .positive)
 
@@ -71,7 +71,7 @@ module _ (t : ℕ → Fraction) (k : ℕ → ℕ) (next : (n : ℕ) → t (suc n
       decided (yes le) = omega (arith, later (t n .bottom) (topTo t k n + t n .top) le small (le-refl _))
       decided (no gt) = omega (arith, grows {n = m} {m = n} (omega (arith, lt-of-not-le gt)))
 
-  -- what is beyond becomes small: after j terms more it is at most one part in j + 1
+  -- After j terms more the last term is at most one part in j + 1 of the sum.
   pub narrow : (n : ℕ) → ((m : ℕ) → n ≤ m → 2 * t (suc m) .top ≤ k m * t m .top) → (j : ℕ) → suc j * t (n + j) .top ≤ topTo t k (n + j)
   unfolding topTo
   narrow n small zero = rw add-zero (at-first n)
@@ -85,7 +85,7 @@ module _ (t : ℕ → Fraction) (k : ℕ → ℕ) (next : (n : ℕ) → t (suc n
       again : (j u u' S k : ℕ) → 0 < j → 2 * u' ≤ k * u → j * u ≤ S → suc j * u' ≤ k * S + u'
       again j u u' S k some h before = omega (arith, mul-le-mul-left j h, mul-le-mul-left k before)
 
--- some partial sum lies between
+-- What is at most a sum is at most what is at least it.
 pub sums-meet : (t : ℕ → Fraction) (a b : Fraction) → AtMostSum t a → AtLeastSum t b → a ≤ᶠ b
 unfolding AtMostSum AtLeastSum
 sums-meet t a b (n, low) high = ≤ᶠ-trans a (sumTo t n) b low (high n)
