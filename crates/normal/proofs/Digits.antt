@@ -9,8 +9,9 @@ use store.Enc.{and-l, and-r}
 use Rattle.exact.specs.Fraction.{whole}
 use Rattle.exact.specs.Series.{factorial}
 use Rattle.exact.proofs.SeriesLaws.{scaledTop, scaledBottom}
+use Rattle.tail_rows.specs.Rows.{Every}
 use Rattle.normal.specs.Probability.{doubleFactorial, halfPiTerm, areaTerm}
-use Rattle.normal.specs.Meaning.{Printed, Right, AllRight, textbook}
+use Rattle.normal.specs.Meaning.{Printed, Right, textbook}
 use Rattle.normal.proofs.Sums.{topTo}
 use Rattle.normal.proofs.TailTest.{enough, mostInside, leastInside, at-least-tail, at-most-tail}
 
@@ -35,7 +36,7 @@ allRight : List Printed → Bool
 allRight [] = true
 allRight (r ∷ rs) = rightDigits r && allRight rs
 
-all-right : (rs : List Printed) → T (allRight rs) → AllRight rs
+all-right : (rs : List Printed) → T (allRight rs) → Every Right rs
 unfolding allRight
 all-right [] t = tt
 all-right (r ∷ rs) t = (right r (and-l (rightDigits r) _ t), all-right rs (and-r (rightDigits r) _ t))
@@ -44,5 +45,5 @@ tested : T (allRight textbook)
 unfolding allRight rightDigits enough mostInside leastInside topTo halfPiTerm areaTerm doubleFactorial factorial scaledTop scaledBottom
 tested = tt
 
-pub digits : AllRight textbook
+pub digits : Every Right textbook
 digits = all-right textbook tested

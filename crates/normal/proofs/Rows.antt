@@ -18,7 +18,7 @@ use Rattle.tail_rows.proofs.Table.{tail-rows}
 use Rattle.tail_rows18.specs.Rows18.{rows18}
 use Rattle.tail_rows18.proofs.Table18.{tail-rows18}
 use Rattle.normal.specs.Probability.{doubleFactorial, halfPiTerm, areaTerm}
-use Rattle.normal.specs.NormalRows.{NearTail, Nearness, Near, Each, nearness, nearness18, halfUnitBefore, shareOf, inHundredMillions}
+use Rattle.normal.specs.NormalRows.{NearTail, Nearness, Near, nearness, nearness18, halfUnitBefore, shareOf, inHundredMillions}
 use Rattle.normal.proofs.Sums.{over, topTo}
 use Rattle.normal.proofs.TailTest.{enough, mostInside, leastInside, at-least-tail, at-most-tail}
 
@@ -110,7 +110,7 @@ allPassed f rs [] = true
 allPassed f [] (n ∷ ns) = false
 allPassed f (r ∷ rs) (n ∷ ns) = passed f r n && allPassed f rs ns
 
-all-hold : (f : ℕ) (rs : List Row) (ns : List Nearness) → Every (Holds f) rs → T (allPassed f rs ns) → Each (Near f) ns
+all-hold : (f : ℕ) (rs : List Row) (ns : List Nearness) → Every (Holds f) rs → T (allPassed f rs ns) → Every (Near f) ns
 unfolding allPassed
 all-hold f rs [] h t = tt
 all-hold f [] (n ∷ ns) h t = absurd t
@@ -124,8 +124,8 @@ tested18 : T (allPassed fractionBits18 rows18 nearness18)
 unfolding allPassed passed enough mostInside leastInside shortBottom overBottom topTo halfPiTerm areaTerm doubleFactorial factorial scaledTop scaledBottom
 tested18 = tt
 
-pub table : Each (Near fractionBits) nearness
+pub table : Every (Near fractionBits) nearness
 table = all-hold fractionBits rows nearness (tail-rows .table) tested
 
-pub table18 : Each (Near fractionBits18) nearness18
+pub table18 : Every (Near fractionBits18) nearness18
 table18 = all-hold fractionBits18 rows18 nearness18 (tail-rows18 .table18) tested18

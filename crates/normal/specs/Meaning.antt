@@ -5,6 +5,7 @@ use Prim.Native.Nat.{ℕ, _+_, _^_}
 use native.Mathlib.Nat.{one-le-pow}
 use native.Mathlib.Omega.{arith}
 use Rattle.exact.specs.Fraction.{Fraction, whole, _+ᶠ_, _*ᶠ_, _≤ᶠ_, _<ᶠ_}
+use Rattle.tail_rows.specs.Rows.{Every}
 use Rattle.normal.specs.Probability.{areaTerm, AtMostSum, AtLeastSum, AtMostInside, AtMostTail, AtLeastTail}
 
 -- P(|X| ≥ sigmas) is between `digits` and digits + 1, in units of 10^-places
@@ -21,10 +22,6 @@ decimal k n = record { top = n; bottom = 10 ^ k; positive = one-le-pow k 10 (ome
 
 abbrev pub Right : Printed → Type 0
 Right r = AtMostTail (whole (r .sigmas)) (decimal (r .places) (r .digits)) × AtLeastTail (whole (r .sigmas)) (decimal (r .places) (r .digits + 1))
-
-abbrev pub AllRight : List Printed → Type 0
-AllRight [] = Unit {0}
-AllRight (r ∷ rs) = Right r × AllRight rs
 
 -- P(|X| ≥ 1), .. P(|X| ≥ 10), to twelve digits as textbooks print them
 abbrev pub textbook : List Printed
@@ -55,4 +52,4 @@ pub record Meaning : Type 0 where
   pub at-most-one : (x c : Fraction) → AtMostInside x c → c ≤ᶠ whole 1
   pub near-one : (c : Fraction) → c <ᶠ whole 1 → (x : Fraction) × AtMostInside x c
   -- the digits that textbooks print
-  pub digits : AllRight textbook
+  pub digits : Every Right textbook

@@ -6,6 +6,7 @@ use native.Mathlib.Omega.{arith}
 use Rattle.exact.specs.Fraction.{Fraction, dyadic, _+ᶠ_, _*ᶠ_, _≤ᶠ_}
 use Rattle.box_muller.specs.Steps.{fractionBits, fractionBits18}
 use Rattle.tails.specs.Counts.{firstBeyond, secondBeyond}
+use Rattle.tail_rows.specs.Rows.{Every}
 use Rattle.normal.specs.Probability.{AtMostTail, AtLeastTail}
 
 -- n in 10^8
@@ -37,10 +38,6 @@ near s a b = record { size = s; short = a; over = b }
 
 abbrev pub Near : ℕ → Nearness → Type 0
 Near f r = NearTail (halfUnitBefore f (r .size)) (shareOf (firstBeyond f (r .size))) (inHundredMillions (r .short)) (inHundredMillions (r .over))
-
-abbrev pub Each : (Nearness → Type 0) → List Nearness → Type 0
-Each P [] = Unit {0}
-Each P (r ∷ rs) = P r × Each P rs
 
 -- The largest size, 8.2 σ, 8 σ, 7.5 σ, 7, 6, .. 1 σ, the quartile (0.6745 σ) and one unit, in samples of 16 bits and of 18.
 abbrev pub nearness : List Nearness
@@ -78,8 +75,8 @@ nearness18 =
     ∷ []
 
 pub record NormalTails : Type 0 where
-  pub table : Each (Near fractionBits) nearness
-  pub table18 : Each (Near fractionBits18) nearness18
+  pub table : Every (Near fractionBits) nearness
+  pub table18 : Every (Near fractionBits18) nearness18
   -- as many second samples have each size
   pub second : (f s : ℕ) → f ≤ 49 → secondBeyond f s ≡ firstBeyond f s
   -- "near" by some fraction t is near by every fraction: at most the probability, and at least it

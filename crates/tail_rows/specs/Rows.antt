@@ -17,7 +17,8 @@ row s a b = record { size = s; low = a; high = b }
 abbrev pub Holds : ℕ → Row → Type 0
 Holds f r = (r .low ≤ firstBeyond f (r .size)) × (firstBeyond f (r .size) ≤ r .high)
 
-abbrev pub Every : (Row → Type 0) → List Row → Type 0
+-- each member of a list
+abbrev pub Every : {A : Type 0} → (A → Type 0) → List A → Type 0
 Every P [] = Unit {0}
 Every P (r ∷ rs) = P r × Every P rs
 
