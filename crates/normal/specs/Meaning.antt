@@ -42,8 +42,8 @@ pub record Meaning : Type 0 where
   -- The cuts are those of one number for every x: what is at most it is at most what is at least it, and of t < u either t is at most it or u is at least it.
   pub meet : (x t u : Fraction) → AtMostTail x t → AtLeastTail x u → t ≤ᶠ u
   pub located : (x t u : Fraction) → t <ᶠ u → AtMostTail x t ⊎ AtLeastTail x u
-  -- The sum B of the area's terms is 0 at 0, and from x to x + h it grows by at least h (1 + x B(x)) and at most h (1 + (x + h) B(x + h)), so B' = 1 + x B:
-  -- e^(-x²/2) B(x) has the derivative e^(-x²/2), and is the area under e^(-t²/2) from 0 to x.
+  -- The sum B of the area's terms is 0 at 0, and from x to x + h it grows by at least h (1 + x B(x)) and at most h (1 + (x + h) B(x + h)), so B' = 1 + x B.
+  -- By the product rule, which is left to the reader, e^(-x²/2) B(x) has the derivative e^(-x²/2): it is the area under e^(-t²/2) from 0 to x.
   pub begins : AtLeastSum (areaTerm (whole 0)) (whole 0)
   pub slope-least : (x h b : Fraction) → AtMostSum (areaTerm x) b → AtMostSum (areaTerm (x +ᶠ h)) (b +ᶠ h *ᶠ (whole 1 +ᶠ x *ᶠ b))
   pub slope-most : (x h b c : Fraction) → AtLeastSum (areaTerm x) b → AtLeastSum (areaTerm (x +ᶠ h)) c

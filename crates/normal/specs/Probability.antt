@@ -1,6 +1,6 @@
 -- The probability that a standard normal number X is large in size, as cuts in fractions in the manner of `exact`. By three series of positive terms,
 --     P(|X| < x)² (π/2) e^(x²) = (x + x³/3 + x⁵/(3·5) + x⁷/(3·5·7) + ..)²    and    π/2 = 1 + 1/3 + 1·2/(3·5) + 1·2·3/(3·5·7) + ..
--- Nothing of this has to be believed: specs/Meaning.antt says what the cuts are.
+-- The series need not be taken on trust: specs/Meaning.antt says what the cuts are.
 use Prim.Native.Nat.{ℕ, zero, suc, _+_, _*_, _^_, _<_}
 use native.Mathlib.Nat.{mul-pos, one-le-pow}
 use native.Mathlib.Omega.{arith}
