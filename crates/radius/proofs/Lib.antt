@@ -5,3 +5,4 @@ pub mod Ranges
 mod LastCell
 mod LogarithmMargin
 pub mod RadiusMargin
+pub mod FarMargin

@@ -1,0 +1,2 @@
+-- How many of the 2^64 inputs give large samples, row by row.
+pub mod Rows
