@@ -1,0 +1,1 @@
+// Maximal equidistribution of the streams: definitions in specs/, laws in proofs/.
