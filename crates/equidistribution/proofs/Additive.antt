@@ -7,7 +7,7 @@ use lib.Pow.{pow-pos}
 use Rattle.bit_matrix.specs.Matrices.{repeat, Additive}
 use Rattle.bit_matrix.proofs.Additive.{xor-swap, xor-assoc, shr-additive, mod-additive, then-additive}
 use Rattle.streams.specs.declared.Stream.{Stream}
-use Rattle.streams.specs.Streams.{step, advance, output, fresh}
+use Rattle.streams.specs.Streams.{advance, output, fresh}
 use Rattle.streams.specs.Recurrence.{drawAt, InRange}
 use Rattle.streams.proofs.Skip.{step-additive}
 use Rattle.streams.proofs.Theorems.{moved-range}

@@ -1,12 +1,15 @@
 -- Equally many contents: of one stream, and of two for the numbers k and v.
-use mathlib.Core.Path.{_≡_, sym, ap, ap₂, _∙_}
-use Prim.Native.Nat.{ℕ, suc, _+_, _-_, _*_, _/_, _%_, _^_, _≤_, _<_}
+use mathlib.Core.Path.{_≡_, sym, ap, _∙_}
+use Prim.Native.Nat.{ℕ, suc, _+_, _-_, _*_, _/_, _%_, _^_, _<_}
 use native.Mathlib.Nat.{div-one}
 use native.Mathlib.Omega.{arith}
 use lib.Bits.{bitXor, xor-lt, xor-self, xor-shr, xor-comm}
 use Rattle.bit_matrix.proofs.Additive.{xor-assoc}
 use Rattle.streams.specs.declared.Stream.{Stream}
-use Rattle.streams.specs.Recurrence.{drawAt, InRange}
+use Rattle.streams.specs.declared.Generator.{Generator}
+use Rattle.streams.specs.Streams.{uniformsOf, after, skipOf}
+use Rattle.streams.specs.Recurrence.{drawAt, InRange, Sound}
+use Rattle.streams.proofs.Theorems.{sound, pairs-accepted, after-moved, numbers-are}
 use Rattle.equidistribution.specs.Equidistribution.{EquallyMany, Words, Shows, Equidistributed, Contents, BothInRange, Gives}
 use Rattle.equidistribution.proofs.Additive.{_⊕_, draw-add, draw-lt, twice-same, range-add}
 use Rattle.equidistribution.proofs.Reach.{Reach}
@@ -84,3 +87,13 @@ pairs t E k v k′ v′ hk hv hk′ hv′ =
           let (a, b) = shows t k′ v′ hk′ hv′ c r g in
           gives t k v hk hv (A .swap (c .0), B .swap (c .1)) (A .back (c .0) (r .0) a) (B .back (c .1) (r .1) b);
     }
+
+-- Of a record: by the history of its draws.
+pub record-pairs : (t : ℕ) (g : Generator) → InRange (g .a) → InRange (g .b) → skipOf g t .code ≡ 0
+    → Gives t (λ j. uniformsOf (after j g) .k) (λ j. uniformsOf (after j g) .v) (g .a, g .b)
+unfolding skipOf
+record-pairs t g ra rb e j h =
+    let (fits, room, none) = pairs-accepted g t .0 e in
+    let S : Sound g = sound g ra rb fits in
+    let (k-is, v-is) = numbers-are j g S none (omega arith) in
+    rw (after-moved j g S none (omega arith)) (sym k-is, sym v-is)

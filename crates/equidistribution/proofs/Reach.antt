@@ -8,7 +8,7 @@ use native.Mathlib.Decide.{decLe}
 use native.Mathlib.Omega.{arith}
 use lib.Dec.{T, eqb, eqb→eq}
 use lib.Bits.{bitXor, xor-lt, xor-shr, xor-comm, xor-zero-r}
-use lib.Pow.{pow-pos, pow-add, high, low, shr-lt, shr-mod, shr-shr, shl-lt, shl-shr}
+use lib.Pow.{pow-pos, pow-add, high, low, shr-lt, shr-shr, shl-lt, shl-shr}
 use mir.Facts.{and-yes}
 use Rattle.bit_matrix.specs.Matrices.{repeat, applied, units}
 use Rattle.bit_matrix.proofs.Additive.{shl-additive}
