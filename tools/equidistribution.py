@@ -5,7 +5,7 @@ of t successive draws are zeros, and in the last draw the unit words 1, 2, 4, ..
   python3 tools/equidistribution.py           compare the columns of crate `equidistribution` with those worked out
   python3 tools/equidistribution.py --write   write them anew (then run `rt fmt`)
 
-It stands outside the gate: the crate's computed tests decide whether the columns are right."""
+The gate runs this; the crate's computed tests decide whether the columns are right."""
 import pathlib
 import re
 import sys

@@ -5,8 +5,8 @@
   python3 tools/normal.py --write   write the rows anew
 
 A row has, in 10^-8 of the probability, how far the share of inputs that give a first sample of a size or more can be short of the probability that a
-normal number has that size when it is rounded to units, and how far above it. It stands outside the gate: the gate proves the rows, and a row with a
-closer bound than this script's is refused there."""
+normal number has that size when it is rounded to units, and how far above it. The gate runs this, and proves the rows besides: a row with a closer bound
+than this script's is refused there."""
 import re
 import sys
 

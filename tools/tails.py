@@ -5,8 +5,8 @@ The numbers that tools/datasheet counted must lie within them.
   python3 tools/tails.py           compare the rows of specs/ with those worked out, and the counted numbers with the rows
   python3 tools/tails.py --write   write the rows anew
 
-A row has the least and the most inputs of all 2^64 that can give a first sample of a size or more. It stands outside the gate: the gate
-proves the rows, and a row with a closer bound than this script's is refused there."""
+A row has the least and the most inputs of all 2^64 that can give a first sample of a size or more. The gate runs this, and proves the rows
+besides: a row with a closer bound than this script's is refused there."""
 import json
 import math
 import pathlib

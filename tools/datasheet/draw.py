@@ -1,10 +1,20 @@
 #!/usr/bin/env python3
-"""Draws the pictures of the data sheet and fills in its text, tools/datasheet/sheet.md, both from docs/datasheet/numbers.json alone."""
-import json, math, os, re
-import matplotlib
-matplotlib.use('Agg')
-import matplotlib.pyplot as plt
-from PIL import Image
+"""Draws the pictures of the data sheet and fills in its text, tools/datasheet/sheet.md, both from docs/datasheet/numbers.json; what is proved of the
+distribution comes from the rows of specs/.
+
+  python3 tools/datasheet/draw.py        pictures and text; needs Debian's python3-matplotlib
+  python3 tools/datasheet/draw.py text   the text alone"""
+import json, math, os, re, sys
+
+sys.path.append(os.path.join(os.path.dirname(os.path.abspath(__file__)), '..'))
+import normal as normal_rows, tails as tail_rows
+
+TEXT_ALONE = sys.argv[1:] == ['text']
+if not TEXT_ALONE:
+    import matplotlib
+    matplotlib.use('Agg')
+    import matplotlib.pyplot as plt
+    from PIL import Image
 
 INPUTS = 2 ** 64
 PEERS = {
@@ -152,10 +162,49 @@ def places(x, digits):
     return re.sub(r'^-(0\.0*)$', r'\1', f'{x:.{digits}f}')
 
 
+def proved(place):
+    """The proved rows by size, at 11 fraction bits (place 0) or 13: least and most inputs, and how far they can be short of a normal number's and above, in 10^-8."""
+    path, name, _ = tail_rows.LISTS[place]
+    near = {size: (short, over) for size, short, over in normal_rows.stored(normal_rows.LISTS[place][0])}
+    return {size: (low, high, *near[size]) for size, low, high in tail_rows.stored(path, name)}
+
+
+def size_of(sigma, place=0):
+    return math.ceil(sigma * 2 ** tail_rows.LISTS[place][2])
+
+
+def between(row):
+    return f'exactly {plain(row[0])}' if row[0] == row[1] else f'{plain(row[0])} to {plain(row[1])}'
+
+
+def at_most(n):
+    """n in 10^8, rounded up."""
+    return '0' if n == 0 else f'{n / 100:.2f} in 10^6' if n < 10 ** 4 else f'{math.ceil(n / 1000) / 1000:.3f} %'
+
+
+def other_rows():
+    """The proved rows that are not in the table of tails."""
+    counted = {size_of(x) for x, _, _ in numbers['exact']['tails']}
+    yield '| samples | of this size or more | inputs of 2^64, proved | short of a normal number\'s by at most | above by at most |'
+    yield '|---|---:|---:|---:|---:|'
+    for place, bits in enumerate((16, 18)):
+        for size, row in proved(place).items():
+            if place or size not in counted:
+                sigma = size / 2 ** tail_rows.LISTS[place][2]
+                size = f'{plain(size)} {"unit" if size == 1 else "units"}' + (f', {float(f"{sigma:.4f}"):g} σ' if size > 1 else '')
+                yield f'| {bits} bits | {size} | {between(row)} | {at_most(row[2])} | {at_most(row[3])} |'
+
+
+def variance(name):
+    """The bounds of the variance, in σ², of specs/."""
+    text = (tail_rows.CRATES / 'tails' / 'specs' / 'Variances.antt').read_text(encoding='utf-8')
+    return ' to '.join(f'{int(n) / 100000:g}' for n in re.search(rf'^{name} = \((\w+), (\w+)\)$', text, re.M).groups())
+
+
 def tails():
-    drawn = numbers['drawn']
-    yield '| beyond | inputs of 2^64, counted | probability | short of a normal number\'s | of 10^10 drawn, seeds pi | seeds e | expected |'
-    yield '|---:|---:|---:|---:|---:|---:|---:|'
+    drawn, rows = numbers['drawn'], proved(0)
+    yield '| beyond | inputs of 2^64, counted | proved | probability, counted | short of a normal number\'s, counted | proved: short, above by at most | of 10^10 drawn, seeds pi | seeds e | expected |'
+    yield '|---:|---:|---:|---:|---:|---:|---:|---:|---:|'
     for j, (x, count, normal) in enumerate(numbers['exact']['tails']):
         share = 2 * count / INPUTS
         lack = 1 - share / (2 * normal)
@@ -163,7 +212,9 @@ def tails():
         found = [plain(drawn[seeds]['tails'][j]) for seeds in ('pi', 'e')]
         expected = share * drawn['pi']['samples']
         expected = f'{expected:,.0f}' if expected >= 10 else f'{expected:.1g}' if expected >= 0.01 else scientific(expected, 0)
-        yield f'| {x} σ | {plain(2 * count)} | {scientific(share, 3)} | {lack} | {found[0]} | {found[1]} | {expected} |'
+        row = rows[size_of(x)]
+        yield (f'| {x} σ | {plain(2 * count)} | {between(row)} | {scientific(share, 3)} | {lack} | {at_most(row[2])}, {at_most(row[3])} '
+               f'| {found[0]} | {found[1]} | {expected} |')
 
 
 def moments():
@@ -243,7 +294,10 @@ def words():
     """What stands for each {name} of the text."""
     exact, drawn, seeds, memory = (numbers[part] for part in ('exact', 'drawn', 'seeds', 'memory'))
     short = {x: most for x, most, _ in exact['short']}
+    rows = {x: proved(0)[size_of(x)] for x in (1, 6, 7, 8)}
     return {
+        'other-rows': other_rows, 'variance': variance('bounds'), 'variance18': variance('bounds18'), 'inputs6': between(rows[6]), 'inputs8': between(rows[8]),
+        **{f'least{x}': at_most(rows[x][2]) for x in rows}, 'above': at_most(max(row[3] for row in proved(0).values())),
         'tails': tails, 'moments': moments, 'neighbours': neighbours, 'tests': tests, 'speeds': speeds, 'worst': worst,
         'firsts': firsts, 'compared': plain(sum(numbers['errors']['16'][sweep]['samples'] for sweep in 'vk')),
         'short5': f'{short[5] * 1e6:.1f}', 'short6': f'{short[6] * 1e6:.1f}', 'short7': f'{short[7] * 1e6:.0f}', 'short7.5': f'{short[7.5] * 100:.3f} %',
@@ -275,7 +329,8 @@ def fill():
         file.write(re.sub(r'\{([\w.-]+)\}', word, text))
 
 
-os.makedirs('docs/datasheet', exist_ok=True)
-for draw in (draw_errors, draw_density, draw_speed, draw_seeds):
-    draw()
+if not TEXT_ALONE:
+    os.makedirs('docs/datasheet', exist_ok=True)
+    for draw in (draw_errors, draw_density, draw_speed, draw_seeds):
+        draw()
 fill()
