@@ -14,7 +14,7 @@ use Rattle.bit_matrix.specs.Matrices.{repeat}
 use Rattle.bit_matrix.proofs.Theorems.{repeat-add}
 use Rattle.streams.specs.Streams.{step}
 use Rattle.streams.specs.Recurrence.{top, sequence, Params}
-use Rattle.streams.proofs.Register.{step-lt, history, minimum-kept, one-to-one, reads-top, sequence-starts, sequence-follows, sequence-unique}
+use Rattle.streams.proofs.Register.{step-lt, history, minimum-kept, one-to-one, reads-top, top-zero, sequence-starts, sequence-follows, sequence-unique}
 use Rattle.period.specs.Cycle.{OfThree, Back}
 use Rattle.period.proofs.Polynomials.{add, mul, raise, reduce, times, digits, value, power, isZero, isOne, noDivisor}
 use Rattle.period.proofs.Polynomials.{Row, rowTest, rowsTest, periodTest}
@@ -34,10 +34,6 @@ pub record Tested (k q s N : ℕ) : Type 0 where
 pub last-step : (f : ℕ → ℕ) (m x : ℕ) → repeat f (suc m) x ≡ f (repeat f m x)
 unfolding repeat
 last-step f m x = rw (add-one m) at (sym (repeat-add f m 1 x))
-
-top-zero : (i : ℕ) → top 0 i ≡ 0
-unfolding top
-top-zero i = rw (zero-div (2 ^ (31 - i)))
 
 module _ {k q s N : ℕ} (R : Tested k q s N) (x : ℕ) (hx : x < 2 ^ 32) (least : 2 ^ (32 - k) ≤ x) where
   -- ---- Its sequence

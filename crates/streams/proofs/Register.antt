@@ -212,7 +212,7 @@ one-to-one-reached {k} {q} {s} P x y hx hy e =
     (omega arith))
     k m l (omega arith))
 
-top-zero : (i : ℕ) → top 0 i ≡ 0
+pub top-zero : (i : ℕ) → top 0 i ≡ 0
 unfolding top
 top-zero i = rw (zero-div (2 ^ (31 - i)))
 

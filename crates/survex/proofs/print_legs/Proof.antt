@@ -1,8 +1,12 @@
 -- `survex::print_legs` meets its contract.
 use native.Mathlib.Omega.{arith}
-use mathlib.Core.Path.{sym, ap, _∙_}
+use mathlib.Core.Path.{_≡_, sym, ap, subst, _∙_}
+use mathlib.Core.List.{List}
+use Prim.Native.Nat.{ℕ}
 use lib.ListN.{length}
 use Rattle.buffer.proofs.Writing.{puts-within}
+use Rattle.buffer.specs.Buffer.{Puts}
+use Rattle.listing_writer.specs.Listing.{refusedRow}
 use Rattle.job.specs.Job.{outputOf}
 use Rattle.job.proofs.Answered.{printed-listed, printed-refused}
 use Rattle.survex.specs.Survex.{survexOf}
@@ -34,6 +38,10 @@ put-refused-requires c κs = search needs
 same-length-2 : tie.Need-same-length-2
 same-length-2 c = search needs
 
+-- bytes that are the output's
+put-as : {n : ℕ} {new row output : List ℕ} (out : List ℕ) → row ≡ output → Puts out 0 row n new → Puts out 0 output n new
+put-as {n} {new} out e p = subst (λ (bytes : List ℕ). Puts out 0 bytes n new) e p
+
 returns-2 : tie.Need-returns-2
 returns-2 c =
     let start = c .before .before .before .before .before .before .before .before .before .before .before .before .args in
@@ -41,7 +49,8 @@ returns-2 c =
     let o = survexOf (start .text .now) in
     let legs = c .before .before .before .before .before .before .before .before .legs in
     let (same, row) = printed-refused o out (λ z. c .before .before .before .before .if1 .left (ap (λ (r : LegsAnswer). r .code) (legs .ensures .0) ∙ z)) in
-    let puts = rw (legs .ensures .1 .0 ∙ same, legs .ensures .0, row) at (c .before .before .put-refused .ensures) in
+    let told : refusedRow (legs .result .code) (legs .result .line) ≡ outputOf o (length out) = rw (legs .ensures .0) row in
+    let puts = put-as out told (rw (legs .ensures .1 .0 ∙ same) at (c .before .before .put-refused .ensures)) in
     (puts, puts-within out 0 (outputOf o (length out)) (omega arith) puts)
 
 pub print-legs-spec : {M : Type 1} → statement M
