@@ -9,9 +9,10 @@ ghost use Rattle.box_muller.specs.Steps.{fractionBits18};
 ghost use Rattle.box_muller.specs.Sample.{samplesOf, threeQuarters};
 ghost use Rattle.exact.specs.Pair.{Close};
 ghost use Rattle.noise.specs.Noise.{pairOf};
-ghost use Rattle.jabulghi.specs.Words.{wordsOf, generatorOf, samplesIn};
-use jabulghi::words::packed;
-use jabulghi::words::unpacked;
+ghost use Rattle.jabulghi_record.specs.Words.{wordsOf, generatorOf};
+ghost use Rattle.jabulghi.specs.Samples.{samplesIn};
+use jabulghi_record::words::packed;
+use jabulghi_record::words::unpacked;
 
 // The two samples of k and v.
 #[no_mangle]

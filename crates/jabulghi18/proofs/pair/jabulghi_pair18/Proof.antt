@@ -8,7 +8,7 @@ use Rattle.box_muller.specs.Steps.{fractionBits18}
 use Rattle.noise.specs.declared.PairAnswer18.{PairAnswer18}
 use Rattle.noise.specs.Noise.{sampledOf, pairAs18, pairOf}
 use Rattle.noise.proofs.Drawn.{pair-sampled}
-use Rattle.jabulghi.specs.Words.{wordsOf}
+use Rattle.jabulghi_record.specs.Words.{wordsOf}
 use Rattle.jabulghi.proofs.Stored.{stored}
 use Rattle.jabulghi18.proofs.pair.jabulghi_pair18.Statement.{statement}
 use Rattle.jabulghi18.proofs.pair.jabulghi_pair18.Tie as tie

@@ -1,7 +1,7 @@
 -- `unpacked` is `generatorOf`.
 use borrow.Author.Needs.{needs}
-use Rattle.jabulghi.proofs.words.unpacked.Statement.{statement}
-use Rattle.jabulghi.proofs.words.unpacked.Tie as tie
+use Rattle.jabulghi_record.proofs.words.unpacked.Statement.{statement}
+use Rattle.jabulghi_record.proofs.words.unpacked.Tie as tie
 
 returns : tie.Need-returns
 returns c = rw (c .joined .ensures)

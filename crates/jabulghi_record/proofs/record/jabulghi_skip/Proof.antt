@@ -1,7 +1,7 @@
 -- `jabulghi_skip` meets its contract: code and record are those of the call below it.
 use mathlib.Core.Path.{refl}
-use Rattle.jabulghi.proofs.record.jabulghi_skip.Statement.{statement}
-use Rattle.jabulghi.proofs.record.jabulghi_skip.Tie as tie
+use Rattle.jabulghi_record.proofs.record.jabulghi_skip.Statement.{statement}
+use Rattle.jabulghi_record.proofs.record.jabulghi_skip.Tie as tie
 
 returns : tie.Need-returns
 returns c =

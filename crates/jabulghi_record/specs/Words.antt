@@ -5,9 +5,7 @@ use native.Mathlib.Nat.{div-add-mod'}
 use mathlib.Core.Path.{_≡_}
 use mathlib.Core.List.{List, [], _∷_}
 use lib.ListN.{getD}
-use lib.IntN.{ℤ}
 use Rattle.streams.specs.declared.Generator.{Generator}
-use Rattle.noise.specs.declared.PairAnswer.{PairAnswer}
 
 abbrev pub wordsOf : Generator → List ℕ
 wordsOf g =
@@ -26,7 +24,3 @@ generatorOf l =
 -- What a call leaves in the ten words is, to the next call, the record that it returned.
 pub kept : (g : Generator) → generatorOf (wordsOf g) ≡ g
 kept g = λ i. record { a = g .a; b = g .b; count = div-add-mod' (g .count) (2 ^ 32) i; waiting = g .waiting; asked = g .asked }
-
--- A pair's two samples, first and second, as they stand in the caller's memory.
-abbrev pub samplesIn : PairAnswer → List ℤ
-samplesIn p = p .first ∷ p .second ∷ []

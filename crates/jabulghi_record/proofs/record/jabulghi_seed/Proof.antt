@@ -1,8 +1,8 @@
 -- `jabulghi_seed` meets its contract: code and record are those of the call below it.
 use mathlib.Core.Path.{ap}
 use Rattle.streams.specs.declared.RecordAnswer.{RecordAnswer}
-use Rattle.jabulghi.proofs.record.jabulghi_seed.Statement.{statement}
-use Rattle.jabulghi.proofs.record.jabulghi_seed.Tie as tie
+use Rattle.jabulghi_record.proofs.record.jabulghi_seed.Statement.{statement}
+use Rattle.jabulghi_record.proofs.record.jabulghi_seed.Tie as tie
 
 returns : tie.Need-returns
 returns c =

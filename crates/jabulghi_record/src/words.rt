@@ -2,7 +2,7 @@
 // whether a request is open and for how many pairs.
 ghost use mathlib.Core.Path.{_≡_};
 ghost use Prim.Native.Nat.{_+_, _*_, _^_};
-ghost use Rattle.jabulghi.specs.Words.{wordsOf, generatorOf};
+ghost use Rattle.jabulghi_record.specs.Words.{wordsOf, generatorOf};
 use streams::Generator;
 use streams::Stream;
 

@@ -1,7 +1,7 @@
 // Calls on a record alone.
 ghost use mathlib.Core.Path.{_≡_};
 ghost use Rattle.streams.specs.Streams.{seedOf, skipOf, askOf, giveUpOf};
-ghost use Rattle.jabulghi.specs.Words.{wordsOf, generatorOf};
+ghost use Rattle.jabulghi_record.specs.Words.{wordsOf, generatorOf};
 use crate::words::packed;
 use crate::words::unpacked;
 use streams::Generator;
