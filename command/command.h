@@ -40,6 +40,13 @@ void progress_start(void);
 void progress_show(uint64_t done, uint64_t all);
 void progress_end(uint64_t done, uint64_t all);
 
+/* system.c: what Linux and Windows do in different ways. */
+void system_start(void);
+int system_open(const char *name);
+double system_seconds(void);
+int system_random(uint32_t numbers[6]);
+extern const char SYSTEM_END_OF_INPUT[];
+
 /* forms.c: numbers and seeds among the words of the command line. */
 bool read_number(const char *word, uint64_t most, uint64_t *number);
 bool read_seeds(const char *word, uint32_t numbers[6]);

@@ -1,6 +1,5 @@
 /* jabulghi: listings, legs, misses, noise and seeds from the command line. It finds the command and calls it. */
 #include "command.h"
-#include <signal.h>
 #include <string.h>
 
 static const char HELP[] =
@@ -44,7 +43,6 @@ static int run(int count, char **words) {
 }
 
 int main(int count, char **words) {
-    signal(SIGPIPE, SIG_IGN); /* a write to a closed pipe, or beyond a limit on files, then fails, and is told as any other */
-    signal(SIGXFSZ, SIG_IGN);
+    system_start();
     return finish(run(count - 1, words + 1));
 }

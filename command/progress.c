@@ -2,21 +2,14 @@
 #include "command.h"
 #include <inttypes.h>
 #include <stdio.h>
-#include <time.h>
 #include <unistd.h>
 
 static bool wanted, shown;
 static double next;
 
-static double seconds(void) {
-    struct timespec now;
-    clock_gettime(CLOCK_MONOTONIC, &now);
-    return (double)now.tv_sec + (double)now.tv_nsec / 1e9;
-}
-
 void progress_start(void) {
     wanted = isatty(STDERR_FILENO) && !isatty(STDOUT_FILENO);
-    next = seconds() + 1;
+    next = system_seconds() + 1;
 }
 
 static void show(uint64_t done, uint64_t all) {
@@ -26,9 +19,9 @@ static void show(uint64_t done, uint64_t all) {
 
 /* Once a second from the first second on. */
 void progress_show(uint64_t done, uint64_t all) {
-    if (!wanted || seconds() < next) return;
+    if (!wanted || system_seconds() < next) return;
     show(done, all);
-    next = seconds() + 1;
+    next = system_seconds() + 1;
 }
 
 void progress_end(uint64_t done, uint64_t all) {

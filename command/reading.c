@@ -1,7 +1,6 @@
 /* Reads a whole text into memory. */
 #include "command.h"
 #include <errno.h>
-#include <fcntl.h>
 #include <stdio.h>
 #include <stdlib.h>
 #include <string.h>
@@ -36,10 +35,10 @@ int read_text(const char *name, text *all) {
     *all = (text){name, NULL, 0};
     if (strcmp(name, "-") == 0) {
         all->name = "standard input";
-        if (isatty(STDIN_FILENO)) fprintf(stderr, "jabulghi: reading standard input up to Ctrl-D\n");
+        if (isatty(STDIN_FILENO)) fprintf(stderr, "jabulghi: reading standard input up to %s\n", SYSTEM_END_OF_INPUT);
         return read_all(STDIN_FILENO, all);
     }
-    int from = open(name, O_RDONLY);
+    int from = system_open(name);
     if (from < 0) return trouble(name, strerror(errno));
     int status = read_all(from, all);
     close(from);

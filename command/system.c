@@ -1,0 +1,66 @@
+/* What Linux and Windows do in different ways: writes that fail, bytes as they are, files' names, the time and randomness. */
+#ifdef _WIN32
+#define _CRT_RAND_S
+#endif
+#include "command.h"
+#include <errno.h>
+#include <fcntl.h>
+#include <stdio.h>
+#include <stdlib.h>
+#include <string.h>
+
+#ifdef _WIN32
+#include <io.h>
+#include <windows.h>
+
+const char SYSTEM_END_OF_INPUT[] = "Ctrl-Z and Enter";
+
+/* Bytes go through as they are: else a line feed is written as two bytes, and Ctrl-Z ends a text. Typed lines alone are read as text. */
+void system_start(void) {
+    if (!_isatty(0)) _setmode(0, _O_BINARY);
+    _setmode(1, _O_BINARY);
+}
+
+int system_open(const char *name) { return _open(name, _O_RDONLY | _O_BINARY); }
+
+double system_seconds(void) { return (double)GetTickCount64() / 1e3; }
+
+int system_random(uint32_t numbers[6]) {
+    for (int j = 0; j < 6; j++) {
+        unsigned number;
+        if (rand_s(&number) != 0) return trouble("rand_s", strerror(errno));
+        numbers[j] = number;
+    }
+    return DONE;
+}
+
+#else
+#include <signal.h>
+#include <time.h>
+
+#define SOURCE "/dev/urandom"
+
+const char SYSTEM_END_OF_INPUT[] = "Ctrl-D";
+
+/* A write to a closed pipe, or beyond a limit on files, fails, and is told as any other. */
+void system_start(void) {
+    signal(SIGPIPE, SIG_IGN);
+    signal(SIGXFSZ, SIG_IGN);
+}
+
+int system_open(const char *name) { return open(name, O_RDONLY); }
+
+double system_seconds(void) {
+    struct timespec now;
+    clock_gettime(CLOCK_MONOTONIC, &now);
+    return (double)now.tv_sec + (double)now.tv_nsec / 1e9;
+}
+
+int system_random(uint32_t numbers[6]) {
+    FILE *source = fopen(SOURCE, "rb");
+    bool whole = source != NULL && fread(numbers, sizeof numbers[0], 6, source) == 6;
+    int status = whole ? DONE : trouble(SOURCE, strerror(errno));
+    if (source != NULL) fclose(source);
+    return status;
+}
+#endif
