@@ -2,7 +2,7 @@
 # make miss [JOB=file]  the same, and then how far the loop misses
 # make command          the command target/jabulghi
 # make install          the command, the library, its header and the manual pages, below PREFIX=folder (a packager's DESTDIR=folder stands before it)
-# make lib TARGET=name  the library for another processor, aarch64 or riscv64: target/name/libjabulghi.a
+# make lib TARGET=name  the library for another processor: target/name/libjabulghi.a; TARGET=list prints the names and what each serves
 # make test             everything: the gate, every proof from nothing and the comparison with another implementation
 # make lib              proves and writes target/staticlib/libjabulghi.a, for C and Rust
 # make bench            times beside plain C and other generators
