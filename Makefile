@@ -3,6 +3,8 @@
 # make command          the command target/jabulghi
 # make install          the command, the library, its header and the manual pages, below PREFIX=folder (a packager's DESTDIR=folder stands before it)
 # make lib TARGET=name  the library for another processor: target/name/libjabulghi.a; TARGET=list prints the names and what each serves
+# make wasm             the library for browsers and node: target/wasm32/jabulghi.wasm and jabulghi.js (docs/WEB.md)
+# make windows          the library and the command for Windows: target/x86_64-windows/jabulghi.dll, libjabulghi.a and jabulghi.exe
 # make test             everything: the gate, every proof from nothing and the comparison with another implementation
 # make lib              proves and writes target/staticlib/libjabulghi.a, for C and Rust
 # make bench            times beside plain C and other generators
@@ -23,9 +25,15 @@ TARGET ?=
 lib:
 	$(if $(TARGET),tools/target $(TARGET),tools/library)
 
-.PHONY: command install
+.PHONY: command wasm windows install
 command:
 	tools/command
+
+wasm:
+	tools/wasm
+
+windows:
+	tools/windows
 
 PREFIX ?= /usr/local
 DESTDIR ?=

@@ -21,7 +21,27 @@ void system_start(void) {
     _setmode(1, _O_BINARY);
 }
 
-int system_open(const char *name) { return _open(name, _O_RDONLY | _O_BINARY); }
+/* A command line has at most 32,767 units of 16 bits, and a unit at most three bytes in UTF-8. */
+#define UNITS 32768
+
+int main(int count, char **words);
+
+/* Windows hands over the words in UTF-16. As UTF-8 they can name any file. */
+int wmain(int count, wchar_t **wide) {
+    static char bytes[3 * UNITS], *words[UNITS];
+    char *at = bytes;
+    for (int j = 0; j < count; j++) {
+        words[j] = at;
+        at += WideCharToMultiByte(CP_UTF8, 0, wide[j], -1, at, (int)(bytes + sizeof bytes - at), NULL, NULL);
+    }
+    return main(count, words);
+}
+
+int system_open(const char *name) {
+    static wchar_t wide[UNITS];
+    MultiByteToWideChar(CP_UTF8, 0, name, -1, wide, UNITS);
+    return _wopen(wide, _O_RDONLY | _O_BINARY);
+}
 
 double system_seconds(void) { return (double)GetTickCount64() / 1e3; }
 
