@@ -43,6 +43,7 @@ void progress_end(uint64_t done, uint64_t all);
 /* system.c: what Linux and Windows do in different ways. */
 void system_start(void);
 int system_open(const char *name);
+bool system_terminal(int file);
 double system_seconds(void);
 int system_random(uint32_t numbers[6]);
 extern const char SYSTEM_END_OF_INPUT[];

@@ -8,7 +8,7 @@ static bool wanted, shown;
 static double next;
 
 void progress_start(void) {
-    wanted = isatty(STDERR_FILENO) && !isatty(STDOUT_FILENO);
+    wanted = system_terminal(STDERR_FILENO) && !system_terminal(STDOUT_FILENO);
     next = system_seconds() + 1;
 }
 

@@ -35,7 +35,7 @@ int read_text(const char *name, text *all) {
     *all = (text){name, NULL, 0};
     if (strcmp(name, "-") == 0) {
         all->name = "standard input";
-        if (isatty(STDIN_FILENO)) fprintf(stderr, "jabulghi: reading standard input up to %s\n", SYSTEM_END_OF_INPUT);
+        if (system_terminal(STDIN_FILENO)) fprintf(stderr, "jabulghi: reading standard input up to %s\n", SYSTEM_END_OF_INPUT);
         return read_all(STDIN_FILENO, all);
     }
     int from = system_open(name);

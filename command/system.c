@@ -17,7 +17,7 @@ const char SYSTEM_END_OF_INPUT[] = "Ctrl-Z and Enter";
 
 /* Bytes go through as they are: else a line feed is written as two bytes, and Ctrl-Z ends a text. Typed lines alone are read as text. */
 void system_start(void) {
-    if (!_isatty(0)) _setmode(0, _O_BINARY);
+    if (!system_terminal(0)) _setmode(0, _O_BINARY);
     _setmode(1, _O_BINARY);
 }
 
@@ -43,6 +43,11 @@ int system_open(const char *name) {
     return _wopen(wide, _O_RDONLY | _O_BINARY);
 }
 
+bool system_terminal(int file) {
+    DWORD mode;
+    return GetConsoleMode((HANDLE)_get_osfhandle(file), &mode) != 0;
+}
+
 double system_seconds(void) { return (double)GetTickCount64() / 1e3; }
 
 int system_random(uint32_t numbers[6]) {
@@ -57,6 +62,7 @@ int system_random(uint32_t numbers[6]) {
 #else
 #include <signal.h>
 #include <time.h>
+#include <unistd.h>
 
 #define SOURCE "/dev/urandom"
 
@@ -69,6 +75,8 @@ void system_start(void) {
 }
 
 int system_open(const char *name) { return open(name, O_RDONLY); }
+
+bool system_terminal(int file) { return isatty(file) != 0; }
 
 double system_seconds(void) {
     struct timespec now;
