@@ -5,20 +5,22 @@
 #include <string.h>
 
 #if defined(__riscv)
+#define CLOCK 0xFFFFFFFF
 static void start_clock(void) {}
 static uint32_t now(void) { uint32_t x; __asm__ volatile(".insn i 0x73, 2, %0, x0, -1278" : "=r"(x)); return x; } /* csrr minstret */
 static void count_down(uint32_t n) { __asm__ volatile("1: addi %0, %0, -1\nbnez %0, 1b" : "+r"(n)); }
 #else
+#define CLOCK 0xFFFFFF /* it has 24 bits, and counts down */
 static volatile uint32_t *const SYSTICK = (volatile uint32_t *)0xE000E010;
-static void start_clock(void) { SYSTICK[1] = 0xFFFFFF; SYSTICK[2] = 0; SYSTICK[0] = 5; }
-static uint32_t now(void) { return 0xFFFFFF - SYSTICK[2]; }
-static void count_down(uint32_t n) { __asm__ volatile("1: subs %0, %0, #1\nbne 1b" : "+l"(n) : : "cc"); }
+static void start_clock(void) { SYSTICK[1] = CLOCK; SYSTICK[2] = 0; SYSTICK[0] = 5; }
+static uint32_t now(void) { return CLOCK - SYSTICK[2]; }
+static void count_down(uint32_t n) { __asm__ volatile(".syntax unified\n1: subs %0, %0, #1\nbne 1b" : "+l"(n) : : "cc"); }
 #endif
 
 #define LOOP 1000000u
 static uint32_t begun, ticks_of_loop;
 static void begin(void) { begun = now(); }
-static uint32_t ticks(void) { uint32_t end = now(); return (end - begun) & 0xFFFFFF; }
+static uint32_t ticks(void) { uint32_t end = now(); return (end - begun) & CLOCK; }
 static void end(const char *what, uint32_t times) {
     uint64_t passed = ticks();
     printf("%s\t%lu\n", what, (unsigned long)(passed * 2 * LOOP / ticks_of_loop / times));
