@@ -19,6 +19,7 @@ typedef enum { JOB, SURVEY, LISTING, RECORD } subject;
 /* The commands: each takes the words after its own name and returns an exit status. */
 int list(int count, char **words);
 int legs(int count, char **words);
+int level(int count, char **words);
 int misses(int count, char **words);
 int noise(int count, char **words);
 int seeds(int count, char **words);

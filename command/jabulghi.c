@@ -6,6 +6,8 @@
 static const char HELP[] =
     "usage: jabulghi list [FILE]     the listing of a job: each shot with its noise\n"
     "       jabulghi legs [FILE]     the shot lines of a Survex survey's level legs\n"
+    "       jabulghi level [--loop N] [FILE]\n"
+    "                                ordinary Survex as the strict text that legs takes; not proved\n"
     "       jabulghi misses [FILE]   how far the loop of a listing misses, in millimetres\n"
     "       jabulghi noise --seeds SEEDS -n N [--skip M] [--bits 16|18] [--text|--raw]\n"
     "       jabulghi seeds           a job's line of seeds, from the system's randomness\n"
@@ -23,7 +25,7 @@ static const char HELP[] =
     "Exit status: 0 done; 1 refused, with the reason on standard error; 2 wrong usage, or a read or write failed.\n";
 
 static const struct { const char *name; int (*run)(int count, char **words); } COMMANDS[] = {
-    {"list", list}, {"legs", legs}, {"misses", misses}, {"noise", noise}, {"seeds", seeds},
+    {"list", list}, {"legs", legs}, {"level", level}, {"misses", misses}, {"noise", noise}, {"seeds", seeds},
 };
 
 static bool asks_for(const char *option, int count, char **words) {
