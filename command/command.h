@@ -16,6 +16,9 @@ typedef struct { const char *name; uint8_t *bytes; size_t length; } text;
 /* What a refusal is about: each has sentences of its own. */
 typedef enum { JOB, SURVEY, LISTING, RECORD } subject;
 
+/* A line that was refused, its line feed included, and the text that it stands in; a line that is missing has no bytes. */
+typedef struct { const uint8_t *text, *bytes; size_t length, number; } bad_line;
+
 /* The commands: each takes the words after its own name and returns an exit status. */
 int list(int count, char **words);
 int legs(int count, char **words);
@@ -26,6 +29,18 @@ int seeds(int count, char **words);
 
 /* sentences.c: says on standard error why a text was refused, and where; "FILE:LINE: sentence (NUMBER)", without a line where the whole text is meant. */
 int refuse(const text *refused, subject about, size_t line, uint32_t number);
+
+/* legs_cause.c: what is wrong with a line of a survey, asked in this order. */
+bool is_other_data_line(const bad_line *line);
+bool is_command(const bad_line *line);
+bool lacks_data_line(const bad_line *line);
+bool has_few_fields(const bad_line *line);
+bool has_many_fields(const bad_line *line);
+bool has_bad_from(const bad_line *line);
+bool has_bad_to(const bad_line *line);
+bool has_bad_tape(const bad_line *line);
+bool has_long_tape(const bad_line *line);
+bool has_large_compass(const bad_line *line);
 
 /* reading.c: reads a whole file, or standard input where the name is "-". */
 int read_text(const char *name, text *read);

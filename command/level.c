@@ -74,5 +74,7 @@ int level(int count, char **words) {
     if (status != DONE) return status;
     status = level_text(&survey, loop, &strict, &said);
     if (status != TROUBLE) fwrite(said.bytes, 1, said.length, stderr);
-    return status == DONE ? put(strict.bytes, strict.length) : status;
+    if (status == DONE) status = put(strict.bytes, strict.length);
+    free(survey.bytes), free(strict.bytes), free(said.bytes);
+    return status;
 }

@@ -124,8 +124,10 @@ static bool is_taken(const stations *named, size_t count, const char *new_name) 
 
 /* S1, S2 and so on: the next that no station has. */
 static void number_station(stations *named, station *unnamed, unsigned *last) {
-    do snprintf(unnamed->new_name, NEW_NAME, "S%u", ++*last);
-    while (is_taken(named, named->count, unnamed->new_name));
+    char numbered[NEW_NAME];
+    do snprintf(numbered, NEW_NAME, "S%u", ++*last);
+    while (is_taken(named, named->count, numbered));
+    memcpy(unnamed->new_name, numbered, NEW_NAME);
 }
 
 static void add_station(survey *s, stations *named, size_t one) {

@@ -17,7 +17,7 @@ static const char *const SENTENCES[] = {
     [OTHER_READING] = "no such reading of normal data",
     [BACKSIGHT] = "backsights are not taken: work them into the legs first",
     [SEVERAL_LINES] = "legs over several lines are not taken: write from and to on each leg",
-    [BAD_DATA] = "data line lacks from, to, tape, compass or clino, has one twice, or has too many",
+    [BAD_DATA] = "data line lacks from, to, tape or compass, has one twice, or has too many",
     [FEW_FIELDS] = "leg has fewer fields than the data line",
     [MANY_FIELDS] = "leg has more fields than the data line",
     [SPLAY] = "splay legs are not taken: leave them out first",
@@ -32,6 +32,7 @@ static const char *const SENTENCES[] = {
     [OTHER_FILE] = "other files are not read: put them in first",
     [OTHER_CASE] = "*case takes tolower, toupper or preserve",
     [FEW_EQUATES] = "*equate takes two stations or more",
+    [MORE_WORDS] = "more words than the command takes",
     [OTHER_COMMAND] = "command that level does not take",
     [NO_LEG] = "no leg",
     [MANY_LEGS] = "more than 500 legs, and a job takes 500",
@@ -115,7 +116,7 @@ static void say_passed(const survey *s, growing *said) {
         put_in(said, "%s %zu *%s", between, s->passed[j], PASSED_OVER[j]);
         between = ",";
     }
-    if (s->readings > 0) put_in(said, "%s %zu lines of other data", between, s->readings);
+    if (s->readings > 0) put_in(said, "%s %zu lines of passage data", between, s->readings);
     put_in(said, "\n");
 }
 

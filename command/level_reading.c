@@ -14,6 +14,11 @@ bool refuse_survey(survey *s, reason why, part word) {
 
 static settings *now(survey *s) { return &s->scopes[s->depth]; }
 
+static bool ends_here(survey *s) {
+    part word;
+    return !next_word(&s->lines, &word) || refuse_survey(s, MORE_WORDS, word);
+}
+
 /* ---- Scopes */
 
 static bool take_begin(survey *s) {
@@ -25,18 +30,18 @@ static bool take_begin(survey *s) {
     inside.line = s->lines.number;
     inside.label = label;
     s->scopes[++s->depth] = inside;
-    return inside.scope != NO_NAME;
+    return inside.scope != NO_NAME && ends_here(s);
 }
 
+/* Survex takes an *end without a name, with a warning. */
 static bool take_end(survey *s) {
     part label;
     bool named = next_word(&s->lines, &label);
     if (s->depth == 0) return refuse_survey(s, OTHER_END, label);
     size_t scope = now(s)->scope, above = s->scopes[s->depth - 1].scope;
     if (named && name_of(s, above, label, s->scopes[s->depth - 1].as) != scope) return refuse_survey(s, OTHER_END, label);
-    if (!named && now(s)->label.length > 0) return refuse_survey(s, OTHER_END, now(s)->label);
     s->depth--;
-    return true;
+    return ends_here(s);
 }
 
 /* ---- The data line */
@@ -61,7 +66,7 @@ static bool add_reading(survey *s, part word) {
     return refuse_survey(s, OTHER_READING, word);
 }
 
-/* Each of the five once; what ignores the rest is the last. */
+/* Each once, and all but the clino, without which Survex takes legs for level; what ignores the rest is the last. */
 static bool is_whole(const settings *n) {
     unsigned seen = 0;
     for (size_t j = 0; j < n->fields; j++) {
@@ -70,7 +75,7 @@ static bool is_whole(const settings *n) {
         if (n->order[j] == IGNORE_ALL && j + 1 < n->fields) return false;
         seen |= bit;
     }
-    return (seen & 31) == 31;
+    return (seen & 15) == 15;
 }
 
 static void default_order(settings *n) {
@@ -84,7 +89,7 @@ static bool take_data(survey *s) {
     part style = NONE, word;
     settings *n = now(s);
     next_word(&s->lines, &style);
-    n->passed_over = is_word(style, "passage") || is_word(style, "ignore");
+    n->passed_over = is_word(style, "passage");
     if (n->passed_over) return true;
     if (is_word(style, "default")) return default_order(n), true;
     if (!is_word(style, "normal")) return refuse_survey(s, OTHER_STYLE, style);
@@ -202,9 +207,9 @@ static bool take_units(survey *s) {
 static bool take_case(survey *s) {
     part word;
     next_word(&s->lines, &word);
-    if (is_word(word, "tolower")) return now(s)->as = AS_LOWER, true;
-    if (is_word(word, "toupper")) return now(s)->as = AS_UPPER, true;
-    if (is_word(word, "preserve")) return now(s)->as = AS_WRITTEN, true;
+    if (is_word(word, "tolower")) return now(s)->as = AS_LOWER, ends_here(s);
+    if (is_word(word, "toupper")) return now(s)->as = AS_UPPER, ends_here(s);
+    if (is_word(word, "preserve")) return now(s)->as = AS_WRITTEN, ends_here(s);
     return refuse_survey(s, OTHER_CASE, word);
 }
 
