@@ -48,29 +48,17 @@ int level_text(const text *from, uint64_t loop, growing *strict, growing *said) 
     return done ? DONE : REFUSED;
 }
 
-/* One FILE, or none for standard input, and --loop with its number. */
-static int read_words(int count, char **words, const char **file, uint64_t *loop) {
-    bool options = true;
-    for (int at = 0; at < count; at++) {
-        const char *word = words[at], *number = NULL;
-        if (options && strcmp(word, "--") == 0) options = false;
-        else if (options && strcmp(word, "--loop") == 0 && at + 1 < count) number = words[++at];
-        else if (options && strncmp(word, "--loop=", 7) == 0) number = word + 7;
-        else if (options && word[0] == '-' && word[1] != '\0') return trouble(word, "no such option, or it lacks its value; see jabulghi --help");
-        else if (*file != NULL) return trouble(word, "one FILE at most; see jabulghi --help");
-        else *file = word;
-        if (number != NULL && (*loop != 0 || !read_number(number, UINT64_MAX, loop) || *loop == 0)) return trouble(number, "--loop takes a number from 1 on, once");
-    }
-    return DONE;
-}
-
 int level(int count, char **words) {
-    const char *file = NULL;
-    uint64_t loop = 0;
+    option options[] = {{"--loop", false, NULL}, {"-o", false, NULL}};
+    uint64_t loop = ANY_LOOP;
     text survey;
     growing strict = {NULL, 0, 0, false}, said = {NULL, 0, 0, false};
-    int status = read_words(count, words, &file, &loop);
-    if (status == DONE) status = read_text(file == NULL ? "-" : file, &survey);
+    int status = read_options(&count, words, options, 2);
+    if (status == DONE && count > 1) status = wrong(ONE_FILE, words[1]);
+    if (status == DONE) status = number_of(&options[0], ANY_LOOP - 1, &loop);
+    if (status != DONE) return status;
+    write_to(&options[1]);
+    status = read_text(count == 0 ? "-" : words[0], &survey);
     if (status != DONE) return status;
     status = level_text(&survey, loop, &strict, &said);
     if (status != TROUBLE) fwrite(said.bytes, 1, said.length, stderr);

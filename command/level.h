@@ -68,7 +68,8 @@ typedef struct { step *steps; size_t count; bool is_loop; } walk;
 typedef struct { size_t name; char new_name[NEW_NAME]; } station;
 typedef struct { station *all; size_t count, *place; } stations;
 
-/* level.c: the strict text, and what is said about it; a refusal says one sentence and leaves the text empty. `loop` is 0 where none was chosen. */
+/* level.c: the strict text, and what is said about it; a refusal says one sentence and leaves the text empty. */
+#define ANY_LOOP UINT64_MAX
 int level_text(const text *from, uint64_t loop, growing *strict, growing *said);
 
 /* level_words.c: lines, words and numbers. Numbers are in millionths; what is below is cut off. */

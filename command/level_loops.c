@@ -130,8 +130,8 @@ static bool walk_all(survey *s, walk *w) {
 bool find_walk(survey *s, uint64_t loop, walk *w) {
     s->lines.number = 0;
     if (!count_loops(s)) return false;
-    if (loop > s->loop_count) return refuse_survey(s, NO_SUCH_LOOP, (part){NULL, 0});
-    if (loop == 0 && s->loop_count > 1) return refuse_survey(s, SEVERAL_LOOPS, (part){NULL, 0});
-    bool found = s->loop_count == 0 ? walk_all(s, w) : find_loop(s, loop == 0 ? 1 : loop, w);
+    if (loop != ANY_LOOP && (loop == 0 || loop > s->loop_count)) return refuse_survey(s, NO_SUCH_LOOP, (part){NULL, 0});
+    if (loop == ANY_LOOP && s->loop_count > 1) return refuse_survey(s, SEVERAL_LOOPS, (part){NULL, 0});
+    bool found = s->loop_count == 0 ? walk_all(s, w) : find_loop(s, loop == ANY_LOOP ? 1 : loop, w);
     return found && (w->count <= MOST_LEVEL_LEGS || refuse_survey(s, MANY_LEGS, (part){NULL, 0}));
 }

@@ -7,6 +7,7 @@
 
 static bool wanted, shown;
 static double next;
+static const char *what;
 
 static double seconds(void) {
     struct timespec now;
@@ -14,13 +15,15 @@ static double seconds(void) {
     return (double)now.tv_sec + (double)now.tv_nsec / 1e9;
 }
 
-void progress_start(void) {
-    wanted = isatty(STDERR_FILENO) && !isatty(STDOUT_FILENO);
+/* Where what is counted is written as it comes, a terminal on standard output is full of it. */
+void progress_start(const char *counted, bool elsewhere) {
+    what = counted;
+    wanted = isatty(STDERR_FILENO) && (elsewhere || !isatty(STDOUT_FILENO));
     next = seconds() + 1;
 }
 
 static void show(uint64_t done, uint64_t all) {
-    fprintf(stderr, "\rjabulghi: %" PRIu64 " of %" PRIu64 " samples (%.0f %%)", done, all, 100.0 * (double)done / (double)all);
+    fprintf(stderr, "\rjabulghi: %" PRIu64 " of %" PRIu64 " %s (%.0f %%)", done, all, what, 100.0 * (double)done / (double)all);
     shown = true;
 }
 

@@ -28,7 +28,7 @@ static int read_all(int from, text *all) {
         if (got < 0) return trouble(all->name, strerror(errno));
         if (got == 0) return DONE;
         all->length += (size_t)got;
-        if (all->length > MOST_BYTES) return trouble(all->name, "more than 64 MiB");
+        if (all->length > MOST_BYTES) return wrong(TOO_MUCH, all->name);
     }
 }
 
@@ -36,7 +36,7 @@ int read_text(const char *name, text *all) {
     *all = (text){name, NULL, 0};
     if (strcmp(name, "-") == 0) {
         all->name = "standard input";
-        if (isatty(STDIN_FILENO)) fprintf(stderr, "jabulghi: reading standard input up to Ctrl-D\n");
+        if (isatty(STDIN_FILENO)) note(READING);
         return read_all(STDIN_FILENO, all);
     }
     int from = open(name, O_RDONLY);
