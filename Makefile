@@ -1,5 +1,5 @@
 # make run [JOB=file]   proves and builds the listing program, runs it on a job and shows the listing
-# make miss [JOB=file]  the same, and then how far the loop misses
+# make miss [JOB=file]  the same for a loop, and then how far it misses
 # make command          the command target/jabulghi
 # make install          the command, the library, its header and the manual pages, below PREFIX=folder (a packager's DESTDIR=folder stands before it)
 # make lib TARGET=name  the library for another processor: target/name/libjabulghi.a; TARGET=list prints the names and what each serves
@@ -9,12 +9,13 @@
 # make lib              proves and writes target/staticlib/libjabulghi.a, for C and Rust
 # make bench            times beside plain C and other generators
 # make datasheet        docs/DATASHEET.md with its numbers and pictures; [PART=speed] one part of the numbers alone
-JOB ?= examples/traverse.job
 
 .PHONY: run miss test lib bench datasheet
+run: JOB ?= examples/traverse.job
 run:
 	@tools/run "$(JOB)"
 
+miss: JOB ?= examples/loop.job
 miss:
 	@tools/run "$(JOB)" misses
 

@@ -6,14 +6,17 @@
 
 static bool wanted, shown;
 static double next;
+static const char *what;
 
-void progress_start(void) {
-    wanted = system_terminal(STDERR_FILENO) && !system_terminal(STDOUT_FILENO);
+/* Where what is counted is written as it comes, a terminal on standard output is full of it. */
+void progress_start(const char *counted, bool elsewhere) {
+    what = counted;
+    wanted = system_terminal(STDERR_FILENO) && (elsewhere || !system_terminal(STDOUT_FILENO));
     next = system_seconds() + 1;
 }
 
 static void show(uint64_t done, uint64_t all) {
-    fprintf(stderr, "\rjabulghi: %" PRIu64 " of %" PRIu64 " samples (%.0f %%)", done, all, 100.0 * (double)done / (double)all);
+    fprintf(stderr, "\rjabulghi: %" PRIu64 " of %" PRIu64 " %s (%.0f %%)", done, all, what, 100.0 * (double)done / (double)all);
     shown = true;
 }
 

@@ -3,7 +3,7 @@
 #include <inttypes.h>
 
 /* Numbers that the library refuses as seeds, fewer than one draw in a hundred million, are drawn again. */
-static int draw_fit(uint32_t n[6]) {
+int draw_seeds(uint32_t n[6]) {
     jabulghi_record record;
     int status;
     do {
@@ -14,8 +14,11 @@ static int draw_fit(uint32_t n[6]) {
 
 int seeds(int count, char **words) {
     uint32_t n[6];
-    if (count > 0) return trouble(words[0], "seeds takes no word; see jabulghi --help");
-    int status = draw_fit(n);
+    option options[] = {{"-o", false, NULL}};
+    int status = read_options(&count, words, options, 1);
+    if (status == DONE && count > 0) status = wrong(NO_FILE, words[0], "seeds");
+    if (status == DONE) status = draw_seeds(n);
     if (status != DONE) return status;
-    return put_words("(seeds (a %" PRIu32 " %" PRIu32 " %" PRIu32 ") (b %" PRIu32 " %" PRIu32 " %" PRIu32 "))\n", n[0], n[1], n[2], n[3], n[4], n[5]);
+    write_to(&options[0]);
+    return put_words(SEEDS_LINE "\n", n[0], n[1], n[2], n[3], n[4], n[5]);
 }

@@ -8,21 +8,16 @@
 #include <stdio.h>
 #include <stdlib.h>
 #include <string.h>
+#include <sys/stat.h>
 
 #ifdef _WIN32
 #include <io.h>
 #include <windows.h>
 
-const char SYSTEM_END_OF_INPUT[] = "Ctrl-Z and Enter";
-
-/* Bytes go through as they are: else a line feed is written as two bytes, and Ctrl-Z ends a text. Typed lines alone are read as text. */
-void system_start(void) {
-    if (!system_terminal(0)) _setmode(0, _O_BINARY);
-    _setmode(1, _O_BINARY);
-}
-
 /* A command line has at most 32,767 units of 16 bits, and a unit at most three bytes in UTF-8. */
 #define UNITS 32768
+
+const char SYSTEM_END_OF_INPUT[] = "Ctrl-Z and Enter";
 
 int main(int count, char **words);
 
@@ -37,15 +32,46 @@ int wmain(int count, wchar_t **wide) {
     return main(count, words);
 }
 
-int system_open(const char *name) {
-    static wchar_t wide[UNITS];
-    MultiByteToWideChar(CP_UTF8, 0, name, -1, wide, UNITS);
-    return _wopen(wide, _O_RDONLY | _O_BINARY);
+static const wchar_t *wide(const char *name) {
+    static wchar_t units[2][UNITS]; /* in turn, for calls that take two names */
+    static int turn;
+    turn = 1 - turn;
+    MultiByteToWideChar(CP_UTF8, 0, name, -1, units[turn], UNITS);
+    return units[turn];
+}
+
+/* Bytes go through as they are: else a line feed is written as two bytes, and Ctrl-Z ends a text. Typed lines alone are read as text. */
+void system_start(void) {
+    if (!system_terminal(0)) _setmode(0, _O_BINARY);
+    _setmode(1, _O_BINARY);
 }
 
 bool system_terminal(int file) {
     DWORD mode;
     return GetConsoleMode((HANDLE)_get_osfhandle(file), &mode) != 0;
+}
+
+int system_open(const char *name, int flags) { return _wopen(wide(name), flags | _O_BINARY, _S_IREAD | _S_IWRITE); }
+
+unsigned system_mode(const char *name) {
+    struct _stat64 found;
+    return _wstat64(wide(name), &found) == 0 ? found.st_mode : 0;
+}
+
+bool system_writable(const char *name) { return _waccess(wide(name), 2) == 0; }
+
+int system_rename(const char *from, const char *to) {
+    errno = EACCES;
+    return MoveFileExW(wide(from), wide(to), MOVEFILE_REPLACE_EXISTING) ? 0 : -1;
+}
+
+int system_remove(const char *name) { return _wunlink(wide(name)); }
+
+/* A pipe that nobody reads is no valid one here. */
+ssize_t system_write(int file, const void *bytes, size_t length) {
+    int written = _write(file, bytes, length < 1 << 20 ? (unsigned)length : 1 << 20);
+    if (written < 0 && errno == EINVAL && GetFileType((HANDLE)_get_osfhandle(file)) == FILE_TYPE_PIPE) errno = EPIPE;
+    return written;
 }
 
 double system_seconds(void) { return (double)GetTickCount64() / 1e3; }
@@ -74,9 +100,23 @@ void system_start(void) {
     signal(SIGXFSZ, SIG_IGN);
 }
 
-int system_open(const char *name) { return open(name, O_RDONLY); }
-
 bool system_terminal(int file) { return isatty(file) != 0; }
+
+int system_open(const char *name, int flags) { return open(name, flags, 0666); }
+
+/* 0 where there is nothing under that name. */
+unsigned system_mode(const char *name) {
+    struct stat found;
+    return stat(name, &found) == 0 ? found.st_mode : 0;
+}
+
+bool system_writable(const char *name) { return access(name, W_OK) == 0; }
+
+int system_rename(const char *from, const char *to) { return rename(from, to); }
+
+int system_remove(const char *name) { return unlink(name); }
+
+ssize_t system_write(int file, const void *bytes, size_t length) { return write(file, bytes, length); }
 
 double system_seconds(void) {
     struct timespec now;
