@@ -1,40 +1,109 @@
-/* Numbers and seeds among the words of the command line. */
+/* Numbers, seeds and sigmas among the words of the command line. */
 #include "command.h"
 #include <inttypes.h>
+#include <string.h>
 
-/* Reads digits up to the first byte that is none, without a leading zero but 0 itself; the place after them, or NULL. */
-static const char *digits(const char *at, uint64_t most, uint64_t *number) {
+/* Reads digits up to the first byte that is none, without a leading zero but 0 itself; the place after them, or NULL. A number above most is large. */
+static const char *digits(const char *at, uint64_t most, uint64_t *number, bool *large) {
     const char *start = at;
     *number = 0;
+    *large = false;
     for (; *at >= '0' && *at <= '9'; at++) {
         uint64_t digit = (uint64_t)(*at - '0');
         if (at > start && *start == '0') return NULL;
-        if (*number > (most - digit) / 10) return NULL;
-        *number = *number * 10 + digit;
+        *large = *large || digit > most || *number > (most - digit) / 10;
+        if (!*large) *number = *number * 10 + digit;
     }
     return at == start ? NULL : at;
 }
 
-bool read_number(const char *word, uint64_t most, uint64_t *number) {
-    const char *end = digits(word, most, number);
-    return end != NULL && *end == '\0';
+int number_of(const option *given, uint64_t most, uint64_t *number) {
+    uint64_t read;
+    bool large;
+    if (given->value == NULL) return DONE;
+    const char *end = digits(given->value, most, &read, &large);
+    if (end == NULL || *end != '\0') return wrong(NO_NUMBER, given->name, given->value);
+    if (large) return wrong(NUMBER_ABOVE, given->name, (int)(end - given->value), given->value, most);
+    *number = read;
+    return DONE;
 }
 
-/* Reads six numbers where the form has #; all else stands as in the form. A line feed may follow. */
-static bool read_form(const char *form, const char *word, uint32_t numbers[6]) {
-    for (size_t read = 0; *form != '\0'; form++) {
+/* Reads six numbers where the form has #; all else stands as in the form. Where one is too large, its digits are named. */
+static bool read_form(const char *form, const char *word, uint32_t numbers[6], const char **large, int *length) {
+    size_t read = 0;
+    for (*large = NULL; *form != '\0'; form++) {
         uint64_t number;
+        bool above;
+        const char *start = word;
         if (*form != '#') {
             if (*word++ != *form) return false;
             continue;
         }
-        word = digits(word, UINT32_MAX, &number);
+        word = digits(word, UINT32_MAX, &number, &above);
         if (word == NULL) return false;
+        if (above && *large == NULL) {
+            *large = start;
+            *length = (int)(word - start);
+        }
         numbers[read++] = (uint32_t)number;
     }
     return *word == '\0';
 }
 
-bool read_seeds(const char *word, uint32_t numbers[6]) {
-    return read_form("(seeds (a # # #) (b # # #))", word, numbers) || read_form("#,#,#,#,#,#", word, numbers);
+int seeds_of(const option *given, uint32_t numbers[6]) {
+    const char *large;
+    int length;
+    if (!read_form("(seeds (a # # #) (b # # #))", given->value, numbers, &large, &length) && !read_form("#,#,#,#,#,#", given->value, numbers, &large, &length))
+        return wrong(NO_SEEDS, given->name, given->value);
+    return large == NULL ? DONE : wrong(NUMBER_ABOVE, given->name, length, large, (uint64_t)UINT32_MAX);
+}
+
+/* Digits, and perhaps a point and at most six more, in millionths; at most 1,000,000. The place after them, or NULL. */
+static const char *decimal(const char *at, uint64_t *millionths) {
+    bool large;
+    at = digits(at, 1000000, millionths, &large);
+    if (at == NULL || large) return NULL;
+    uint64_t worth = 1000000;
+    *millionths *= worth;
+    if (*at != '.') return at;
+    const char *point = at++;
+    for (; worth > 1 && *at >= '0' && *at <= '9'; at++) *millionths += (uint64_t)(*at - '0') * (worth /= 10);
+    return at == point + 1 ? NULL : at;
+}
+
+/* A decimal and its unit; the place after them, or NULL. */
+static const char *read_measure(const char *at, measure *read) {
+    static const struct { const char *word; unit in; } UNITS[] = {{"mm", MILLIMETRES}, {"deg", DEGREES}, {"steps", STEPS}, {"", NO_UNIT}};
+    at = decimal(at, &read->millionths);
+    if (at == NULL) return NULL;
+    size_t j = 0;
+    while (strncmp(at, UNITS[j].word, strlen(UNITS[j].word)) != 0) j++;
+    read->in = UNITS[j].in;
+    return at + strlen(UNITS[j].word);
+}
+
+int sigma_of(const option *given, measure *sigma) {
+    const char *end = read_measure(given->value, sigma);
+    return end != NULL && *end == '\0' && sigma->in != NO_UNIT ? DONE : wrong(NO_SIGMA, given->name, given->value);
+}
+
+/* A sigma of bearing in steps, of which a turn has 65536; degrees to the nearest. */
+static int steps_of(const option *given, const measure *read, uint32_t *steps) {
+    uint64_t whole = read->in == DEGREES ? (read->millionths * 65536 + 180000000) / 360000000 : read->millionths / 1000000;
+    bool exact = read->in == DEGREES || read->millionths % 1000000 == 0;
+    if (read->in == MILLIMETRES) return wrong(NO_SIGMAS, given->name, given->value);
+    if (!exact || whole > 1000) return wrong(NO_STEPS, given->name, given->value);
+    if (whole == 0 && read->millionths > 0) return wrong(TOO_FEW_STEPS, given->name, given->value);
+    *steps = (uint32_t)whole;
+    return DONE;
+}
+
+int sigmas_of(const option *given, uint32_t sigma[2]) {
+    measure distance, bearing;
+    const char *at = read_measure(given->value, &distance);
+    at = at != NULL && *at == ',' ? read_measure(at + 1, &bearing) : NULL;
+    if (at == NULL || *at != '\0' || distance.in == DEGREES || distance.in == STEPS) return wrong(NO_SIGMAS, given->name, given->value);
+    if (distance.millionths % 1000000 != 0 || distance.millionths / 1000000 > 1000) return wrong(NO_WHOLE_MM, given->name, given->value);
+    sigma[0] = (uint32_t)(distance.millionths / 1000000);
+    return steps_of(given, &bearing, &sigma[1]);
 }

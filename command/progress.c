@@ -2,33 +2,29 @@
 #include "command.h"
 #include <inttypes.h>
 #include <stdio.h>
-#include <time.h>
 #include <unistd.h>
 
 static bool wanted, shown;
 static double next;
+static const char *what;
 
-static double seconds(void) {
-    struct timespec now;
-    clock_gettime(CLOCK_MONOTONIC, &now);
-    return (double)now.tv_sec + (double)now.tv_nsec / 1e9;
-}
-
-void progress_start(void) {
-    wanted = isatty(STDERR_FILENO) && !isatty(STDOUT_FILENO);
-    next = seconds() + 1;
+/* Where what is counted is written as it comes, a terminal on standard output is full of it. */
+void progress_start(const char *counted, bool elsewhere) {
+    what = counted;
+    wanted = system_terminal(STDERR_FILENO) && (elsewhere || !system_terminal(STDOUT_FILENO));
+    next = system_seconds() + 1;
 }
 
 static void show(uint64_t done, uint64_t all) {
-    fprintf(stderr, "\rjabulghi: %" PRIu64 " of %" PRIu64 " samples (%.0f %%)", done, all, 100.0 * (double)done / (double)all);
+    fprintf(stderr, "\rjabulghi: %" PRIu64 " of %" PRIu64 " %s (%.0f %%)", done, all, what, 100.0 * (double)done / (double)all);
     shown = true;
 }
 
 /* Once a second from the first second on. */
 void progress_show(uint64_t done, uint64_t all) {
-    if (!wanted || seconds() < next) return;
+    if (!wanted || system_seconds() < next) return;
     show(done, all);
-    next = seconds() + 1;
+    next = system_seconds() + 1;
 }
 
 void progress_end(uint64_t done, uint64_t all) {

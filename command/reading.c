@@ -28,7 +28,7 @@ static int read_all(int from, text *all) {
         if (got < 0) return trouble(all->name, strerror(errno));
         if (got == 0) return DONE;
         all->length += (size_t)got;
-        if (all->length > MOST_BYTES) return trouble(all->name, "more than 64 MiB");
+        if (all->length > MOST_BYTES) return wrong(TOO_MUCH, all->name);
     }
 }
 
@@ -36,10 +36,10 @@ int read_text(const char *name, text *all) {
     *all = (text){name, NULL, 0};
     if (strcmp(name, "-") == 0) {
         all->name = "standard input";
-        if (isatty(STDIN_FILENO)) fprintf(stderr, "jabulghi: reading standard input up to Ctrl-D\n");
+        if (system_terminal(STDIN_FILENO)) note(READING, SYSTEM_END_OF_INPUT);
         return read_all(STDIN_FILENO, all);
     }
-    int from = open(name, O_RDONLY);
+    int from = system_open(name, O_RDONLY);
     if (from < 0) return trouble(name, strerror(errno));
     int status = read_all(from, all);
     close(from);

@@ -1,34 +1,24 @@
 /* A line of seeds from the system's randomness. */
 #include "command.h"
-#include <errno.h>
 #include <inttypes.h>
-#include <stdio.h>
-#include <string.h>
-
-#define SOURCE "/dev/urandom"
-
-/* Six random numbers of 32 bits. */
-static int draw(FILE *source, uint32_t numbers[6]) {
-    return fread(numbers, sizeof numbers[0], 6, source) == 6 ? DONE : trouble(SOURCE, strerror(errno));
-}
 
 /* Numbers that the library refuses as seeds, fewer than one draw in a hundred million, are drawn again. */
-static int draw_fit(FILE *source, uint32_t n[6]) {
+int draw_seeds(uint32_t n[6]) {
     jabulghi_record record;
     int status;
     do {
-        status = draw(source, n);
+        status = system_random(n);
     } while (status == DONE && jabulghi_seed(n[0], n[1], n[2], n[3], n[4], n[5], &record) != JABULGHI_OK);
     return status;
 }
 
 int seeds(int count, char **words) {
     uint32_t n[6];
-    if (count > 0) return trouble(words[0], "seeds takes no word; see jabulghi --help");
-    FILE *source = fopen(SOURCE, "rb");
-    if (source == NULL) return trouble(SOURCE, strerror(errno));
-    int status = draw_fit(source, n);
-    fclose(source);
+    option options[] = {{"-o", false, NULL}};
+    int status = read_options(&count, words, options, 1);
+    if (status == DONE && count > 0) status = wrong(NO_FILE, words[0], "seeds");
+    if (status == DONE) status = draw_seeds(n);
     if (status != DONE) return status;
-    return put_words("(seeds (a %" PRIu32 " %" PRIu32 " %" PRIu32 ") (b %" PRIu32 " %" PRIu32 " %" PRIu32 "))\n", n[0], n[1], n[2], n[3], n[4], n[5]);
+    write_to(&options[0]);
+    return put_words(SEEDS_LINE "\n", n[0], n[1], n[2], n[3], n[4], n[5]);
 }

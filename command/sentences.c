@@ -1,12 +1,10 @@
-/* Why something was refused: one table from the numbers of jabulghi.h to sentences. */
+/* All that a user is told: one table from the numbers of jabulghi.h to sentences, and one of what is said besides. */
 #include "command.h"
 #include <inttypes.h>
+#include <stdarg.h>
 #include <stdio.h>
 #include <stdlib.h>
 #include <string.h>
-
-/* The bad line, its line feed included; a line that is missing has no bytes. */
-typedef struct { const uint8_t *bytes; size_t length, number; } bad_line;
 
 static bool is_missing(const bad_line *line) { return line->length == 0; }
 static bool is_first(const bad_line *line) { return line->number == 1; }
@@ -14,10 +12,15 @@ static bool is_second(const bad_line *line) { return line->number == 2; }
 static bool is_line_502(const bad_line *line) { return line->number == 502; }
 static bool lacks_line_feed(const bad_line *line) { return line->length > 0 && line->bytes[line->length - 1] != '\n'; }
 static bool ends_in_crlf(const bad_line *line) { return line->length > 1 && memcmp(line->bytes + line->length - 2, "\r\n", 2) == 0; }
-static bool is_distance(const bad_line *line);
+static bool above(const bad_line *line, size_t blanks, uint64_t most);
+static bool is_large_sigma(const bad_line *line) { return line->number == 2 && above(line, 1, 1000); }
+static bool has_large_distance(const bad_line *line) { return above(line, 3, 1000000); }
+static bool has_large_listed(const bad_line *line) { return above(line, 2, 1008242); }
+static bool has_large_high(const bad_line *line) { return above(line, 3, 1008242); }
 
 #define CRLF "line ends with a carriage return and a line feed, not with a line feed alone"
 #define NO_LINE_FEED "line lacks its line feed"
+#define OTHER_STATION "shot does not start at the last station"
 #define UNFIT(stream) "seed of stream " stream " below its minimum of 2, 8 or 16"
 
 /* For a subject and number the first row whose test holds of the bad line, or that has none. */
@@ -27,44 +30,93 @@ static const struct { subject about; uint32_t number; bool (*holds)(const bad_li
     {JOB, JABULGHI_NO_FORM, lacks_line_feed, NO_LINE_FEED},
     {JOB, JABULGHI_NO_FORM, NULL, "line is none of the three forms"},
     {JOB, JABULGHI_NUMBER_TOO_LARGE, is_first, "seed above 4,294,967,295"},
-    {JOB, JABULGHI_NUMBER_TOO_LARGE, is_second, "sigma above 1000"},
-    {JOB, JABULGHI_NUMBER_TOO_LARGE, is_distance, "distance above 1,000,000"},
+    {JOB, JABULGHI_NUMBER_TOO_LARGE, is_large_sigma, "sigma of distance above 1000 mm"},
+    {JOB, JABULGHI_NUMBER_TOO_LARGE, is_second, "sigma of bearing above 1000 steps"},
+    {JOB, JABULGHI_NUMBER_TOO_LARGE, has_large_distance, "distance above 1,000,000"},
     {JOB, JABULGHI_NUMBER_TOO_LARGE, NULL, "bearing above 65535"},
     {JOB, JABULGHI_WRONG_PLACE, is_missing, "text ends before line 2"},
     {JOB, JABULGHI_WRONG_PLACE, NULL, "form in the wrong place"},
     {JOB, JABULGHI_TOO_MANY_SHOTS, NULL, "501st shot"},
     {JOB, JABULGHI_UNFIT_STREAM_A, NULL, UNFIT("a")},
     {JOB, JABULGHI_UNFIT_STREAM_B, NULL, UNFIT("b")},
+    {JOB, JABULGHI_OTHER_STATION, NULL, OTHER_STATION},
 
+    {SURVEY, JABULGHI_TOO_MANY_SHOTS, NULL, "501st leg"},
+    {SURVEY, JABULGHI_OTHER_STATION, NULL, OTHER_STATION},
     {SURVEY, JABULGHI_NO_LEG, is_missing, "no data line"},
     {SURVEY, JABULGHI_NO_LEG, ends_in_crlf, CRLF},
     {SURVEY, JABULGHI_NO_LEG, lacks_line_feed, NO_LINE_FEED},
-    {SURVEY, JABULGHI_NO_LEG, NULL, "line is no data line or leg, or a name or number has another form"},
+    {SURVEY, JABULGHI_NO_LEG, is_other_data_line, "data line is not '*data normal from to tape compass clino'; jabulghi level takes other orders"},
+    {SURVEY, JABULGHI_NO_LEG, is_command, "command, and legs takes the data line and legs alone; jabulghi level takes ordinary Survex"},
+    {SURVEY, JABULGHI_NO_LEG, lacks_data_line, "leg before the data line"},
+    {SURVEY, JABULGHI_NO_LEG, has_few_fields, "leg has fewer than five fields"},
+    {SURVEY, JABULGHI_NO_LEG, has_many_fields, "leg has more than five fields"},
+    {SURVEY, JABULGHI_NO_LEG, has_bad_from, "from is no name of 1 to 12 letters or digits; jabulghi level gives new names"},
+    {SURVEY, JABULGHI_NO_LEG, has_bad_to, "to is no name of 1 to 12 letters or digits; jabulghi level gives new names"},
+    {SURVEY, JABULGHI_NO_LEG, has_bad_tape, "tape is not 1 to 4 digits, then perhaps a point and 1 to 3 decimals"},
+    {SURVEY, JABULGHI_NO_LEG, NULL, "compass is not 1 to 4 digits, then perhaps a point and 1 or 2 decimals"},
     {SURVEY, JABULGHI_LEG_OUT_OF_RANGE, ends_in_crlf, CRLF},
-    {SURVEY, JABULGHI_LEG_OUT_OF_RANGE, NULL, "tape above 1000, compass above 360, or clino not 0"},
+    {SURVEY, JABULGHI_LEG_OUT_OF_RANGE, has_long_tape, "tape above 1000"},
+    {SURVEY, JABULGHI_LEG_OUT_OF_RANGE, has_large_compass, "compass above 360"},
+    {SURVEY, JABULGHI_LEG_OUT_OF_RANGE, NULL, "clino is not the single digit 0; jabulghi level takes other forms, and steep legs as their plan"},
 
     {LISTING, JABULGHI_NO_FORM, is_missing, "line is missing"},
     {LISTING, JABULGHI_NO_FORM, ends_in_crlf, CRLF},
     {LISTING, JABULGHI_NO_FORM, lacks_line_feed, NO_LINE_FEED},
     {LISTING, JABULGHI_NO_FORM, NULL, "line is unlike the listing's, or has a false count"},
     {LISTING, JABULGHI_SHOT_TOO_LARGE, is_line_502, "501st shot"},
-    {LISTING, JABULGHI_SHOT_TOO_LARGE, NULL, "distance above 1,008,242 or step above 65535"},
+    {LISTING, JABULGHI_SHOT_TOO_LARGE, has_large_listed, "distance above 1,008,242"},
+    {LISTING, JABULGHI_SHOT_TOO_LARGE, has_large_high, "distance above 1,008,242"},
+    {LISTING, JABULGHI_SHOT_TOO_LARGE, NULL, "step above 65535"},
     {LISTING, JABULGHI_LOW_ABOVE_HIGH, NULL, "low above high"},
-    {LISTING, JABULGHI_OTHER_STATION, NULL, "shot does not start at the last station"},
+    {LISTING, JABULGHI_OTHER_STATION, NULL, OTHER_STATION},
+    {LISTING, JABULGHI_NUMBER_TOO_LARGE, NULL, "distance above 1,000,000"},
 
     {RECORD, JABULGHI_UNFIT_STREAM_A, NULL, UNFIT("a")},
     {RECORD, JABULGHI_UNFIT_STREAM_B, NULL, UNFIT("b")},
-    {RECORD, JABULGHI_ODD_LENGTH, NULL, "block of odd length"},
+    {RECORD, JABULGHI_ODD_LENGTH, NULL, "must be even"},
     {RECORD, JABULGHI_COUNT_FULL, NULL, "the count would pass 2^64 - 1"},
 };
 
-/* The distance of a shot line is what follows its third blank; its two numbers were read, so that digits stand there. */
-static bool is_distance(const bad_line *line) {
-    char digits[11] = "";
-    size_t at = 0, blanks = 0;
-    while (at < line->length && blanks < 3) blanks += line->bytes[at++] == ' ';
-    for (size_t j = 0; j < 10 && at + j < line->length && line->bytes[at + j] != ' '; j++) digits[j] = (char)line->bytes[at + j];
-    return strtoull(digits, NULL, 10) > 1000000;
+#define HELP "; see jabulghi --help"
+
+/* What is said besides refusals; a name or a number stands where a % is. */
+static const char *const SAYINGS[] = {
+    [NO_COMMAND] = "no command" HELP,
+    [NO_SUCH_COMMAND] = "%s: no such command" HELP,
+    [NO_SUCH_OPTION] = "%s: no such option" HELP,
+    [LACKS_VALUE] = "%s: lacks its value" HELP,
+    [TAKES_NO_VALUE] = "%s: takes no value" HELP,
+    [GIVEN_TWICE] = "%s: given twice",
+    [ONE_FILE] = "%s: one FILE at most" HELP,
+    [NO_FILE] = "%s: %s takes no FILE" HELP,
+    [NEEDS] = "%s: needs %s" HELP,
+    [EITHER] = "either %s or %s" HELP,
+    [NO_NUMBER] = "%s: '%s' is no whole number",
+    [NUMBER_ABOVE] = "%s: %.*s is above %" PRIu64,
+    [NO_BITS] = "%s: '%s' is neither 16 nor 18",
+    [NO_SEEDS] = "%s: '%s' is neither (seeds (a n n n) (b n n n)) nor n,n,n,n,n,n",
+    [NO_SIGMA] = "%s: '%s' is no sigma such as 4mm, 0.5deg or 91steps, at most 1000000",
+    [NO_SIGMAS] = "%s: '%s' is no pair of sigmas such as 4mm,0.5deg or 4,91 (millimetres, steps)",
+    [NO_WHOLE_MM] = "%s: '%s': a sigma of distance is whole millimetres, 0 to 1000",
+    [NO_STEPS] = "%s: '%s': a sigma of bearing is whole steps, 0 to 1000, or degrees, up to 5.49",
+    [TOO_FEW_STEPS] = "%s: '%s': a sigma of bearing above 0 is at least half a step, 0.0028 degrees",
+    [TOO_MUCH] = "%s: more than 64 MiB",
+    [READING] = "reading standard input up to %s",
+    [SEEDS_DRAWN] = "drawn " SEEDS_LINE,
+    [NO_SHOT] = "%s: no shot",
+    [STARTS_ELSEWHERE] = "%s: shot %zu starts at %s, the one before ends at %s: no loop",
+    [NO_LOOP] = "%s: starts at %s, ends at %s: no loop",
+    [PART_CLOSES] = "%s: starts at %s, ends at %s: no loop; shots %zu to %zu are one, from %s on",
+};
+
+/* Whether the number that follows so many blanks is above a limit. */
+static bool above(const bad_line *line, size_t blanks, uint64_t most) {
+    uint64_t number = 0;
+    size_t at = 0, passed = 0;
+    while (at < line->length && passed < blanks) passed += line->bytes[at++] == ' ';
+    for (; at < line->length && number <= most && line->bytes[at] >= '0' && line->bytes[at] <= '9'; at++) number = number * 10 + (uint64_t)(line->bytes[at] - '0');
+    return number > most;
 }
 
 static bad_line line_of(const text *from, size_t number) {
@@ -74,7 +126,7 @@ static bad_line line_of(const text *from, size_t number) {
         at = feed == NULL ? end : feed + 1;
     }
     const uint8_t *feed = at < end ? memchr(at, '\n', (size_t)(end - at)) : NULL;
-    return (bad_line){at, (size_t)((feed == NULL ? end : feed + 1) - at), number};
+    return (bad_line){from->bytes, at, (size_t)((feed == NULL ? end : feed + 1) - at), number};
 }
 
 static const char *sentence_of(subject about, uint32_t number, const bad_line *line) {
@@ -94,4 +146,32 @@ int refuse(const text *refused, subject about, size_t line, uint32_t number) {
         fprintf(stderr, "%s:%zu: %s (%" PRIu32 ")\n", refused->name, line, sentence, number);
     }
     return REFUSED;
+}
+
+int refuse_option(const char *name, uint32_t number) {
+    static uint8_t nothing;
+    text option = {name, &nothing, 0};
+    return refuse(&option, RECORD, 0, number);
+}
+
+/* "jabulghi: " and a sentence, its places filled in. */
+static void tell(saying what, va_list values) {
+    fprintf(stderr, "jabulghi: ");
+    vfprintf(stderr, SAYINGS[what], values);
+    fprintf(stderr, "\n");
+}
+
+int wrong(saying what, ...) {
+    va_list values;
+    va_start(values, what);
+    tell(what, values);
+    va_end(values);
+    return TROUBLE;
+}
+
+void note(saying what, ...) {
+    va_list values;
+    va_start(values, what);
+    tell(what, values);
+    va_end(values);
 }

@@ -1,20 +1,25 @@
 /* The commands on a text: list, legs and misses. Each reads one, makes one call and prints what it gave. */
-#include "command.h"
+#include "traverse.h"
 #include <errno.h>
 #include <inttypes.h>
 #include <stdlib.h>
 #include <string.h>
 
-/* Reads the text that the words name: none or "-" is standard input. */
+/* Reads the text that the words name, none or "-" being standard input, and notes where the output goes. */
 static int named_text(int count, char **words, text *read) {
-    if (count > 0 && strcmp(words[0], "--") == 0) {
-        count--;
-        words++;
-    } else if (count > 0 && words[0][0] == '-' && words[0][1] != '\0') {
-        return trouble(words[0], "no such option; see jabulghi --help");
-    }
-    if (count > 1) return trouble(words[1], "one FILE at most; see jabulghi --help");
+    option options[] = {{"-o", false, NULL}};
+    int status = read_options(&count, words, options, 1);
+    if (status == DONE && count > 1) status = wrong(ONE_FILE, words[1]);
+    if (status != DONE) return status;
+    write_to(&options[0]);
     return read_text(count == 0 ? "-" : words[0], read);
+}
+
+/* Notes on standard error where the shots of a text are no loop. */
+static void note_loop(const text *t, bool listed) {
+    traverse read;
+    read_shots(t->bytes, t->length, listed, &read);
+    is_loop(t->name, &read);
 }
 
 int list(int count, char **words) {
@@ -25,7 +30,9 @@ int list(int count, char **words) {
     int status = named_text(count, words, &job);
     if (status != DONE) return status;
     uint32_t number = jabulghi_list(job.bytes, job.length, listing, sizeof listing, &line, &length);
-    return number == JABULGHI_OK ? put(listing, length) : refuse(&job, JOB, line, number);
+    if (number != JABULGHI_OK) return refuse(&job, JOB, line, number);
+    note_loop(&job, false);
+    return put(listing, length);
 }
 
 int legs(int count, char **words) {
@@ -46,6 +53,7 @@ static int one_miss(const text *listing) {
     uint32_t line;
     uint32_t number = jabulghi_misclosure(listing->bytes, listing->length, sums, millimetres, &line);
     if (number != JABULGHI_OK) return refuse(listing, LISTING, line, number);
+    note_loop(listing, true);
     return put_words("EAST %" PRId64 "\nNORTH %" PRId64 "\n", millimetres[0], millimetres[1]);
 }
 
@@ -55,6 +63,7 @@ static int two_misses(const text *listing) {
     uint32_t line;
     uint32_t number = jabulghi_intervals(listing->bytes, listing->length, sums, mm, &line);
     if (number != JABULGHI_OK) return refuse(listing, LISTING, line, number);
+    note_loop(listing, true);
     return put_words("EAST %" PRId64 " %" PRId64 "\nNORTH %" PRId64 " %" PRId64 "\n", mm[0], mm[1], mm[2], mm[3]);
 }
 

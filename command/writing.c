@@ -1,12 +1,18 @@
-/* Standard output, and what went wrong with it. A write that fails is never silent. */
+/* Where the output goes, and what went wrong with it. A write that fails is never silent. */
 #include "command.h"
 #include <errno.h>
+#include <fcntl.h>
 #include <stdarg.h>
 #include <stdio.h>
+#include <stdlib.h>
 #include <string.h>
+#include <sys/stat.h>
 #include <unistd.h>
 
-static bool wrote;
+/* Standard output, or a file that was named: it is written beside, as NAME.part, and takes its name once it is whole; a device or a pipe is written as
+ * it stands. A descriptor below 0 is not open yet. */
+typedef struct { const char *name; char *beside; int descriptor; bool wrote; } destination;
+static destination output = {"standard output", NULL, STDOUT_FILENO, false};
 
 /* Says what went wrong, one line on standard error. */
 int trouble(const char *what, const char *why) {
@@ -14,18 +20,45 @@ int trouble(const char *what, const char *why) {
     return TROUBLE;
 }
 
-/* Writes all of the bytes to standard output. */
+void write_to(const option *given) {
+    if (given->value == NULL || strcmp(given->value, "-") == 0) return;
+    output.name = given->value;
+    output.descriptor = -1;
+}
+
+/* The name that a file has while it is written. */
+static bool name_beside(void) {
+    size_t room = strlen(output.name) + sizeof ".part";
+    output.beside = malloc(room);
+    if (output.beside != NULL) snprintf(output.beside, room, "%s.part", output.name);
+    return output.beside != NULL;
+}
+
+static int open_output(void) {
+    output.wrote = true;
+    if (output.descriptor >= 0) return DONE;
+    unsigned mode = system_mode(output.name);
+    if (mode != 0 && !system_writable(output.name)) return trouble(output.name, strerror(errno));
+    if (mode != 0 && !S_ISREG(mode)) {
+        output.descriptor = system_open(output.name, O_WRONLY);
+    } else if (name_beside()) {
+        output.descriptor = system_open(output.beside, O_WRONLY | O_CREAT | O_TRUNC);
+    }
+    return output.descriptor < 0 ? trouble(output.name, strerror(errno)) : DONE;
+}
+
+/* Writes all of the bytes; a pipe that nobody reads any more has had enough of them. */
 int put(const void *bytes, size_t length) {
     const char *rest = bytes;
-    wrote = true;
-    while (length > 0) {
-        ssize_t written = write(STDOUT_FILENO, rest, length);
+    int status = open_output();
+    while (status == DONE && length > 0) {
+        ssize_t written = system_write(output.descriptor, rest, length);
         if (written < 0 && errno == EINTR) continue;
-        if (written < 0) return trouble("standard output", strerror(errno));
+        if (written < 0) return errno == EPIPE ? ENOUGH : trouble(output.name, strerror(errno));
         rest += written;
         length -= (size_t)written;
     }
-    return DONE;
+    return status;
 }
 
 /* Writes a short line, as printf would. */
@@ -38,8 +71,14 @@ int put_words(const char *format, ...) {
     return put(line, (size_t)length);
 }
 
-/* Closes standard output where something was written: some devices tell a failed write only then. */
+/* Closes the output where something was written, since some devices tell a failed write only then, and gives a file its name; what is not whole goes. */
 int finish(int status) {
-    if (wrote && status == DONE && close(STDOUT_FILENO) != 0) return trouble("standard output", strerror(errno));
+    bool named = strcmp(output.name, "standard output") != 0;
+    if (status == DONE && named && !output.wrote) status = open_output();
+    if (status == ENOUGH) status = DONE;
+    if (output.wrote && status == DONE && close(output.descriptor) != 0) status = trouble(output.name, strerror(errno));
+    if (output.beside == NULL) return status;
+    if (status == DONE && system_rename(output.beside, output.name) != 0) status = trouble(output.name, strerror(errno));
+    if (status != DONE) system_remove(output.beside);
     return status;
 }

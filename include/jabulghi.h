@@ -1,7 +1,7 @@
-/* Gaussian noise for a simulated laser logger: the calls of documents 01 and 02 from C. Link target/staticlib/libjabulghi.a.
+/* Gaussian noise for a simulated laser logger: the calls of documents 01 and 02 from C. Link libjabulghi.
  *
- * No argument need be tested first. A pointer is aligned and not null, also where its length is 0, it points to as many elements as
- * are named, and memory that a call may write overlaps nothing else that it is given. Calls keep nothing and allocate nothing.
+ * No argument need be tested first. A pointer is aligned and points to as many elements as are named; it may be null where its length is 0, and nowhere
+ * else. Memory that a call may write overlaps nothing else that it is given. Calls keep nothing and allocate nothing.
  *
  * A sample s is s / 2048 standard deviations: with a sigma in millimetres the noise is sigma * s / 2048 mm. A listing rounds that to the nearest, halves
  * away from zero: (sigma * |s| + 1024) / 2048 in whole numbers, with the sign of s. Samples of 18 bits are over 8192.
@@ -11,16 +11,24 @@
  * for ever, whatever their stream a. Several rigs can share one stream by jabulghi_skip.
  *
  * Processors. What is proved is the code, before it is compiled. The toolchain compiles it for x86-64 under Linux, any such processor; every call is
- * compared with another implementation there. For aarch64 and riscv64 the same modules are compiled by the same compiler (make lib TARGET=..), which
- * the toolchain does not support; that is tested under an emulator. Elsewhere nothing is tried. The lowest byte of a number comes first.
+ * compared with another implementation there. For other processors the same modules are compiled by the same compiler (make lib TARGET=list names
+ * them), which the toolchain does not support; that is tested under emulators, and on no device. Where a size_t has 32 bits, functions in C of a line or
+ * two, which are not proved, pass the lengths on. The lowest byte of a number comes first.
  * A guess at a square root is made in doubles, and no result depends on it. So every call that makes samples raises the inexact flag: a trap on inexact
  * would end the program, and an interrupt that makes such a call must save the registers of the floating-point unit.
  *
- * State and threads. The library has no data that is written, and needs memcpy and memset alone. Calls on different records, windows and marks may run
- * at once in several threads; on the same one, one after another. A record has 40 bytes, a window 8,224 and a set of marks 960; all calls together are some
- * 60 KB of code and tables.
+ * State and threads. The library has no data that is written. Calls on different records, windows and marks may run at once in several threads; on the
+ * same one, one after another. A record has 40 bytes, a window 8,224 and a set of marks 960; all calls together are 60 to 90 KB of code and tables.
  *
- * Stack. At most, as measured on all three processors (tests/stack.c), the caller's own frame left out:
+ * What it needs of a C library and of the compiler's own library (libgcc or compiler-rt):
+ *   on x86_64, aarch64, riscv64: memcpy, memset
+ *   on armv7: memcpy, memset, __aeabi_uldivmod
+ *   on thumbv6m: __aeabi_memcpy, __aeabi_memcpy4, __aeabi_memcpy8, __aeabi_memclr, __aeabi_memclr4, __aeabi_memclr8, __aeabi_uldivmod, __aeabi_lmul, __aeabi_llsl, __clzsi2, __aeabi_dadd, __aeabi_dsub, __aeabi_dmul, __aeabi_dcmplt
+ *   on thumbv7m, thumbv7em, thumbv7em-hf, thumbv8m, thumbv8m-hf: __aeabi_memcpy, __aeabi_memcpy4, __aeabi_memcpy8, __aeabi_memclr, __aeabi_memclr4, __aeabi_memclr8, __aeabi_uldivmod, __aeabi_dadd, __aeabi_dsub, __aeabi_dmul, __aeabi_dcmplt
+ *   on thumbv7em-dp: __aeabi_memcpy, __aeabi_memcpy4, __aeabi_memcpy8, __aeabi_memclr, __aeabi_memclr4, __aeabi_memclr8, __aeabi_uldivmod
+ *   on riscv32imc, riscv32imac: memcpy, memset, __udivdi3, __adddf3, __subdf3, __muldf3, __ltdf2
+ *
+ * Stack. At most, as measured on every processor that it is tested on, the caller's own frame left out:
  *   256 bytes: jabulghi_seed, jabulghi_ask, jabulghi_give_up, jabulghi_window_make, jabulghi_window_push, jabulghi_window_push_all
  *   1,024 bytes: jabulghi_sample, jabulghi_pair, jabulghi_sample18, jabulghi_pair18, jabulghi_legs, jabulghi_misclosure, jabulghi_intervals
  *   1,536 bytes: jabulghi_block18, jabulghi_look18, jabulghi_take18
@@ -33,7 +41,14 @@
 #include <stddef.h>
 #include <stdint.h>
 
-/* The version of the header and the library; CHANGELOG.md says what each has. */
+#if defined(__BYTE_ORDER__) && __BYTE_ORDER__ != __ORDER_LITTLE_ENDIAN__
+#error "jabulghi: the lowest byte of a number comes first; there is no library for other processors"
+#endif
+#if defined(__i386__) || defined(_M_IX86)
+#error "jabulghi: there is no library for x86 of 32 bits, which aligns numbers of 64 bits otherwise"
+#endif
+
+/* The version of the header and the library. */
 #define JABULGHI_VERSION "1.0.0"
 #define JABULGHI_VERSION_MAJOR 1
 #define JABULGHI_VERSION_MINOR 0
@@ -84,7 +99,7 @@ enum {
  * since seeding; and the note, whether a request is open (not 0) and for how many pairs. An accepted record has s0 at least 2, s1 at least 8 and s2 at
  * least 16 in both. A record that was accepted is refused later for its count, its note or the call's own arguments alone. A refused call changes no
  * word of it; only seeding always writes all of it. */
-typedef struct { uint32_t a[3], b[3]; uint64_t count; uint32_t open, asked; } jabulghi_record;
+typedef struct jabulghi_record { uint32_t a[3], b[3]; uint64_t count; uint32_t open, asked; } jabulghi_record;
 
 /* Seeds a record, its count 0, no request open and a noted 0. Refused (11, 12), the registers become zeros besides. */
 uint32_t jabulghi_seed(uint32_t a0, uint32_t a1, uint32_t a2, uint32_t b0, uint32_t b1, uint32_t b2, jabulghi_record *record);
@@ -137,7 +152,7 @@ uint32_t jabulghi_list(const uint8_t *text, size_t text_length, uint8_t *listing
  * samples are held, place the place that the next one takes. Once N are held, each new sample pushes out the oldest. After any run of samples from its
  * making both sums are those of the last N, or of all that came where fewer came, and no push is refused. A window from elsewhere is taken as passed where
  * it is fit. A call that is refused (17) leaves zeros in every member: N 0, none held, every place and both sums 0. */
-typedef struct { uint32_t size, held, place; int16_t places[4096]; int64_t sum, squares; } jabulghi_window;
+typedef struct jabulghi_window { uint32_t size, held, place; int16_t places[4096]; int64_t sum, squares; } jabulghi_window;
 
 /* The exported functions take a window's members one by one, for any language; from C and C++ use the inline functions below. places: 4096 elements. */
 uint32_t jabulghi_window_make_members(uint32_t *size, uint32_t *held, uint32_t *place, int16_t *places, int64_t *sum, int64_t *squares, uint32_t n);
@@ -165,7 +180,7 @@ static inline uint32_t jabulghi_window_push_all(jabulghi_window *window, const i
  * is used where its word in used is not 0; its name is the first bytes of names, as many as length. Where a set from elsewhere holds a name twice, the
  * first is meant; a malformed name there matches none, and takes up its place. A call that is refused changes nothing; an accepted one changes its own
  * place alone. */
-typedef struct { uint32_t used[16], length[16]; uint8_t names[16][12]; jabulghi_record records[16]; } jabulghi_marks;
+typedef struct jabulghi_marks { uint32_t used[16], length[16]; uint8_t names[16][12]; jabulghi_record records[16]; } jabulghi_marks;
 
 /* The exported functions take a set's members one by one, for any language; from C and C++ use the inline functions below. used, lengths: 16 elements;
  * names: 192; records: 16. */
@@ -209,6 +224,19 @@ uint32_t jabulghi_misclosure(const uint8_t *text, size_t text_length, int64_t *s
  * Refused: 6, 24, 25 (low above high), 23; each of the two calls refuses the other's header with 6 and line 1. sums and millimetres: 4 elements
  * each, east low, east high, north low, north high. */
 uint32_t jabulghi_intervals(const uint8_t *text, size_t text_length, int64_t *sums, int64_t *millimetres, uint32_t *line);
+
+/* The sizes that the library counts on. */
+#if defined(__cplusplus) && __cplusplus >= 201103L
+#define JABULGHI_HAS_BYTES(type, bytes) static_assert(sizeof(type) == bytes, #type " has not " #bytes " bytes")
+#elif !defined(__cplusplus) && defined(__STDC_VERSION__) && __STDC_VERSION__ >= 201112L
+#define JABULGHI_HAS_BYTES(type, bytes) _Static_assert(sizeof(type) == bytes, #type " has not " #bytes " bytes")
+#else
+#define JABULGHI_HAS_BYTES(type, bytes) typedef char type##_has_##bytes##_bytes[sizeof(type) == bytes ? 1 : -1]
+#endif
+JABULGHI_HAS_BYTES(jabulghi_record, 40);
+JABULGHI_HAS_BYTES(jabulghi_window, 8224);
+JABULGHI_HAS_BYTES(jabulghi_marks, 960);
+#undef JABULGHI_HAS_BYTES
 
 #ifdef __cplusplus
 }

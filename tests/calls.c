@@ -131,7 +131,7 @@ static void list(size_t length, size_t room) {
     uint32_t line = 7;
     size_t written = 7;
     uint32_t number = jabulghi_list((const uint8_t *)text, length, listing, room, &line, &written);
-    printf("list %" PRIu32 ": line %" PRIu32 ", length %zu, listing '%.*s'\n", number, line, written, (int)written + 3, (char *)listing);
+    printf("list %" PRIu32 ": line %" PRIu32 ", length %lu, listing '%.*s'\n", number, line, (unsigned long)written, (int)written + 3, (char *)listing);
 }
 
 static void list_text(const char *lines, size_t room) {
@@ -146,7 +146,7 @@ static void list_shots(int shots) {
     size_t written = 7;
     static uint8_t listing[JABULGHI_LISTING_ROOM];
     uint32_t number = jabulghi_list((const uint8_t *)text, (size_t)(end - text), listing, sizeof listing, &line, &written);
-    printf("%d shots %" PRIu32 ": line %" PRIu32 ", length %zu\n", shots, number, line, written);
+    printf("%d shots %" PRIu32 ": line %" PRIu32 ", length %lu\n", shots, number, line, (unsigned long)written);
 }
 
 /* A window's numbers, its first four places and its last, and how many others are not 0. */
@@ -229,7 +229,7 @@ static void legs(const char *lines, size_t room) {
     memset(shots, '-', sizeof shots);
     size_t line = 7, written = 7;
     uint32_t number = jabulghi_legs((const uint8_t *)lines, strlen(lines), shots, room, &line, &written);
-    printf("legs %" PRIu32 ": line %zu, length %zu, shots '%.*s'\n", number, line, written, (int)written + 3, (char *)shots);
+    printf("legs %" PRIu32 ": line %lu, length %lu, shots '%.*s'\n", number, (unsigned long)line, (unsigned long)written, (int)written + 3, (char *)shots);
 }
 
 #define SHOTS 500

@@ -105,6 +105,6 @@ int main(void) {
     size_t least = depth(nothing);
     for (size_t j = 0; j < sizeof CALLS / sizeof CALLS[0]; j++) {
         CALLS[j].set();
-        printf("%s %zu\n", CALLS[j].name, depth(CALLS[j].call) - least);
+        printf("%s %lu\n", CALLS[j].name, (unsigned long)(depth(CALLS[j].call) - least));
     }
 }

@@ -1,5 +1,7 @@
 //! Listings of distances between two readings, whole and damaged, through the call and the program that tell how far their loop misses at least and at most.
 use crate::cases::{same, Case};
+use crate::elsewhere::Written;
+use crate::library::Lent;
 use crate::misclosure::{interval, Interval, BETWEEN, FARTHEST, HEADER, SHOTS};
 use crate::misses;
 use crate::program::{run, writes};
@@ -210,6 +212,15 @@ pub fn given(tables: &Tables) -> String {
         misses::both(tables, text);
     }
     format!("{} listings of two readings written out, through both calls", texts.len())
+}
+
+/// One call, for other processors.
+pub fn elsewhere(tables: &Tables, random: &mut Random) -> Written {
+    let text = std::iter::repeat_with(|| text(random)).find(|text| text.len() < 4000).unwrap();
+    let (number, line, sums, millimetres) = interval(tables, &text);
+    let written = Written::new("intervals", number, &[text.len() as u64]).lent(&Lent::holding(&text), &Lent::holding(&text));
+    let written = written.lent(&Lent::marked(4), &Lent::holding(&sums)).lent(&Lent::marked(4), &Lent::holding(&millimetres));
+    written.lent(&Lent::marked(1), &Lent::holding(&[line]))
 }
 
 pub fn listings(tables: &Tables, random: &mut Random) -> String {

@@ -1,5 +1,6 @@
 //! Level legs from Survex: the library's call and the built program beside the other implementation, and the real peer, Survex's `cavern`.
 use crate::cases::{same, Case};
+use crate::elsewhere::Written;
 use crate::job::{self, ROOM, SHOTS};
 use crate::library::Lent;
 use crate::program::{failures, run, writes};
@@ -231,6 +232,17 @@ fn damaged(random: &mut Random) -> Vec<u8> {
         }
     }
     text
+}
+
+/// One call, for other processors.
+pub fn elsewhere(tables: &Tables, random: &mut Random) -> Written {
+    let legs = random.below(12);
+    let text = if random.one_in(3) { survey(random, legs).into_bytes() } else { damaged(random) };
+    let room = survex::legs(&text, usize::MAX).2.len() + *random.of(&[0, 0, 20]);
+    let room = if random.one_in(6) { room / 2 } else { room };
+    let (number, same_text, shots, line, length) = Legs(text.clone(), room).other(tables);
+    let written = Written::new("legs", number, &[text.len() as u64, room as u64]).lent(&Lent::holding(&text), &same_text);
+    written.lent(&Lent::marked(room), &shots).lent(&Lent::marked(1), &line).lent(&Lent::marked(1), &length)
 }
 
 pub fn calls(tables: &Tables, random: &mut Random) -> String {

@@ -19,6 +19,8 @@ const MARGIN: usize = 8;
 
 pub trait Mark: Copy + PartialEq + fmt::Debug {
     fn mark(place: usize) -> Self;
+    /// Lowest byte first.
+    fn bytes(self) -> Vec<u8>;
     fn show(elements: &[Self]) -> String {
         format!("{elements:?}")
     }
@@ -27,10 +29,16 @@ impl Mark for i16 {
     fn mark(place: usize) -> i16 {
         (place * 30011 + 0x5AA5) as i16
     }
+    fn bytes(self) -> Vec<u8> {
+        self.to_le_bytes().to_vec()
+    }
 }
 impl Mark for u32 {
     fn mark(place: usize) -> u32 {
         (place as u32 + 1).wrapping_mul(0x9E3779B1)
+    }
+    fn bytes(self) -> Vec<u8> {
+        self.to_le_bytes().to_vec()
     }
     /// Ten words are a record.
     fn show(elements: &[u32]) -> String {
@@ -58,6 +66,10 @@ impl<T: Mark> Lent<T> {
 
     pub fn elements(&self) -> &[T] {
         &self.0[MARGIN..self.0.len() - MARGIN]
+    }
+
+    pub fn bytes(&self) -> Vec<u8> {
+        self.elements().iter().flat_map(|element| element.bytes()).collect()
     }
 
     pub fn elements_mut(&mut self) -> &mut [T] {

@@ -1,5 +1,6 @@
 //! Whole jobs: the library's listing beside the other implementation's.
 use crate::cases::{below, same, Case};
+use crate::elsewhere::Written;
 use crate::given;
 use crate::job;
 use crate::library::{Lent, Mark};
@@ -26,10 +27,16 @@ impl Mark for u8 {
     fn mark(place: usize) -> u8 {
         (place * 89 + 0xA5) as u8
     }
+    fn bytes(self) -> Vec<u8> {
+        vec![self]
+    }
 }
 impl Mark for usize {
     fn mark(place: usize) -> usize {
         (place + 1).wrapping_mul(0x9E3779B97F4A7C15)
+    }
+    fn bytes(self) -> Vec<u8> {
+        self.to_le_bytes().to_vec()
     }
 }
 
@@ -100,6 +107,16 @@ pub fn given(tables: &Tables) -> String {
         }
     }
     format!("{} jobs written out, each with five buffers, by number {numbers:?}", texts.len())
+}
+
+/// One call, for other processors: a job of few lines, with room for its listing or not quite.
+pub fn elsewhere(tables: &Tables, random: &mut Random) -> Written {
+    let text = std::iter::repeat_with(|| texts::text(random)).find(|text| text.len() < 4000).unwrap();
+    let length = job::list(tables, &text, usize::MAX).2.len();
+    let room = [length, length.saturating_sub(1), length + 40, length + 40][random.below(4)];
+    let (number, same_text, listing, line, length) = Job(text.clone(), room).other(tables);
+    let written = Written::new("list", number, &[text.len() as u64, room as u64]).lent(&Lent::holding(&text), &same_text);
+    written.lent(&Lent::marked(room), &listing).lent(&Lent::marked(1), &line).lent(&Lent::marked(1), &length)
 }
 
 pub fn jobs(tables: &Tables, random: &mut Random) -> String {

@@ -1,10 +1,11 @@
 //! Runs the static library and the programs beside another implementation of documents 01 and 02, written from them alone.
 //! JABULGHI_SEED gives the generated inputs another seed. With the words `checks FOLDER` it writes what the program crates/checks reads and
-//! has to print.
+//! has to print; with `elsewhere FILE` calls and their answers, for tests/elsewhere.c.
 mod cases;
 mod checks;
 mod counts;
 mod edges;
+mod elsewhere;
 mod fixed;
 mod given;
 mod inputs;
@@ -40,9 +41,11 @@ fn main() {
     let tables = Tables::new();
     readings::check(&tables);
     let words: Vec<String> = std::env::args().skip(1).collect();
-    if let [word, folder] = &words[..] {
-        assert_eq!(word, "checks");
-        return checks::write(&tables, folder.as_ref());
+    match &words.iter().map(String::as_str).collect::<Vec<_>>()[..] {
+        [] => (),
+        ["checks", folder] => return checks::write(&tables, folder.as_ref()),
+        ["elsewhere", file] => return elsewhere::write(&tables, &mut Random(seed), file.as_ref()),
+        _ => panic!("{words:?}: checks FOLDER, elsewhere FILE or nothing"),
     }
     println!("the other implementation gives document 01's readings and example; inputs from seed {seed}");
     type Group = fn(&Tables, &mut Random) -> String;

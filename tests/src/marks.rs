@@ -1,6 +1,7 @@
 //! Document 02, "marks to come back to". Sets from anywhere are compared call by call, as they stand in memory. Of a set that grew from the empty one
 //! the other side keeps no memory: it has the names and records of 16 places, and says at the end what the set's members have to be.
 use crate::cases::{below, same, Call, Case};
+use crate::elsewhere::Written;
 use crate::inputs;
 use crate::library::{self, lent, record_of, Lent};
 use crate::random::Random;
@@ -378,19 +379,38 @@ pub fn given(tables: &Tables) -> String {
     format!("{calls} calls on sets at the edges")
 }
 
+/// A call on a set from anywhere.
+fn one(random: &mut Random) -> One {
+    let what = *random.of(&[What::Save, What::Return, What::Drop]);
+    let set = set(random);
+    let held = random.of(&set);
+    let name = match random.below(4) {
+        0 => held.name[..(held.length as usize).min(LETTERS)].to_vec(),
+        _ => name(random),
+    };
+    One(what, set, inputs::noted(random, 1), name)
+}
+
+/// One call, for other processors.
+pub fn elsewhere(tables: &Tables, random: &mut Random) -> Written {
+    let case = one(random);
+    let One(what, set, record, word) = &case;
+    let name = match what {
+        What::Save => "marks_save_members",
+        What::Return => "marks_return_members",
+        What::Drop => "marks_drop_members",
+    };
+    let (before, (number, after)) = (Memory::of(set, record, word), case.other(tables));
+    let written = Written::new(name, number, &[word.len() as u64]).lent(&before.used, &after.used).lent(&before.lengths, &after.lengths);
+    let written = written.lent(&before.names, &after.names).lent(&before.records, &after.records);
+    written.lent(&before.record, &after.record).lent(&before.name, &after.name)
+}
+
 /// Calls on sets from anywhere.
 pub fn calls(tables: &Tables, random: &mut Random) -> String {
     let (count, mut numbers) = (60_000, [0; 21]);
     for _ in 0..count {
-        let what = *random.of(&[What::Save, What::Return, What::Drop]);
-        let set = set(random);
-        let held = random.of(&set);
-        let name = match random.below(4) {
-            0 => held.name[..(held.length as usize).min(LETTERS)].to_vec(),
-            _ => name(random),
-        };
-        let case = One(what, set, inputs::noted(random, 1), name);
-        numbers[same(tables, &case).0 as usize] += 1;
+        numbers[same(tables, &one(random)).0 as usize] += 1;
     }
     format!("{count} saves, returns and drops on sets from anywhere; refused {}", met(&numbers, &[0, 11, 12, 14, 18, 19, 20]))
 }

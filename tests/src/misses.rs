@@ -1,5 +1,7 @@
 //! Listings, whole and damaged, through the call and the program that tell how far their loop misses.
 use crate::cases::{same, Case};
+use crate::elsewhere::Written;
+use crate::library::Lent;
 use crate::job;
 use crate::misclosure::{miss, Miss, FARTHEST, HEADER, SHOTS};
 use crate::program::{failures, run, writes};
@@ -198,6 +200,15 @@ pub fn given(tables: &Tables) -> String {
         same(tables, &Listing(text.clone()));
     }
     format!("{} listings written out, {} of them with a sum at half a millimetre", texts.len() + halves.len(), halves.len())
+}
+
+/// One call, for other processors.
+pub fn elsewhere(tables: &Tables, random: &mut Random) -> Written {
+    let text = std::iter::repeat_with(|| text(random)).find(|text| text.len() < 4000).unwrap();
+    let (number, line, sums, millimetres) = miss(tables, &text);
+    let written = Written::new("misclosure", number, &[text.len() as u64]).lent(&Lent::holding(&text), &Lent::holding(&text));
+    let written = written.lent(&Lent::marked(2), &Lent::holding(&sums)).lent(&Lent::marked(2), &Lent::holding(&millimetres));
+    written.lent(&Lent::marked(1), &Lent::holding(&[line]))
 }
 
 pub fn listings(tables: &Tables, random: &mut Random) -> String {

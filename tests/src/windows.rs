@@ -1,6 +1,7 @@
 //! Document 02, "drift over the latest readings". Windows from anywhere are compared push by push. Of a window that was made the other side keeps
 //! no window at all: it has the samples that came, and works everything out afresh.
 use crate::cases::{below, same, Case};
+use crate::elsewhere::Written;
 use crate::library::{Lent, Mark};
 use crate::random::Random;
 use crate::sample::Tables;
@@ -63,6 +64,9 @@ impl fmt::Debug for Window {
 impl Mark for i64 {
     fn mark(place: usize) -> i64 {
         (place as i64 + 1).wrapping_mul(0x5851F42D4C957F2D)
+    }
+    fn bytes(self) -> Vec<u8> {
+        self.to_le_bytes().to_vec()
     }
 }
 
@@ -370,28 +374,53 @@ pub fn given(tables: &Tables) -> String {
     format!("windows of {} N made and {run} calls on windows from nowhere, {refused} refused", SIZES.len())
 }
 
-/// Windows from nowhere that are nearly all fit, their sums often so near an edge that one of many pushes is refused in mid-run.
+/// A window from nowhere that is nearly always fit, its sums often so near an edge that one of many pushes is refused in mid-run; and samples.
+fn nearly_fit(random: &mut Random) -> (Window, Vec<i16>) {
+    let size = 1 + if random.one_in(2) { random.below(8) } else { random.below(PLACES) } as u32;
+    let held = if random.one_in(2) { size } else { random.below(size as usize + 1) as u32 };
+    let outside = random.one_in(50);
+    let place = if outside { size } else { random.below(size as usize) as u32 };
+    let near = |random: &mut Random, step: usize| {
+        let off = random.below(3 * step) as i64 - step as i64;
+        match random.below(4) {
+            0 => 0,
+            1 => LIMIT as i64 - off,
+            2 => off - LIMIT as i64,
+            _ => random.next() as i64 >> 22,
+        }
+    };
+    let (sum, squares) = (near(random, 1 << 17), near(random, 1 << 31));
+    let w = window(random, size, held, place, sum, squares);
+    let most = *random.of(&[1, 2, 3, 40, 3 * size.min(30) as usize]);
+    let length = random.below(most);
+    (w, samples(random, length))
+}
+
+/// One call, for other processors.
+pub fn elsewhere(_: &Tables, random: &mut Random) -> Written {
+    let (w, all) = nearly_fit(random);
+    let (name, n, before, (number, after), all) = match random.below(8) {
+        0 => {
+            let n = *random.of(&SIZES);
+            ("window_make_members", n.into(), marked(), afresh(n, &[]), vec![])
+        }
+        1..=3 => {
+            let one = sample(random);
+            ("window_push_members", one as u64, lent(&w, &[]), push(w, one), vec![])
+        }
+        _ => ("window_push_all_members", all.len() as u64, lent(&w, &all), push_all(w, &all), all),
+    };
+    let after = lent(&after, &all);
+    let written = Written::new(name, number, &[n]).lent(&before.size, &after.size).lent(&before.held, &after.held);
+    let written = written.lent(&before.place, &after.place).lent(&before.places, &after.places);
+    written.lent(&before.sum, &after.sum).lent(&before.squares, &after.squares).lent(&before.samples, &after.samples)
+}
+
+/// Such windows, pushed at once and one by one.
 pub fn pushes(tables: &Tables, random: &mut Random) -> String {
     let (count, mut refused, mut midway) = (20_000, 0, 0);
     for _ in 0..count {
-        let size = 1 + if random.one_in(2) { random.below(8) } else { random.below(PLACES) } as u32;
-        let held = if random.one_in(2) { size } else { random.below(size as usize + 1) as u32 };
-        let outside = random.one_in(50);
-        let place = if outside { size } else { random.below(size as usize) as u32 };
-        let near = |random: &mut Random, step: usize| {
-            let off = random.below(3 * step) as i64 - step as i64;
-            match random.below(4) {
-                0 => 0,
-                1 => LIMIT as i64 - off,
-                2 => off - LIMIT as i64,
-                _ => random.next() as i64 >> 22,
-            }
-        };
-        let (sum, squares) = (near(random, 1 << 17), near(random, 1 << 31));
-        let w = window(random, size, held, place, sum, squares);
-        let most = *random.of(&[1, 2, 3, 40, 3 * size.min(30) as usize]);
-        let length = random.below(most);
-        let all = samples(random, length);
+        let (w, all) = nearly_fit(random);
         let whole = same(tables, &Pushed(w.clone(), Push::All(all.clone())));
         // the same pushes one by one: what the last of them returns is what all at once return
         let mut last = (0, w.clone());

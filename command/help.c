@@ -1,0 +1,58 @@
+/* What the commands do, in their own words. */
+#include "command.h"
+#include <string.h>
+
+static const char OVERVIEW[] =
+    "usage: jabulghi list [FILE]     the listing of a job: each shot with its noise\n"
+    "       jabulghi legs [FILE]     the shot lines of a Survex survey's level legs\n"
+    "       jabulghi level [FILE]    an ordinary Survex survey as the strict text that legs takes; not proved\n"
+    "       jabulghi misses [FILE]   how far the loop of a listing misses, in millimetres\n"
+    "       jabulghi job [FILE] --sigma SIGMAS   a job from a survey\n"
+    "       jabulghi noise -n N      samples of noise\n"
+    "       jabulghi seeds           a job's line of seeds, from the system's randomness\n"
+    "       jabulghi help [COMMAND]  this, or the options of a command (also --help, -h)\n"
+    "       jabulghi --version       (also -V)\n"
+    "\n"
+    "Without FILE, or where it is -, standard input is read. -o FILE writes to a file, whole or not at all.\n"
+    "A word after -- is a FILE, whatever it looks like.\n"
+    "\n"
+    "Exit status: 0 done; 1 refused, with the reason on standard error; 2 wrong usage, or a read or write failed.\n";
+
+static const struct { const char *command, *text; } HELP[] = {
+    {"list", "usage: jabulghi list [FILE] [-o FILE]\n\nPrints the listing of a job: each shot with its noise, and the count of shots.\n"},
+    {"legs", "usage: jabulghi legs [FILE] [-o FILE]\n\nPrints the shot lines of a Survex survey's level legs.\n"},
+    {"level",
+     "usage: jabulghi level [FILE] [--loop N] [-o FILE]\n"
+     "\n"
+     "Writes the legs of an ordinary Survex survey's loop as the strict text that legs takes, whole or not at all. It is not proved.\n"
+     "Scopes, equates, orders of readings and steep legs are worked in; standard error says what was done, and the new names of stations.\n"
+     "  --loop N  the loop that is written, where the survey has several; not given, they are listed\n"},
+    {"misses", "usage: jabulghi misses [FILE] [-o FILE]\n\nPrints how far the loop of a listing misses, east and north in whole millimetres.\n"},
+    {"job",
+     "usage: jabulghi job [FILE] --sigma SIGMAS [--seeds SEEDS] [-o FILE]\n"
+     "\n"
+     "Prints a job with the legs of a Survex survey, the rows of a listing or the shots of another job, whole or not at all.\n"
+     "  --sigma SIGMAS  of distance and bearing: 4mm,0.5deg or 4,91 (millimetres, steps of which a turn has 65536);\n"
+     "                  for a job its own, where not given\n"
+     "  --seeds SEEDS   a line of seeds, as `jabulghi seeds` prints it, or six numbers with commas between;\n"
+     "                  for a job its own, where not given; else some are drawn\n"},
+    {"noise",
+     "usage: jabulghi noise -n N [--seeds SEEDS] [--skip M] [--bits 16|18] [--sigma SIGMA] [--text|--raw] [-o FILE]\n"
+     "\n"
+     "Writes N samples (an even number), first and second of each pair alternating.\n"
+     "  --seeds SEEDS  a line of seeds, as `jabulghi seeds` prints it, or six numbers with commas between;\n"
+     "                 not given, some are drawn, and standard error says which\n"
+     "  --skip M       leave out the first M pairs\n"
+     "  --bits 16|18   samples in units of 1/2048 (16, as if not given) or of 1/8192 of a standard deviation (18)\n"
+     "  --sigma SIGMA  times a standard deviation: 4mm, 0.5deg or 91steps; printed in that unit\n"
+     "  --text         a sample a line, in decimal (as if not given)\n"
+     "  --raw          16 bits a sample, or 32 for --bits 18, signed, the lowest byte first\n"},
+    {"seeds", "usage: jabulghi seeds [-o FILE]\n\nPrints a job's line of seeds, drawn from the system's randomness.\n"},
+};
+
+int help_on(const char *command) {
+    for (size_t j = 0; command != NULL && j < sizeof HELP / sizeof HELP[0]; j++) {
+        if (strcmp(HELP[j].command, command) == 0) return put(HELP[j].text, strlen(HELP[j].text));
+    }
+    return put(OVERVIEW, strlen(OVERVIEW));
+}

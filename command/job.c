@@ -1,0 +1,68 @@
+/* A job from a survey, a listing or another job: seeds, sigmas and the shots. */
+#include "traverse.h"
+#include <errno.h>
+#include <inttypes.h>
+#include <stdio.h>
+#include <stdlib.h>
+#include <string.h>
+
+/* The seeds that are given, else a job's own, else some that are drawn. */
+static int seeds_for(const option *given, survey *s) {
+    jabulghi_record record;
+    uint32_t *n = s->seeds;
+    if (given->value == NULL) return s->about == JOB ? DONE : draw_seeds(n);
+    int status = seeds_of(given, n);
+    if (status != DONE) return status;
+    uint32_t number = jabulghi_seed(n[0], n[1], n[2], n[3], n[4], n[5], &record);
+    return number == JABULGHI_OK ? DONE : refuse_option(given->name, number);
+}
+
+int settings_of(const option *seeds, const option *sigma, const char *command, survey *s) {
+    int status = DONE;
+    if (sigma->value != NULL) {
+        status = sigmas_of(sigma, s->sigma);
+    } else if (s->about != JOB) {
+        status = wrong(NEEDS, command, sigma->name);
+    }
+    return status == DONE ? seeds_for(seeds, s) : status;
+}
+
+uint8_t *job_text(const survey *s, const uint32_t sigma[2], size_t *length) {
+    const uint32_t *n = s->seeds;
+    size_t room = 160 + s->length;
+    char *job = malloc(room);
+    if (job == NULL) return NULL;
+    *length = (size_t)snprintf(job, room, SEEDS_LINE "\n(sigma %" PRIu32 " %" PRIu32 ")\n", n[0], n[1], n[2], n[3], n[4], n[5], sigma[0], sigma[1]);
+    memcpy(job + *length, s->shots, s->length);
+    *length += s->length;
+    return (uint8_t *)job;
+}
+
+/* Writes a job that the library accepts, whole or not at all. */
+static int write_job(const survey *s) {
+    static uint8_t listing[JABULGHI_LISTING_ROOM];
+    size_t length, listed;
+    uint32_t line;
+    traverse t;
+    uint8_t *text = job_text(s, s->sigma, &length);
+    if (text == NULL) return trouble(s->source.name, strerror(ENOMEM));
+    uint32_t number = jabulghi_list(text, length, listing, sizeof listing, &line, &listed);
+    if (number != JABULGHI_OK) return refuse(&s->source, s->about, line_in_source(s, line), number);
+    read_shots(text, length, false, &t);
+    is_loop(s->source.name, &t);
+    return put(text, length);
+}
+
+int job(int count, char **words) {
+    option options[] = {{"--sigma", false, NULL}, {"--seeds", false, NULL}, {"-o", false, NULL}};
+    text source;
+    survey s;
+    int status = read_options(&count, words, options, 3);
+    if (status == DONE && count > 1) status = wrong(ONE_FILE, words[1]);
+    if (status == DONE) status = read_text(count == 0 ? "-" : words[0], &source);
+    if (status == DONE) status = take_survey(source, &s);
+    if (status == DONE) status = settings_of(&options[1], &options[0], "job", &s);
+    if (status != DONE) return status;
+    write_to(&options[2]);
+    return write_job(&s);
+}

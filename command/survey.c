@@ -1,0 +1,98 @@
+/* Takes a text for what it is, a job, a listing or a Survex survey, and makes a job's shot lines of it. */
+#include "traverse.h"
+#include <errno.h>
+#include <inttypes.h>
+#include <stdio.h>
+#include <stdlib.h>
+#include <string.h>
+
+static bool starts_with(const text *t, const char *start) { return t->length >= strlen(start) && memcmp(t->bytes, start, strlen(start)) == 0; }
+
+static bool ends_with(const char *name, const char *end) { return strlen(name) >= strlen(end) && strcmp(name + strlen(name) - strlen(end), end) == 0; }
+
+/* What a text is: as its name says, or else its first line. */
+static subject kind_of(const text *t) {
+    if (ends_with(t->name, ".job")) return JOB;
+    if (ends_with(t->name, ".listing")) return LISTING;
+    if (ends_with(t->name, ".svx")) return SURVEY;
+    return starts_with(t, "(") ? JOB : starts_with(t, "FROM TO ") ? LISTING : SURVEY;
+}
+
+/* A job is taken as it stands: its shots follow the second line. */
+static int take_job(survey *s) {
+    static uint8_t listing[JABULGHI_LISTING_ROOM];
+    uint32_t line, *n = s->seeds;
+    size_t length;
+    uint32_t number = jabulghi_list(s->source.bytes, s->source.length, listing, sizeof listing, &line, &length);
+    if (number != JABULGHI_OK) return refuse(&s->source, JOB, line, number);
+    const char *bytes = (const char *)s->source.bytes;
+    char lines[160] = "";
+    memcpy(lines, bytes, s->source.length < sizeof lines - 1 ? s->source.length : sizeof lines - 1);
+    sscanf(lines, "(seeds (a %" SCNu32 " %" SCNu32 " %" SCNu32 ") (b %" SCNu32 " %" SCNu32 " %" SCNu32 "))", &n[0], &n[1], &n[2], &n[3], &n[4], &n[5]);
+    const char *second = strchr(lines, '\n') + 1;
+    sscanf(second, "(sigma %" SCNu32 " %" SCNu32 ")", &s->sigma[0], &s->sigma[1]);
+    size_t head = (size_t)(strchr(second, '\n') + 1 - lines);
+    s->shots = s->source.bytes + head;
+    s->length = s->source.length - head;
+    return DONE;
+}
+
+/* A survey's legs; of more than a job may have, one more than those, so that the library refuses it. */
+static int take_legs(survey *s) {
+    size_t line, room = 3 * s->source.length + 1, shots = 0;
+    s->shots = malloc(room);
+    if (s->shots == NULL) return trouble(s->source.name, strerror(ENOMEM));
+    uint32_t number = jabulghi_legs(s->source.bytes, s->source.length, s->shots, room, &line, &s->length);
+    if (number != JABULGHI_OK) return refuse(&s->source, SURVEY, line, number);
+    for (size_t at = 0; at < s->length; at++) {
+        shots += s->shots[at] == '\n';
+        if (shots > MOST_SHOTS) s->length = at + 1;
+    }
+    return DONE;
+}
+
+/* A listing's rows as shot lines. */
+static int take_listing(survey *s) {
+    int64_t sums[2], millimetres[2];
+    uint32_t line;
+    traverse rows;
+    uint32_t number = jabulghi_misclosure(s->source.bytes, s->source.length, sums, millimetres, &line);
+    if (number != JABULGHI_OK) return refuse(&s->source, LISTING, line, number);
+    read_shots(s->source.bytes, s->source.length, true, &rows);
+    size_t room = s->source.length + rows.count * sizeof "(shot )" + 1;
+    s->shots = malloc(room);
+    if (s->shots == NULL) return trouble(s->source.name, strerror(ENOMEM));
+    for (size_t j = 0; j < rows.count; j++) {
+        const shot *r = &rows.shots[j];
+        s->length += (size_t)snprintf((char *)s->shots + s->length, room - s->length, "(shot %s %s %" PRIu32 " %" PRIu32 ")\n", r->from, r->to, r->distance, r->bearing);
+    }
+    return DONE;
+}
+
+int take_survey(text source, survey *taken) {
+    *taken = (survey){source, kind_of(&source), NULL, 0, {0}, {0}};
+    return taken->about == JOB ? take_job(taken) : taken->about == LISTING ? take_listing(taken) : take_legs(taken);
+}
+
+/* Whether a line of a Survex text has something besides blanks and a comment. */
+static bool says_something(const uint8_t *at, const uint8_t *end) {
+    while (at < end && (*at == ' ' || *at == '\t')) at++;
+    return at < end && *at != ';' && *at != '\n';
+}
+
+/* The line of a survey that has its leg of this number: the data line is the first that says something. */
+static size_t line_of_leg(const text *t, size_t leg) {
+    const uint8_t *at = t->bytes, *end = at + t->length;
+    for (size_t line = 1, found = 0; at < end; line++) {
+        const uint8_t *feed = memchr(at, '\n', (size_t)(end - at));
+        found += says_something(at, feed == NULL ? end : feed);
+        if (found == leg + 1) return line;
+        at = feed == NULL ? end : feed + 1;
+    }
+    return 0;
+}
+
+size_t line_in_source(const survey *s, size_t line) {
+    if (s->about == JOB || line < 3) return line;
+    return s->about == LISTING ? line - 1 : line_of_leg(&s->source, line - 2);
+}

@@ -1,0 +1,126 @@
+//! Calls of every kind with their answers, by the other implementation alone, for tests/elsewhere.c on processors that this program does not run on.
+use crate::cases::{Call, Called, Case, Sample, Seed};
+use crate::inputs;
+use crate::library::{lent, Lent, Mark};
+use crate::random::Random;
+use crate::sample::Tables;
+use crate::{intervals, legs, listings, marks, misses, wide, windows};
+use std::path::Path;
+
+/// A call by its name without `jabulghi_`, the number that it returns, the numbers that it is passed, and its lent memory before and after.
+pub struct Written {
+    name: &'static str,
+    number: u32,
+    numbers: Vec<u64>,
+    memory: Vec<(Vec<u8>, Vec<u8>)>,
+}
+
+impl Written {
+    pub fn new(name: &'static str, number: u32, numbers: &[u64]) -> Written {
+        Written { name, number, numbers: numbers.to_vec(), memory: Vec::new() }
+    }
+
+    pub fn lent<T: Mark>(mut self, before: &Lent<T>, after: &Lent<T>) -> Written {
+        self.memory.push((before.bytes(), after.bytes()));
+        self
+    }
+
+    /// A length of one byte or two before what has that length; of memory that changes the bytes before, then each run of others as its place, its
+    /// length and its bytes. All numbers have their lowest byte first.
+    fn bytes(&self) -> Vec<u8> {
+        let mut out = vec![self.name.len() as u8];
+        out.extend(self.name.bytes());
+        out.extend(self.number.to_le_bytes());
+        out.push(self.numbers.len() as u8);
+        out.extend(self.numbers.iter().flat_map(|n| n.to_le_bytes()));
+        out.push(self.memory.len() as u8);
+        for (before, after) in &self.memory {
+            let short = |n: usize| u16::try_from(n).expect("memory of less than 65,536 bytes").to_le_bytes();
+            out.extend(short(before.len()));
+            out.extend(before);
+            let runs = runs(before, after);
+            out.extend(short(runs.len()));
+            for (start, end) in runs {
+                out.extend(short(start).into_iter().chain(short(end - start)));
+                out.extend(&after[start..end]);
+            }
+        }
+        out
+    }
+}
+
+/// The runs of bytes that are not the same, each by its start and its end.
+fn runs(before: &[u8], after: &[u8]) -> Vec<(usize, usize)> {
+    let mut runs: Vec<(usize, usize)> = Vec::new();
+    for j in (0..before.len()).filter(|&j| before[j] != after[j]) {
+        match runs.last_mut() {
+            Some((_, end)) if *end == j => *end = j + 1,
+            _ => runs.push((j, j + 1)),
+        }
+    }
+    runs
+}
+
+fn seed(tables: &Tables, random: &mut Random) -> Written {
+    let seeds = inputs::seeds(random);
+    let (number, record) = Seed(seeds).other(tables);
+    Written::new("seed", number, &seeds.map(u64::from)).lent(&Lent::marked(10), &record)
+}
+
+fn sample(tables: &Tables, random: &mut Random) -> Written {
+    let (k, v) = (inputs::k(random), inputs::v(random));
+    let (number, samples) = Sample(k, v).other(tables);
+    Written::new("sample", number, &[k, v.into()]).lent(&Lent::marked(2), &samples)
+}
+
+/// A call on a record of any kind.
+fn called(tables: &Tables, random: &mut Random) -> Written {
+    let record = inputs::noted(random, 20);
+    let just = 2 * record.asked.min(400) as usize;
+    let (name, n, call) = match random.below(9) {
+        0 => ("pair", 0, Call::Pair),
+        1 => ("give_up", 0, Call::GiveUp),
+        2 => of_length("block", Call::Block, random.below(200)),
+        3 => of_length("look", Call::Look, random.below(200)),
+        4 => of_length("take", Call::Take, random.below(40)),
+        5 => of_length("take", Call::Take, just),
+        6 => of_length("block", Call::Block, 2 * random.below(200)),
+        7 => {
+            let n = inputs::n(random);
+            ("skip", n, Call::Skip(n))
+        }
+        _ => {
+            let n = [random.below(30) as u32, 1_000_000, 1_000_001, random.number(32) as u32][random.below(4)];
+            ("ask", n.into(), Call::Ask(n))
+        }
+    };
+    let (number, next, out) = Called(record, call).other(tables);
+    Written::new(name, number, &[n]).lent(&lent(&record), &next).lent(&Lent::marked(call.length()), &out)
+}
+
+fn of_length(name: &'static str, call: fn(usize) -> Call, length: usize) -> (&'static str, u64, Call) {
+    (name, length as u64, call(length))
+}
+
+/// Writes them all into a file, and tells how many there are.
+pub fn write(tables: &Tables, random: &mut Random, file: &Path) {
+    type Kind = fn(&Tables, &mut Random) -> Written;
+    let kinds: [(Kind, usize); 10] = [
+        (seed, 200),
+        (sample, 1000),
+        (called, 3000),
+        (wide::elsewhere, 2000),
+        (windows::elsewhere, 60),
+        (marks::elsewhere, 400),
+        (listings::elsewhere, 300),
+        (legs::elsewhere, 300),
+        (misses::elsewhere, 300),
+        (intervals::elsewhere, 300),
+    ];
+    let mut out = Vec::new();
+    for (kind, count) in kinds {
+        (0..count).for_each(|_| out.extend(kind(tables, random).bytes()));
+    }
+    std::fs::write(file, out).unwrap();
+    println!("{} calls", kinds.iter().map(|(_, count)| count).sum::<usize>());
+}
