@@ -47,7 +47,7 @@ static const struct { subject about; uint32_t number; bool (*holds)(const bad_li
     {SURVEY, JABULGHI_NO_LEG, ends_in_crlf, CRLF},
     {SURVEY, JABULGHI_NO_LEG, lacks_line_feed, NO_LINE_FEED},
     {SURVEY, JABULGHI_NO_LEG, is_other_data_line, "data line is not '*data normal from to tape compass clino'; jabulghi level takes other orders"},
-    {SURVEY, JABULGHI_NO_LEG, is_command, "command, and legs takes the data line and legs alone; jabulghi level takes ordinary Survex"},
+    {SURVEY, JABULGHI_NO_LEG, is_command, "commands are not taken here; jabulghi level takes ordinary Survex"},
     {SURVEY, JABULGHI_NO_LEG, lacks_data_line, "leg before the data line"},
     {SURVEY, JABULGHI_NO_LEG, has_few_fields, "leg has fewer than five fields"},
     {SURVEY, JABULGHI_NO_LEG, has_many_fields, "leg has more than five fields"},
