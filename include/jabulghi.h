@@ -18,7 +18,7 @@
  * would end the program, and an interrupt that makes such a call must save the registers of the floating-point unit.
  *
  * State and threads. The library has no data that is written. Calls on different records, windows and marks may run at once in several threads; on the
- * same one, one after another. A record has 40 bytes, a window 8,224 and a set of marks 960; all calls together are 60 to 90 KB of code and tables.
+ * same one, one after another. A record has 40 bytes, a window 8,224 and a set of marks 960; all calls together are 60 to 100 KB of code and tables.
  *
  * What it needs of a C library and of the compiler's own library (libgcc or compiler-rt):
  *   on x86_64, aarch64, riscv64: memcpy, memset
