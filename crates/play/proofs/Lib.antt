@@ -1,0 +1,5 @@
+pub mod Summing
+pub mod Blocks
+pub mod Room
+pub mod Runs
+pub mod Answered
