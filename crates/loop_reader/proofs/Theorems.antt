@@ -123,6 +123,9 @@ has-code text = by-outcome (job.jobOf text) (job-told text)
     by-outcome (job.refused code line) h = h
     by-outcome (job.listed bytes) h = either (eqb (loop.unlinkedLine 1 [] (loop.formsOf text)) 0) _ _ _
 
+pub refused-code : (text : List ℕ) (code line : ℕ) → loop.loopOf text ≡ loop.refused code line → 0 < code
+refused-code text code line e = subst HasCode e (has-code text)
+
 module _ (r : LoopAnswer) where
   accepted-outcome : (o : loop.Outcome) → HasCode o → r ≡ loop.answerOf o → r .code ≡ 0
       → (l : List Shot) × (o ≡ loop.accepted (r .setting) l) × (length l ≡ r .count)

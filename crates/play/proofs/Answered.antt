@@ -25,7 +25,7 @@ use Rattle.play.specs.declared.PlayAnswer.{PlayAnswer}
 use Rattle.play.proofs.Room.{roomOf}
 
 -- shots as they were kept, read back
-unpacked-are : (l : List Shot) → Within l → unpackedAll (map loop.packed l) ≡ l
+pub unpacked-are : (l : List Shot) → Within l → unpackedAll (map loop.packed l) ≡ l
 unfolding Within
 unpacked-are [] h = refl
 unpacked-are (x ∷ l) h =

@@ -27,7 +27,7 @@ use Rattle.play.specs.declared.sum.Progress.{Progress}
 -- ---- One block
 
 -- its shots are those with the samples of its pairs
-played-are : (zs : List ℕ) (d b : ℕ) (g : Generator)
+pub played-are : (zs : List ℕ) (d b : ℕ) (g : Generator)
     → noisyShots d b zs (samples fractionBits (length zs) g) ≡ playedShots (settingOf g d b) (unpackedAll zs)
 unfolding noisyShots samples playedShots after pairOf
 played-are [] d b g = refl
