@@ -5,8 +5,6 @@ use native.Mathlib.Omega.{arith}
 use mathlib.Core.Path.{_≡_, refl, sym, ap, ap₂, _∙_}
 use mathlib.Core.List.{List, [], _∷_, _++_}
 use lib.IntN.{ℤ}
-use mir.Syntax.{w64}
-use mir.Val.{Fits}
 use lib.ListN.{length, set, take, length-set, length-map}
 use lib.Seq.{take-suc-set, take-all}
 use Rattle.streams.specs.declared.Generator.{Generator}
@@ -111,8 +109,8 @@ at-end {old = old} {misses = misses} {i = i} r left =
 
 module _ (g : Generator) (first runs n : ℕ) where
   -- the pairs before it
-  pub skip-room : pairsCode g ((first + runs) * n) ≡ 0 → Fits w64 (first * n)
-  skip-room a = let (_, room, _) = pairs-accepted g ((first + runs) * n) .0 a in record { fits = omega (arith, room, before-first) }
+  pub skip-room : pairsCode g ((first + runs) * n) ≡ 0 → first * n < 2 ^ 64
+  skip-room a = let (_, room, _) = pairs-accepted g ((first + runs) * n) .0 a in omega (arith, room, before-first)
     where
       before-first : first * n ≤ (first + runs) * n
       before-first = mul-le-mul-right n (omega arith)

@@ -26,10 +26,13 @@ reads16 z h = size-reads w16 z (omega (arith, h))
 pub bearing-fits : (σ b : ℕ) (z : ℤ) (step : ℕ) → step ≡ noisyBearing σ b z → Fits w32 step
 bearing-fits σ b z step e = rw e (record { fits = omega (arith, bearing-most σ b z) })
 
--- a distance with its noise, as the machine has it
-pub far-is : (σ d : ℕ) (z : ℤ) (mm : ℕ) → mm ≡ noisyDistance σ d (toZ w16 (ofZ w16 z)) → σ ≤ limits.mostSigma → d ≤ limits.mostDistance → natAbs z ≤ largestSample
-    → mm ≤ mostDistance
-far-is σ d z mm e h k l = rw (e, reads16 z l) (sized-most σ d z h k l)
+-- samples as the machine reads them back have the same size
+pub read-sizes : (x y : ℤ) → natAbs x ≤ largestSample → natAbs y ≤ largestSample
+    → (natAbs (toZ w16 (ofZ w16 x)) ≤ largestSample) × (natAbs (toZ w16 (ofZ w16 y)) ≤ largestSample)
+read-sizes x y h k = (rw (reads16 x h) h, rw (reads16 y k) k)
+
+pub far-is : (σ d : ℕ) (z : ℤ) (mm : ℕ) → mm ≡ noisyDistance σ d z → σ ≤ limits.mostSigma → d ≤ limits.mostDistance → natAbs z ≤ largestSample → mm ≤ mostDistance
+far-is σ d z mm e h k l = rw e (sized-most σ d z h k l)
 
 -- the sine and the cosine that were returned
 module _ {sin cos : ℤ} (step : ℕ) (e : (sin, cos) ≡ signedOf step) where

@@ -35,7 +35,7 @@ pub struct Progress {
 
 // A shot with its noise is added: first sample to distance, second to bearing.
 fn moved(s: Sums, distance: u32, bearing: u32, shot: u64, first: i16, second: i16) -> Sums
-    requires { ⌜ Spare s 1 × Steady distance bearing × (shot / 65536 ≤ mostDistance) × (natAbs first ≤ largestSample) ⌝ }
+    requires { ⌜ Spare s 1 × Steady distance bearing × (shot / 65536 ≤ mostDistance) × (natAbs first ≤ largestSample) × (natAbs second ≤ largestSample) ⌝ }
     ensures { λ r. ⌜ (r .east ≡ s .east +ℤ product sine (noisyOf distance bearing shot first second))
         × (r .north ≡ s .north +ℤ product cosine (noisyOf distance bearing shot first second)) ⌝ }
 {

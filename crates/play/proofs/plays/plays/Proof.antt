@@ -13,7 +13,7 @@ start-sound : (c : tie.Start) → Sound (c .args .s .generator)
 start-sound c = sound _ (omega arith) (omega arith) (pairs-accepted _ _ .0 (c .pre .1) .0)
 
 mul-skip : tie.Need-mul-skip
-mul-skip c = skip-room _ _ _ _ (c .before .before .pre .1)
+mul-skip c = record { fits = omega (arith, skip-room _ _ _ _ (c .before .before .pre .1), c .before .before .fits .first) }
 
 skip-requires : tie.Need-skip-requires
 skip-requires c κs = tt

@@ -55,6 +55,7 @@ moved-requires c κs =
       steady,
       near-at _ _ near more,
       first-small _ _ small (omega (arith, more, c .before .before .before .before .before .before .pre .1)),
+      first-small _ _ small (omega (arith, more, c .before .before .before .before .before .before .pre .1)),
     )
 
 add-i : tie.Need-add-i Inv-loop μ-loop
