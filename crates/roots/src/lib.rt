@@ -121,6 +121,18 @@ pub fn near(x: u64) -> u64
     ((LOWEST + ROOT_UNIT * (cell / (FALLS * SLOPE)) + rise) >> places) % GUESSES
 }
 
+// The same in whole numbers, for a few at a time and for processors without floating point: one pass may stand for the other.
+pub fn nears(x: &[u64], g: &mut [u64])
+    ensures { λ _. ⌜ Guessed (length (now (x .entry))) (now (g .entry)) (now (g .exit)) ⌝ }
+{
+    let n = lesser(x.len(), g.len());
+    let mut i = 0;
+    while i < n {
+        g[i] = near(x[i]);
+        i += 1;
+    }
+}
+
 // The whole part of the root of x, from any guess: a guess that passes the test is it, and so is the next number where that passes. The
 // loop stands apart, since on the straight way it costs as much as all else.
 pub fn root(x: u64, guess: u64) -> u64
