@@ -1,7 +1,9 @@
 // The whole part of a square root: two guesses, in floating point and in whole numbers, which promise no more than a bound, and the root
 // from any guess, which is right whatever the guess is.
 mod cells;
+mod whole;
 
+pub use whole::nears;
 ghost use mathlib.Core.Path.{_≡_};
 ghost use mathlib.Core.Bool.{not};
 ghost use Prim.Native.Nat.{_^_, _<_, min};
@@ -119,18 +121,6 @@ pub fn near(x: u64) -> u64
     let slope = std::num::wrapping_sub_u64(cell / FALLS % SLOPE, fall) % SLOPE;
     let rise = product(slope, along) / SLOPE;
     ((LOWEST + ROOT_UNIT * (cell / (FALLS * SLOPE)) + rise) >> places) % GUESSES
-}
-
-// The same in whole numbers, for a few at a time and for processors without floating point: one pass may stand for the other.
-pub fn nears(x: &[u64], g: &mut [u64])
-    ensures { λ _. ⌜ Guessed (length (now (x .entry))) (now (g .entry)) (now (g .exit)) ⌝ }
-{
-    let n = lesser(x.len(), g.len());
-    let mut i = 0;
-    while i < n {
-        g[i] = near(x[i]);
-        i += 1;
-    }
 }
 
 // The whole part of the root of x, from any guess: a guess that passes the test is it, and so is the next number where that passes. The

@@ -3,8 +3,8 @@ use Prim.Native.Nat.{_-_}
 use native.Mathlib.Omega.{arith}
 use borrow.Author.Needs.{needs}
 use Rattle.roots.proofs.GuessLaws.{Reached, begun, again, ended}
-use Rattle.roots.proofs.nears.Statement.{statement}
-use Rattle.roots.proofs.nears.Tie as tie
+use Rattle.roots.proofs.whole.nears.Statement.{statement}
+use Rattle.roots.proofs.whole.nears.Tie as tie
 
 abbrev Inv-loop : tie.InvT-loop
 Inv-loop x g₀ n i₀ g i = Reached x g₀ g n i
