@@ -1,4 +1,4 @@
--- `filled` goes by either path.
+-- `filled` goes either way.
 use borrow.Author.Needs.{needs}
 use Rattle.noise.proofs.filled.Statement.{statement}
 use Rattle.noise.proofs.filled.Tie as tie
