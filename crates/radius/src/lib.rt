@@ -1,7 +1,7 @@
 // The number under the root, 2Q, of a first number k: the whole part of its root is F, the radius at 2^20 (document 01, 'Radius', with
 // the half step of document 02, Job 5).
 ghost use mathlib.Core.Path.{_≡_};
-ghost use Prim.Native.Nat.{_+_, _-_, _*_, _%_, _^_, _≤_, _<_};
+ghost use Prim.Native.Nat.{_+_, _-_, _*_, _/_, _%_, _^_, _≤_, _<_};
 ghost use Rattle.tables.specs.Tables.{logCoarse, logFine, lnTwo, entryOf};
 ghost use Rattle.radius.specs.Steps.{numberBits, width, numerator, topBit, mantissa, coarseIndex, fineIndex, correction, logarithm};
 ghost use Rattle.radius.specs.Steps.{underRoot};
@@ -21,8 +21,13 @@ const FINE: u64 = 1 << (WIDTH - 25);
 
 const FRACTION: u64 = 1 << (65 - WIDTH);
 
-// The unit of a reciprocal: high / h is high times the reciprocal of h over it.
-const RECIPROCAL: u64 = 1 << 31;
+// The unit of a reciprocal: high / h is high times the reciprocal of h over it. That of the inverses above the entries of B, and of the
+// product of both.
+const RECIPROCAL: u64 = 1 << 39;
+
+const INVERSE: u64 = 1 << 32;
+
+const BOTH: u64 = 1 << 39;
 
 // The number under the logarithm.
 fn numerator(k: u64) -> u64
@@ -50,30 +55,59 @@ fn mantissa(k: u64) -> u64
     numerator(k) << (TOP - top_bit(k))
 }
 
-// h, i and S: the cell of a number in the logarithm tables, and what lies beyond it.
+// About r × 2^16 / (h (65536 + i)), from below, by the reciprocal of h and the inverse of 65536 + i. The contract is a bound alone.
+fn about(remainder: u64, reciprocal: u64, inverse: u64) -> u64
+    requires { ⌜ (remainder < 2 ^ 33) × (reciprocal ≤ 2 ^ 31) × (inverse < 2 ^ 32) ⌝ }
+    ensures { λ r. ⌜ r < 2 ^ 32 ⌝ }
+{
+    remainder * (reciprocal * inverse / INVERSE) / BOTH
+}
+
+// n / d, from any guess: one that passes the test is it, and so is the next number where that passes. (Many processors take as long for a
+// division as for all else.)
+fn quotient(n: u64, d: u64, guess: u64) -> u64
+    requires { ⌜ (0 < d) × (d < 2 ^ 27) × (guess < 2 ^ 32) ⌝ }
+    ensures { λ r. ⌜ r ≡ n / d ⌝ }
+{
+    let product = guess * d;
+    if product <= n {
+        let rest = n - product;
+        if rest < d {
+            return guess;
+        }
+        if rest - d < d {
+            return guess + 1;
+        }
+    }
+    n / d
+}
+
+// The cell of a number in the logarithm tables: h, B(i) and S.
 struct Cell {
     coarse: u64,
     fine: u64,
     correction: u64,
 }
 
-// With d = high × 2^24 + low and high = i h + left, i is high / h, by the reciprocal of h; r is left × 2^24 + low, and the divisor of S
-// is 65536 h + high - left. One division is left.
+// With d = high × 2^24 + low, i is high / h, by the reciprocal of h, and r is M less 2^24 times the divisor of S. (That h is from 256 to 511
+// and i below 256 is said again, so that the compiler looks up without a test.)
 fn cell_of(k: u64) -> Cell
     requires { ⌜ k < 2 ^ numberBits ⌝ }
-    ensures { λ r. ⌜ (r .coarse ≡ coarseIndex width (numerator k)) × (r .fine ≡ fineIndex width (numerator k)) × (r .correction ≡ correction width (numerator k)) ⌝ }
+    ensures { λ r. ⌜ (r .coarse ≡ coarseIndex width (numerator k)) × (r .fine ≡ entryOf logFine 0 (fineIndex width (numerator k))) × (r .correction ≡ correction width (numerator k)) ⌝ }
 {
     let scaled = mantissa(k);
-    let coarse = scaled / COARSE;
+    let coarse = scaled / COARSE % 256 + 256;
     let rest = scaled % COARSE;
-    let high = rest / FINE;
-    let low = rest % FINE;
-    let fine = high * log_coarse_lookup::reciprocal(coarse) / RECIPROCAL;
-    let left = high - fine * coarse;
-    let correction = (left * FINE + low) * FRACTION / (coarse * 65536 + (high - left));
+    let reciprocal = reciprocal_lookup::reciprocal(coarse);
+    let fine = rest / FINE * reciprocal / RECIPROCAL;
+    let divisor = coarse * (65536 + fine);
+    let remainder = scaled - divisor * FINE;
+    let arm = log_fine_lookup::arm(fine % 256);
+    let guess = about(remainder, reciprocal, arm / INVERSE);
+    let correction = quotient(remainder * FRACTION, divisor, guess);
     Cell {
         coarse,
-        fine,
+        fine: arm % INVERSE,
         correction,
     }
 }
@@ -95,7 +129,7 @@ fn logarithm(k: u64) -> u64
     let cell = cell_of(k);
     difference_or_zero(
         doublings * ln2,
-        log_coarse_lookup::entry(cell.coarse) + log_fine_lookup::entry(cell.fine) + cell.correction,
+        log_coarse_lookup::entry(cell.coarse) + cell.fine + cell.correction,
     )
 }
 

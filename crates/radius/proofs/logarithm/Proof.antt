@@ -47,18 +47,16 @@ fine-small x i e = omega (arith, e, bounds .log-fine i, bounds .ln-two)
 entry-requires : tie.Need-entry-requires
 entry-requires c κs = search needs
 
-entry-requires-2 : tie.Need-entry-requires-2
-entry-requires-2 c κs = search needs
-
 add-difference-or-zero : tie.Need-add-difference-or-zero
-add-difference-or-zero c = omega (arith, coarse-small _ _ (c .before .entry .ensures), fine-small _ _ (c .entry2 .ensures))
+add-difference-or-zero c =
+    omega (arith, coarse-small _ _ (c .before .entry .ensures), fine-small _ _ (c .before .before .cell-of .ensures .1))
 
 add-difference-or-zero-2 : tie.Need-add-difference-or-zero-2
 add-difference-or-zero-2 c =
     let cell = c .before .before .before .cell-of in
     let start = c .before .before .before .before .before .before in
     let range = correction-range width (numerator (start .args .k)) (omega arith) (omega arith) (omega arith) (omega (arith, start .pre)) in
-    omega (arith, coarse-small _ _ (c .before .before .entry .ensures), fine-small _ _ (c .before .entry2 .ensures), cell .ensures .2, range)
+    omega (arith, coarse-small _ _ (c .before .before .entry .ensures), fine-small _ _ (cell .ensures .1), cell .ensures .2, range)
 
 difference-or-zero-requires : tie.Need-difference-or-zero-requires
 difference-or-zero-requires c κs = search needs
@@ -79,15 +77,14 @@ bounded A B m r e = (e, rw e (omega (arith, logarithm-range A B lnTwo width m, b
 returns : tie.Need-returns
 unfolding logarithm
 returns c =
-    let entries = c .before .before in
-    let cell = entries .before .before .cell-of in
-    let two = entries .before .before .before .ln-two in
-    let top = entries .before .before .before .before .top-bit in
-    let m = numerator (entries .before .before .before .before .before .args .k) in
+    let at = c .before .before .before in
+    let cell = at .before .cell-of in
+    let two = at .before .before .ln-two in
+    let top = at .before .before .before .top-bit in
+    let m = numerator (at .before .before .before .before .args .k) in
     bounded (entryOf logCoarse 256) (entryOf logFine 0) m (c .difference-or-zero .result)
     (at-once (c .difference-or-zero .ensures) (top .ensures .0) (two .ensures)
-    (entries .before .entry .ensures ∙ ap (λ h. entryOf logCoarse 256 h) (cell .ensures .0))
-    (entries .entry2 .ensures ∙ ap (λ i. entryOf logFine 0 i) (cell .ensures .1)) (cell .ensures .2))
+    (at .entry .ensures ∙ ap (λ h. entryOf logCoarse 256 h) (cell .ensures .0)) (cell .ensures .1) (cell .ensures .2))
 
 pub logarithm-spec : {M : Type 1} → statement M
 logarithm-spec =
@@ -100,7 +97,6 @@ logarithm-spec =
     cell-of-requires
     mul-difference-or-zero
     entry-requires
-    entry-requires-2
     add-difference-or-zero
     add-difference-or-zero-2
     difference-or-zero-requires
