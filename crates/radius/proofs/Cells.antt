@@ -22,8 +22,11 @@ module _ (x h R : ℕ) (is : R ≡ entryOf reciprocals 256 h) (few : x < 65536) 
   pub product-fits : x * R < 2 ^ 64
   product-fits = omega (arith, product-below)
 
-  pub quotient-below : (unit : ℕ) → x * R / unit < 2 ^ 48
+  quotient-below : (unit : ℕ) → x * R / unit < 2 ^ 48
   quotient-below unit = omega (arith, product-below, div-le-self (x * R) unit)
+
+  pub sum-fits : (unit : ℕ) → 65536 + x * R / unit < 2 ^ 64
+  sum-fits unit = omega (arith, quotient-below unit)
 
   pub divisor-fits : (unit : ℕ) → h * (65536 + x * R / unit) < 2 ^ 64
   divisor-fits unit =
@@ -72,6 +75,9 @@ module _ (M h R : ℕ) (at : h ≡ M / 2 ^ 40) (is : R ≡ entryOf reciprocals 2
   parts =
       parts-of M h i at least most
       (multiple-below (d / 2 ^ 24) h R is (omega arith) least most) (left-below (d / 2 ^ 24) h R is (omega arith) least most)
+
+  pub shifted-fits : h * (65536 + i) * 2 ^ 24 < 2 ^ 64
+  shifted-fits = omega (arith, parts .divisor-small)
 
   fine-is : i ≡ d / (h * 2 ^ 24)
   fine-is =

@@ -5,14 +5,11 @@ use Prim.Native.Nat.{ℕ, _+_, _-_, _*_, _/_, _%_, _^_, _≤_, _<_}
 use native.Mathlib.Omega.{arith}
 use borrow.Author.Needs.{needs}
 use Rattle.tables.specs.Tables.{entryOf, logFine}
-use Rattle.radius.specs.Steps.{width, numerator, mantissa, coarseIndex, rest, fineIndex, remainder, correction}
-use Rattle.radius.proofs.StepLaws.{mantissa-range}
-use Rattle.radius.proofs.Cells.{Parts, reciprocal-small, product-fits, quotient-below, divisor-fits, parts, index-is, correction-is}
+use Rattle.radius.specs.Steps.{coarseIndex, rest, fineIndex, remainder, correction}
+use Rattle.radius.proofs.NormalForm.{mantissa-again}
+use Rattle.radius.proofs.Cells.{Parts, reciprocal-small, product-fits, sum-fits, divisor-fits, parts, shifted-fits, index-is, correction-is}
 use Rattle.radius.proofs.cell_of.Statement.{statement}
 use Rattle.radius.proofs.cell_of.Tie as tie
-
-mantissa-requires : tie.Need-mantissa-requires
-mantissa-requires c κs = search needs
 
 add-coarse : tie.Need-add-coarse
 add-coarse c = search needs
@@ -20,19 +17,26 @@ add-coarse c = search needs
 reciprocal-requires : tie.Need-reciprocal-requires
 reciprocal-requires c κs = search needs
 
--- M is large and small enough
-scaled-range : (c : tie.After-mantissa) → (2 ^ 48 ≤ c .mantissa .result) × (c .mantissa .result < 2 ^ 49)
-scaled-range c =
-    rw (c .mantissa .ensures)
-    (mantissa-range width (numerator (c .before .args .k)) (omega arith) (omega arith) (omega arith) (omega (arith, c .before .pre)))
+mul-fine : tie.Need-mul-fine
+mul-fine c = record { fits = product-fits _ _ _ (c .reciprocal .ensures) (omega arith) (omega arith) (omega arith) }
 
--- and so h is as it was
+add-divisor : tie.Need-add-divisor
+add-divisor c = record { fits = sum-fits _ _ _ (c .reciprocal .ensures) (omega arith) (omega arith) (omega arith) _ }
+
+mul-divisor : tie.Need-mul-divisor
+mul-divisor c = record { fits = divisor-fits _ _ _ (c .reciprocal .ensures) (omega arith) (omega arith) (omega arith) _ }
+
+mul-remainder : tie.Need-mul-remainder
+mul-remainder c =
+    record { fits = shifted-fits _ _ _ (omega (arith, c .before .pre)) (c .reciprocal .ensures) (omega arith) (omega arith) }
+
+-- h is as it was
 coarse-is : (M : ℕ) → (2 ^ 48 ≤ M) × (M < 2 ^ 49) → M / 2 ^ 40 % 256 + 256 ≡ M / 2 ^ 40
 coarse-is M range = omega (arith, range)
 
 module _ (c : tie.After-reciprocal) where
   abbrev M : ℕ
-  M = c .before .mantissa .result
+  M = c .before .args .scaled
 
   abbrev h : ℕ
   h = M / 2 ^ 40 % 256 + 256
@@ -44,20 +48,7 @@ module _ (c : tie.After-reciprocal) where
   i = M % 2 ^ 40 / 2 ^ 24 * R / 2 ^ 39
 
   cell-parts : Parts M h i
-  cell-parts = parts M h R (coarse-is M (scaled-range (c .before))) (c .reciprocal .ensures) (omega arith) (omega arith)
-
-mul-fine : tie.Need-mul-fine
-mul-fine c = record { fits = product-fits _ _ _ (c .reciprocal .ensures) (omega arith) (omega arith) (omega arith) }
-
-add-divisor : tie.Need-add-divisor
-add-divisor c =
-    omega (arith, quotient-below (M c % 2 ^ 40 / 2 ^ 24) (h c) (R c) (c .reciprocal .ensures) (omega arith) (omega arith) (omega arith) (2 ^ 39))
-
-mul-divisor : tie.Need-mul-divisor
-mul-divisor c = record { fits = divisor-fits _ _ _ (c .reciprocal .ensures) (omega arith) (omega arith) (omega arith) _ }
-
-mul-remainder : tie.Need-mul-remainder
-mul-remainder c = omega (arith, cell-parts c .divisor-small)
+  cell-parts = parts M h R (coarse-is M (c .before .pre)) (c .reciprocal .ensures) (omega arith) (omega arith)
 
 sub-remainder : tie.Need-sub-remainder
 sub-remainder c = cell-parts c .divisor-low
@@ -85,9 +76,9 @@ returns : tie.Need-returns
 unfolding coarseIndex rest fineIndex remainder correction
 returns c =
     let at = c .before .before .before in
-    let is = coarse-is (M at) (scaled-range (at .before)) in
+    let is = coarse-is (M at) (at .before .pre) in
     let d : ℕ = M at % 2 ^ 40 in
-    rw (← (at .before .mantissa .ensures)) (
+    rw (mantissa-again (M at) (at .before .pre .0) (at .before .pre .1)) (
       is,
       c .before .before .arm .ensures .1
           ∙ ap (λ n. entryOf logFine 0 n)
@@ -101,7 +92,6 @@ pub cell-of-spec : {M : Type 1} → statement M
 cell-of-spec =
     tie.close
     (tie.spec
-    mantissa-requires
     add-coarse
     reciprocal-requires
     mul-fine
