@@ -93,9 +93,17 @@ fn about(remainder: u64, reciprocal: u64, inverse: u64) -> u64
     remainder * (reciprocal * inverse / INVERSE) / BOTH
 }
 
-// n / d, from any guess: one that passes the test is it, and so is the next number where that passes. (Many processors take as long for a
-// division as for all else.)
+// n / d, where a processor divides numbers of 64 bits. What the guess is does not matter.
 fn quotient(n: u64, d: u64, guess: u64) -> u64
+    requires { ⌜ (0 < d) × (d < 2 ^ 27) × (guess < 2 ^ 32) ⌝ }
+    ensures { λ r. ⌜ r ≡ n / d ⌝ }
+{
+    n / d
+}
+
+// The same with no division, unless the guess is far off: one that passes the test is the quotient, and so is the next number where that passes.
+// tools/target names it in place of `quotient` where a division is a call.
+fn guessed_quotient(n: u64, d: u64, guess: u64) -> u64
     requires { ⌜ (0 < d) × (d < 2 ^ 27) × (guess < 2 ^ 32) ⌝ }
     ensures { λ r. ⌜ r ≡ n / d ⌝ }
 {

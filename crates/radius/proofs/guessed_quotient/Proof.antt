@@ -1,11 +1,12 @@
--- `quotient` meets its contract: a guess between the multiples is the quotient, and any other number is divided.
+-- `radius::guessed_quotient` meets its contract: a guess between the multiples is the quotient, so is the next number between the next ones,
+-- and with any other guess the number is divided.
 use mathlib.Core.Path.{_≡_}
 use Prim.Native.Nat.{ℕ, _+_, _-_, _*_, _/_, _^_, _≤_, _<_}
 use native.Mathlib.Nat.{le-antisymm, le-div-iff-mul-le, div-lt-iff-lt-mul, mul-le-mul}
 use native.Mathlib.Omega.{arith}
 use borrow.Author.Needs.{needs}
-use Rattle.radius.proofs.quotient.Statement.{statement}
-use Rattle.radius.proofs.quotient.Tie as tie
+use Rattle.radius.proofs.guessed_quotient.Statement.{statement}
+use Rattle.radius.proofs.guessed_quotient.Tie as tie
 
 unique : (n d q : ℕ) → 0 < d → q * d ≤ n → n < (q + 1) * d → q ≡ n / d
 unique n d q some low high =
@@ -13,7 +14,7 @@ unique n d q some low high =
     le-antisymm (le-div-iff-mul-le some .1 low) (omega (arith, below))
 
 fits : (g d : ℕ) → g < 2 ^ 32 → d < 2 ^ 27 → g * d < 2 ^ 64
-fits g d few small = omega (arith, mul-le-mul {n₁ = g} {m₁ = d} {n₂ = 2 ^ 32 - 1} {m₂ = 2 ^ 27 - 1} (omega arith) (omega arith))
+fits g d few small = omega (arith, mul-le-mul few small)
 
 mul-product : tie.Need-mul-product
 mul-product c = omega (arith, fits (c .args .guess) (c .args .d) (omega arith) (omega arith))
@@ -33,5 +34,5 @@ div-result c = search needs
 returns-3 : tie.Need-returns-3
 returns-3 c = search needs
 
-pub quotient-spec : {M : Type 1} → statement M
-quotient-spec = tie.close (tie.spec mul-product returns add-result returns-2 div-result returns-3)
+pub guessed-quotient-spec : {M : Type 1} → statement M
+guessed-quotient-spec = tie.close (tie.spec mul-product returns add-result returns-2 div-result returns-3)
