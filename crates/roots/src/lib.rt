@@ -30,9 +30,9 @@ fn float_of(x: u64) -> f64
     f64::from_bits(BITS + x % PLACES) - 4503599627370496.0
 }
 
-// About 1 over the root of the float that has these bits: half of its exponent, taken from a constant.
+// About 0.7 over the root of the float that has these bits: half of its exponent, taken from a constant.
 fn about_inverse_root(bits: u64) -> f64 {
-    f64::from_bits(0x5fe6_eb3b_e000_0000 - bits / 2 % 0x4000_0000_0000_0000)
+    f64::from_bits(0x5fde_973b_e000_0000 - bits / 2 % 0x4000_0000_0000_0000)
 }
 
 // The bits of a float, or 0 where it is not below 10^18.
@@ -40,16 +40,19 @@ fn bits_of(x: f64) -> u64 {
     if x < 1.0e18 { f64::to_bits(x) } else { 0 }
 }
 
-// Near the root of x, for x below 2^48: about 1 over the root, one step of Newton's, then one of the third order with the product. The
-// last sum has the rounded root in its last 24 bits. The contract is a bound alone: which guess it is, is left to the program.
+// Near the root of x, for x below 2^48: about 0.7 over the root, one step of Newton's, which gives about 0.68 over it, then one of the third
+// order with the product. The constants make the greatest error least. The last sum has the rounded root in its last 24 bits. The contract is a
+// bound alone: which guess it is, is left to the program.
 pub fn guess(x: u64) -> u64
     ensures { λ r. ⌜ Guess r ⌝ }
 {
     let f = float_of(x);
     let start = about_inverse_root(f64::to_bits(f));
-    let inverse = start * (1.5008789 - f * 0.5 * start * start);
-    let square = f * inverse * inverse;
-    let near = f * inverse * (1.875 - square * (1.25 - 0.375 * square));
+    let inverse = start * (1.4625 - f * start * start);
+    let product = f * inverse;
+    let square = product * inverse;
+    let near = product
+        * (2.756500333768153 - square * (3.9717338201824877 - 2.5752206987046584 * square));
     bits_of(near - 0.5 + 4503599644147712.0) % GUESSES
 }
 
@@ -128,7 +131,7 @@ pub fn near(x: u64) -> u64
 pub fn root(x: u64, guess: u64) -> u64
     ensures { λ r. ⌜ r ≡ wholeRoot x ⌝ }
 {
-    let g = guess % GUESSES;
+    let g = guess % ROOTS;
     let square = g * g;
     if square <= x {
         let rest = x - square;

@@ -8,7 +8,7 @@ use Rattle.roots.proofs.root.Statement.{statement}
 use Rattle.roots.proofs.root.Tie as tie
 
 mul-square : tie.Need-mul-square
-mul-square c = omega (arith, square-fits (c .args .guess % 2 ^ 24) (omega arith))
+mul-square c = omega (arith, square-fits (c .args .guess % 2 ^ 32) (omega arith))
 
 mul-if2 : tie.Need-mul-if2
 mul-if2 c = search needs
