@@ -1,12 +1,13 @@
 #!/usr/bin/env python3
 """Recomputes the seven tables with mpmath at 200 bits and compares them with the sources: crate `tables` (src/logarithms.rt,
-cosines.rt, sines.rt, specs/Values.antt), and the matches of crates `log_coarse_lookup` (with specs/Private.antt), `log_fine_lookup` and
-`rotation_lookup`.
+cosines.rt, sines.rt, specs/Values.antt), and the matches of crates `log_coarse_lookup`, `log_fine_lookup` and `reciprocal_lookup` (with
+specs/Private.antt), and `rotation_lookup`. The cells of the root in crate `roots` too.
 
   python3 tools/tables.py           compare the sources with the recomputed tables
   python3 tools/tables.py --write   write the tables and the arms of the matches anew (then run `rt fmt`)
 
 It needs mpmath (Debian: python3-mpmath). It stands outside the gate: the promise that the gate proves is the crate's own."""
+import math
 import pathlib
 import re
 import sys
@@ -17,7 +18,6 @@ mp.prec = 200
 CRATES = pathlib.Path(__file__).resolve().parent.parent / "crates"
 CRATE = CRATES / "tables"
 LISTS = CRATE / "specs" / "Values.antt"
-ARMS = CRATES / "log_coarse_lookup" / "specs" / "Private.antt"
 
 
 def nearest(exact, scale):
@@ -62,15 +62,40 @@ def parted(width):
     return lambda x: f"0x{x >> width:0{(64 - width) // 4}x}_{x % (1 << width):0{width // 4}x}"
 
 
-RECIPROCALS = [-(-(2**31) // h) for h in range(256, 512)]
-COARSE_ARMS = beside(RECIPROCALS, ENTRIES["LOG_COARSE"], 40)
-# (crate, function, how an entry is written, entries)
+RECIPROCALS = [-(-(2**39) // h) for h in range(256, 512)]
+INVERSES = [(2**48 - 2**18) // (65536 + i) for i in range(256)]
+FINE_ARMS = beside(INVERSES, ENTRIES["LOG_FINE"], 32)
+# (crate, file, function, first key, how an entry is written, entries)
 MATCHES = [
-    ("log_coarse_lookup", "nth", parted(40), COARSE_ARMS),
-    ("log_fine_lookup", "nth", str, ENTRIES["LOG_FINE"]),
-    ("rotation_lookup", "nth_coarse", parted(32), beside(ENTRIES["COS_COARSE"], ENTRIES["SIN_COARSE"], 32)),
-    ("rotation_lookup", "nth_fine", parted(32), beside(ENTRIES["COS_FINE"], ENTRIES["SIN_FINE"], 32)),
+    ("log_coarse_lookup", "lib", "nth", 0, str, ENTRIES["LOG_COARSE"]),
+    ("log_fine_lookup", "lib", "nth", 0, parted(32), FINE_ARMS),
+    ("reciprocal_lookup", "lib", "nth", 0, "0x{:08x}".format, RECIPROCALS),
+    ("rotation_lookup", "lib", "nth_coarse", 0, parted(32), beside(ENTRIES["COS_COARSE"], ENTRIES["SIN_COARSE"], 32)),
+    ("rotation_lookup", "lib", "nth_fine", 0, parted(32), beside(ENTRIES["COS_FINE"], ENTRIES["SIN_FINE"], 32)),
 ]
+# (crate, entries): the lists that the arms of a match are compared with
+ARMS = [("log_fine_lookup", FINE_ARMS, 16), ("reciprocal_lookup", RECIPROCALS, 8)]
+
+
+def root_cell(n):
+    """The root of y = (n + u) 2^56 for u from 0 to 1 as start + u (slope - u fall), near the best such, and never above the root."""
+    nodes = [(1 + math.cos(math.pi * (2 * k + 1) / 6)) / 2 for k in range(3)]
+    roots = [math.sqrt(n + u) * 2**28 for u in nodes]
+    first, second = ((roots[k + 1] - roots[k]) / (nodes[k + 1] - nodes[k]) for k in (0, 1))
+    fall = round((first - second) / (nodes[2] - nodes[0]) / 16)
+    rests = [root + 16 * fall * u * u for root, u in zip(roots, nodes)]
+    u, rest = sum(nodes) / 3, sum(rests) / 3
+    slope = round(sum((x - u) * (y - rest) for x, y in zip(nodes, rests)) / sum((x - u) ** 2 for x in nodes))
+    along = [min(4096 * k, 2**24 - 1) for k in range(4097)]
+    least = min(math.isqrt((n << 56) + (t << 32)) - (slope - fall * t // 2**20) * t // 2**24 for t in along)
+    return (least - (2**31 - 2**8)) // 8 << 36 | slope << 12 | fall
+
+
+def parted_cell(x):
+    return f"0x{x >> 36:07x}_{x >> 12 & 0xFFFFFF:06x}_{x & 0xFFF:03x}"
+
+
+MATCHES.append(("roots", "cells", "cell", 64, parted_cell, [root_cell(n) for n in range(64, 256)]))
 
 
 def rows(words, between, indent, width=120):
@@ -83,23 +108,25 @@ def rows(words, between, indent, width=120):
     return lines + [indent + line.rstrip()]
 
 
-def arms(crate, function):
-    """A crate's source, in three: up to the arms of the match of a function, the arms that are a number, what follows."""
-    text = (CRATES / crate / "src" / "lib.rt").read_text()
+def arms(crate, file, function):
+    """A crate's source, in three: up to the arms of the match of a function, the arms, what follows."""
+    text = (CRATES / crate / "src" / f"{file}.rt").read_text()
     start = text.index("match n {\n", text.index(f"fn {function}(")) + len("match n {\n")
-    end = text.index("        _ =>", start)
+    end = text.index("        _ => past", start) if "_ => past" in text else text.index("    }\n", start)
     return text[:start], text[start:end], text[end:]
 
 
-def write_arms(crate, function, written, entries):
-    before, _, after = arms(crate, function)
-    lines = [f"        {n} => {written(x)},\n" for n, x in enumerate(entries)]
-    (CRATES / crate / "src" / "lib.rt").write_text(before + "".join(lines) + after)
+def write_arms(crate, file, function, first, written, entries):
+    before, _, after = arms(crate, file, function)
+    lines = [f"        {n} => {written(x)},\n" for n, x in enumerate(entries, first)]
+    if not after.startswith("        _"): # the last entry stands in the last arm
+        lines[-1] = f"        _ => {written(entries[-1])},\n"
+    (CRATES / crate / "src" / f"{file}.rt").write_text(before + "".join(lines) + after)
 
 
-def read_arms(crate, function):
-    found = re.findall(r"(\d+) => (\w+),\n", arms(crate, function)[1])
-    return [int(x, 0) for n, (key, x) in enumerate(found) if int(key) == n]
+def read_arms(crate, file, function, first):
+    found = re.findall(r"(\d+|_) => (\w+),\n", arms(crate, file, function)[1])
+    return [int(x, 0) for n, (key, x) in enumerate(found, first) if key == "_" or int(key) == n]
 
 
 def path(name):
@@ -129,9 +156,13 @@ def lists():
     return "\n".join(out) + "\n"
 
 
-def with_arms(text):
-    """The text of ARMS with its list, the last of the file, written anew."""
-    body = rows([f"0x{x:016x}" for x in COARSE_ARMS] + ["[]"], " ∷ ", "    ")
+def private(crate):
+    return CRATES / crate / "specs" / "Private.antt"
+
+
+def with_arms(text, entries, digits):
+    """The text of a Private.antt with its list, the last of the file, written anew."""
+    body = rows([f"0x{x:0{digits}x}" for x in entries] + ["[]"], " ∷ ", "    ")
     return text.split("\narms =\n")[0] + "\narms =\n" + "\n".join(body).removesuffix(" ∷") + "\n"
 
 
@@ -146,9 +177,10 @@ def compare():
     for file, const, name, _, entries in TABLES:
         found.append((const, read(path(file).read_text(), f"{const}: [u64; {len(entries)}] = [", "]"), entries))
         found.append((name, read(antt, f"\n{name} =", "[]"), entries))
-    found.append(("arms", read(ARMS.read_text(), "\narms =", "[]"), COARSE_ARMS))
-    for crate, function, _, entries in MATCHES:
-        found.append((f"{crate}::{function}", read_arms(crate, function), entries))
+    for crate, entries, _ in ARMS:
+        found.append((f"{crate}: arms", read(private(crate).read_text(), "\narms =", "[]"), entries))
+    for crate, file, function, first, _, entries in MATCHES:
+        found.append((f"{crate}::{function}", read_arms(crate, file, function, first), entries))
     for where, numbers, entries in found:
         bad = [i for i in range(max(len(numbers), len(entries))) if numbers[i : i + 1] != entries[i : i + 1]]
         wrong += len(bad)
@@ -165,7 +197,8 @@ if __name__ == "__main__":
         for name in ("logarithms", "cosines", "sines"):
             path(name).write_text(source(name))
         LISTS.write_text(lists())
-        ARMS.write_text(with_arms(ARMS.read_text()))
+        for crate, entries, digits in ARMS:
+            private(crate).write_text(with_arms(private(crate).read_text(), entries, digits))
         for match in MATCHES:
             write_arms(*match)
     elif sys.argv[1:]:

@@ -38,7 +38,7 @@ pub struct Turned {
     pub second: i64,
 }
 
-// Places in the list of the four values, sin, cos, -sin, -cos.
+// Places in the list sin, cos, -sin, -cos, sin.
 const SIN: usize = 0;
 
 const COS: usize = 1;
@@ -47,25 +47,16 @@ const MINUS_SIN: usize = 2;
 
 const MINUS_COS: usize = 3;
 
-// The lines of document 01's list of quarters, each the places of its first and of its second value as one number.
-const SIN_COS: usize = 4 * SIN + COS;
-
-const COS_MINUS_SIN: usize = 4 * COS + MINUS_SIN;
-
-const MINUS_SIN_MINUS_COS: usize = 4 * MINUS_SIN + MINUS_COS;
-
-const MINUS_COS_SIN: usize = 4 * MINUS_COS + SIN;
-
-// The quarters of document 01 in its order; a q above 3 counts as 3. The arms are numbers, of which the compiler makes a table and no jump: no
-// processor can foresee q.
-fn places(q: u64) -> usize
-    ensures { λ r. ⌜ (r < 16) × Turns q r ⌝ }
+// The quarters of document 01 in its order, each by the place of its first value in that list; its second value stands next. A q above 3 counts
+// as 3. The arms are numbers, so that the compiler makes no jump: no processor can foresee q.
+fn place(q: u64) -> usize
+    ensures { λ r. ⌜ (r < 4) × Turns q r ⌝ }
 {
     match q {
-        0 => SIN_COS,
-        1 => COS_MINUS_SIN,
-        2 => MINUS_SIN_MINUS_COS,
-        _ => MINUS_COS_SIN,
+        0 => SIN, // (sin, cos)
+        1 => COS, // (cos, -sin)
+        2 => MINUS_SIN, // (-sin, -cos)
+        _ => MINUS_COS, // (-cos, sin)
     }
 }
 
@@ -75,13 +66,11 @@ pub fn turn(q: u64, first: u32, second: u32) -> Turned
 {
     let sin = first as i64;
     let cos = second as i64;
-    let values = [sin, cos, -sin, -cos];
-    let both = places(q);
-    let i = both / 4;
-    let j = both % 4;
+    let values = [sin, cos, -sin, -cos, sin];
+    let i = place(q);
     Turned {
         first: values[i],
-        second: values[j],
+        second: values[i + 1],
     }
 }
 

@@ -1,10 +1,11 @@
 -- What the callers read: streams laid side by side come apart again, a word is 65536 k + v of its pair, and the words of m pairs and of n
 -- more are those of m + n.
-use mathlib.Core.Path.{_≡_}
+use mathlib.Core.Path.{_≡_, refl, ap}
 use mathlib.Core.List.{_++_}
 use Prim.Native.Nat.{ℕ, zero, suc, _+_, _*_, _/_, _%_}
 use native.Mathlib.Nat.{zero-add, suc-add, mod-lt}
 use native.Mathlib.Omega.{arith}
+use lib.ListN.{length}
 use lib.Pow.{high, low, pow-pos}
 use Rattle.bit_matrix.specs.Matrices.{repeat}
 use Rattle.streams.specs.declared.Stream.{Stream}
@@ -12,8 +13,8 @@ use Rattle.streams.specs.Streams.{advance, output}
 use Rattle.streams.specs.Recurrence.{InRange}
 use Rattle.streams.proofs.Register.{step-lt}
 use Rattle.lanes.specs.declared.Lanes.{Lanes}
-use Rattle.lanes.specs.Lanes.{wordOf, words}
-use Rattle.lanes.specs.Private.{lanesOf, upper, lower}
+use Rattle.lanes.specs.Lanes.{upper, lower, wordOf, words}
+use Rattle.lanes.specs.Private.{lanesOf}
 
 -- ---- Side by side and apart
 
@@ -50,3 +51,8 @@ pub words-add : (m n : ℕ) (a b : Stream) → words (m + n) a b ≡ words m a b
 unfolding words repeat
 words-add zero n a b = rw (zero-add n)
 words-add (suc m) n a b = rw (suc-add m n, words-add m n (advance a) (advance b))
+
+pub length-words : (n : ℕ) (a b : Stream) → length (words n a b) ≡ n
+unfolding words
+length-words zero a b = refl
+length-words (suc n) a b = ap suc (length-words n (advance a) (advance b))

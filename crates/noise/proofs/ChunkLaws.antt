@@ -1,40 +1,78 @@
 -- A block goes by chunks. What holds of one, and between two of them, over f and so for either width.
-use mathlib.Core.Path.{_≡_, sym, ap, subst, _∙_}
-use mathlib.Core.List.{List, _++_}
-use Prim.Native.Nat.{ℕ, _+_, _-_, _*_, _/_, _%_, _≤_, _<_, min}
+use mathlib.Core.Path.{_≡_, refl, sym, ap, subst, _∙_}
+use mathlib.Core.List.{List, [], _∷_, _++_}
+use Prim.Native.Nat.{ℕ, zero, suc, _+_, _-_, _*_, _/_, _%_, _≤_, _<_, min}
 use native.Mathlib.Omega.{arith}
 use lib.IntN.{ℤ}
 use lib.ListN.{length, take, drop, length-take, length-drop, length-append}
-use lib.Seq.{take-append-add, take-at}
+use lib.Seq.{take-append-add, take-at, take-all}
 use borrow.Rule.Slice.PartMut.{putMid, postOf, same-len-mid}
+use Rattle.bit_matrix.specs.Matrices.{repeat}
+use Rattle.bit_matrix.proofs.Theorems.{repeat-add}
 use Rattle.streams.specs.declared.Generator.{Generator}
-use Rattle.streams.specs.Streams.{mostCount, pairsCode, after}
-use Rattle.streams.specs.Recurrence.{Sound}
-use Rattle.streams.proofs.Theorems.{sound-accepted, pairs-accepted, moved-sound, after-add, after-moved}
+use Rattle.streams.specs.declared.Stream.{Stream}
+use Rattle.streams.specs.Streams.{advance, onward, pairsCode}
+use Rattle.streams.specs.Recurrence.{InRange, Sound}
+use Rattle.streams.proofs.Theorems.{sound, pairs-accepted, after-moved}
+use Rattle.lanes.specs.declared.Lanes.{Lanes}
+use Rattle.lanes.specs.Lanes.{upper, lower, words, LanesAfter}
+use Rattle.lanes.proofs.Theorems.{words-add, length-words}
 use Rattle.box_muller.specs.Steps.{fractionBits}
-use Rattle.sample.specs.Chunk.{chunkLength}
+use Rattle.box_muller.proofs.RoundingLaws.{first-small, second-small}
+use Rattle.sample.specs.Chunk.{chunkLength, chunkHolds, samplesAt}
+use Rattle.sample.proofs.ChunkLaws.{chunk-held, samples-append, samples-length}
 use Rattle.noise.specs.Noise.{samples}
-use Rattle.noise.specs.Private.{chunkSamples, Small}
-use Rattle.noise.proofs.Laws.{samples-add, length-samples, samples-small}
+use Rattle.noise.specs.Private.{chunkSamples, LanesDrawn, PairsDrawn, Small}
+use Rattle.noise.proofs.Laws.{samples-words}
 
--- the first n elements of a local array are passed on
+-- ---- One chunk
+
+-- a chunk of just as many words leaves their samples
+pub words-samples : (f n : ℕ) (a b : Stream) {zs : List ℕ} {out : List ℤ} (old : List ℤ) → zs ≡ words n a b → length old ≡ 2 * n
+    → n ≤ chunkLength → out ≡ chunkHolds f zs old → out ≡ samplesAt f (words n a b)
+words-samples f n a b {zs} old e l few done =
+    let size : length zs ≡ n = ap length e ∙ length-words n a b in
+    done ∙ sym (chunk-held f zs old (samplesAt f zs) (omega (arith, size)) (omega (arith, size)) refl) ∙ ap (samplesAt f) e
+
+-- two samples for each word
+pub drawn-length : (f n : ℕ) (a b : Stream) → length (samplesAt f (words n a b)) ≡ 2 * n
+drawn-length f n a b = samples-length f (words n a b) ∙ ap (λ (m : ℕ). 2 * m) (length-words n a b)
+
+-- those at 11 fraction bits fit 16 bits
+samples-small : (zs : List ℕ) → Small (samplesAt fractionBits zs)
+unfolding samplesAt
+samples-small [] i h = absurd (omega arith)
+samples-small (z ∷ zs) zero h = omega (arith, first-small fractionBits (z / 65536) (z % 65536))
+samples-small (z ∷ zs) (suc zero) h = omega (arith, second-small fractionBits (z / 65536) (z % 65536))
+samples-small (z ∷ zs) (suc (suc i)) h = samples-small zs i (omega arith)
+
+-- the first n elements of a local array of m are passed on
 pub first-size : {A : Type 0} (m n : ℕ) (l : List A) → length l ≡ m → n ≤ m → length (take (n - 0) l) ≡ n
 first-size m n l e h = simp length-take (omega arith)
 
 -- as many words as there are pairs
-pub asked : (g : Generator) (n : ℕ) (z : List ℕ) (out : List ℤ) → length z ≡ chunkLength → n ≤ chunkLength → pairsCode g n ≡ 0 → length out ≡ 2 * n
-    → (pairsCode g (length (take (n - 0) z)) ≡ 0) × (length out ≡ 2 * length (take (n - 0) z)) × (length out ≤ chunkSamples)
-asked g n z out e h p l = rw (first-size chunkLength n z e h) (p, l, omega arith)
+pub asked : (m n : ℕ) (z : List ℕ) (out : List ℤ) → length z ≡ m → n ≤ m → m ≤ chunkLength → length out ≡ 2 * n
+    → (length out ≡ 2 * length (take (n - 0) z)) × (length out ≤ chunkSamples)
+asked m n z out e h few l = rw (first-size m n z e h) (l, omega arith)
+
+-- and as many pairs are then drawn
+pub passed-on : {f m n : ℕ} {u next : Lanes} {out : List ℤ} (z : List ℕ) → length z ≡ m → n ≤ m → LanesDrawn f (length (take (n - 0) z)) u next out
+    → LanesDrawn f n u next out
+passed-on {f} {m} {n} {u} {next} {out} z e h drawn = subst (λ (k : ℕ). LanesDrawn f k u next out) (first-size m n z e h) drawn
 
 -- as many samples of 32 bits as there are of 16
-pub asked-array : (g : Generator) (n : ℕ) (array : List ℤ) → length array ≡ chunkSamples → n ≤ chunkSamples → pairsCode g (n / 2) ≡ 0 → n % 2 ≡ 0
-    → (pairsCode g (length (take (n - 0) array) / 2) ≡ 0) × (length (take (n - 0) array) % 2 ≡ 0) × (length (take (n - 0) array) ≤ chunkSamples)
-asked-array g n array e h p even = rw (first-size chunkSamples n array e h) (p, even, h)
+pub asked-array : (m n : ℕ) (array : List ℤ) → length array ≡ m → n ≤ m → n % 2 ≡ 0
+    → (length (take (n - 0) array) % 2 ≡ 0) × (length (take (n - 0) array) ≤ m)
+asked-array m n array e h even = rw (first-size m n array e h) (even, h)
+
+pub array-drawn : {f m n : ℕ} {u next : Lanes} {out : List ℤ} (array : List ℤ) → length array ≡ m → n ≤ m
+    → LanesDrawn f (length (take (n - 0) array) / 2) u next out → LanesDrawn f (n / 2) u next out
+array-drawn {f} {m} {n} {u} {next} {out} array e h drawn = subst (λ (k : ℕ). LanesDrawn f (k / 2) u next out) (first-size m n array e h) drawn
 
 -- and they are then the first n of it
-module _ (n : ℕ) (g : Generator) (array new : List ℤ) (even : n % 2 ≡ 0) (new-is : new ≡ samples fractionBits (n / 2) g) where
+module _ (n : ℕ) (a b : Stream) (array new : List ℤ) (even : n % 2 ≡ 0) (new-is : new ≡ samplesAt fractionBits (words (n / 2) a b)) where
   pub array-size : length new ≡ n
-  array-size = ap length new-is ∙ length-samples fractionBits (n / 2) g ∙ omega arith
+  array-size = ap length new-is ∙ drawn-length fractionBits (n / 2) a b ∙ omega arith
 
   pub array-room : n ≤ length (putMid 0 (n - 0) array new)
   array-room = simp length-append (omega (arith, array-size))
@@ -44,72 +82,94 @@ module _ (n : ℕ) (g : Generator) (array new : List ℤ) (even : n % 2 ≡ 0) (
 
   pub asked-narrow : (length (take (n - 0) (putMid 0 (n - 0) array new)) ≡ n) × Small (take (n - 0) (putMid 0 (n - 0) array new))
   asked-narrow =
-      subst (λ (l : List ℤ). (length l ≡ n) × Small l) (sym array-taken) (array-size, subst Small (sym new-is) (samples-small (n / 2) g))
+      subst (λ (l : List ℤ). (length l ≡ n) × Small l) (sym array-taken)
+      (array-size, subst Small (sym new-is) (samples-small (words (n / 2) a b)))
 
--- the first `at` samples are written
-pub record Reached (f : ℕ) (out₀ : List ℤ) (g : Generator) (out : List ℤ) (state : Generator) (place : ℕ) : Type 0 where
+-- ---- One after another
+
+-- the first `place` samples are written
+pub record Reached (f : ℕ) (out₀ : List ℤ) (u : Lanes) (out : List ℤ) (state : Lanes) (place : ℕ) : Type 0 where
   pub within : place ≤ length out₀
   pub even : place % 2 ≡ 0
   pub kept : length out ≡ length out₀
-  pub now-at : state ≡ after (place / 2) g
-  pub done : take place out ≡ samples f (place / 2) g
-
--- the count has room for a part of the pairs
-pairs-of-part : (m n : ℕ) (g : Generator) → Sound g → g .waiting ≡ 0 → g .count + (m + n) ≤ mostCount → pairsCode (after m g) n ≡ 0
-pairs-of-part m n g h none room =
-    rw (after-moved m g h none (omega arith)) (pairs-accepted _ n .1 (sound-accepted _ (moved-sound m g h), omega arith, none))
+  pub now-at : LanesAfter (place / 2) u state
+  pub done : take place out ≡ samplesAt f (words (place / 2) (upper u) (lower u))
 
 -- a part that is passed on
 part-size : (place end : ℕ) (out : List ℤ) → end ≤ length out → length (take (end - place) (drop place out)) ≡ end - place
 part-size place end out h = simp (length-take, length-drop) (omega arith)
 
 -- what is asked of the next chunk
-pub asked-part : {f : ℕ} {out₀ out : List ℤ} {g state : Generator} {place end : ℕ} → Sound g → pairsCode g (length out₀ / 2) ≡ 0 → length out₀ % 2 ≡ 0
-    → Reached f out₀ g out state place → place < length out₀ → end ≡ min (length out₀) (place + chunkSamples)
-    → (pairsCode state (length (take (end - place) (drop place out)) / 2) ≡ 0) × (length (take (end - place) (drop place out)) % 2 ≡ 0)
-    × (length (take (end - place) (drop place out)) ≤ chunkSamples)
-asked-part {f} {out₀} {out} {g} {state} {place} {end} h accepted even₀ r more e =
-    let (_, room, none) = pairs-accepted _ _ .0 accepted in
-    let size = part-size place end out (omega (arith, r .kept)) in (
-      rw (r .now-at, size) (pairs-of-part (place / 2) _ g h none (omega (arith, r .even))),
-      rw size (omega (arith, r .even)),
-      rw size (omega arith),
-    )
+pub asked-part : {f : ℕ} {out₀ out : List ℤ} {u state : Lanes} {place end : ℕ} → length out₀ % 2 ≡ 0
+    → Reached f out₀ u out state place → place < length out₀ → end ≡ min (length out₀) (place + chunkSamples)
+    → (length (take (end - place) (drop place out)) % 2 ≡ 0) × (length (take (end - place) (drop place out)) ≤ chunkSamples)
+asked-part {f} {out₀} {out} {u} {state} {place} {end} even₀ r more e =
+    rw (part-size place end out (omega (arith, r .kept))) (omega (arith, r .even), omega arith)
 
 -- one chunk more
-module _ {f : ℕ} {out₀ out new : List ℤ} {g state result : Generator} {place end : ℕ}
-    (even₀ : length out₀ % 2 ≡ 0) (r : Reached f out₀ g out state place) (more : place < length out₀)
+module _ {f : ℕ} {out₀ out new : List ℤ} {u state next : Lanes} {place end : ℕ}
+    (even₀ : length out₀ % 2 ≡ 0) (r : Reached f out₀ u out state place) (more : place < length out₀)
     (e : end ≡ min (length out₀) (place + chunkSamples))
-    (written : new ≡ samples f (length (take (end - place) (drop place out)) / 2) state)
-    (next : result ≡ after (length (take (end - place) (drop place out)) / 2) state) where
+    (drawn : LanesDrawn f (length (take (end - place) (drop place out)) / 2) state next new) where
   size : length (take (end - place) (drop place out)) ≡ end - place
   size = part-size place end out (omega (arith, r .kept))
 
   halves : place / 2 + (end - place) / 2 ≡ end / 2
   halves = omega (arith, r .even)
 
-  new-is : new ≡ samples f ((end - place) / 2) (after (place / 2) g)
-  new-is = written ∙ rw (size, r .now-at)
+  new-is : new ≡ samplesAt f (words ((end - place) / 2) (repeat advance (place / 2) (upper u)) (repeat advance (place / 2) (lower u)))
+  new-is = drawn .written ∙ rw (size, r .now-at .a-at, r .now-at .b-at)
 
   new-size : length new ≡ end - place
-  new-size = ap length new-is ∙ length-samples f ((end - place) / 2) (after (place / 2) g) ∙ omega (arith, r .even)
+  new-size = ap length new-is ∙ drawn-length f ((end - place) / 2) _ _ ∙ omega (arith, r .even)
 
   before-size : length (take place out) ≡ place
   before-size = simp length-take (omega (arith, r .kept))
 
-  done-is : take end (putMid place (end - place) out new) ≡ samples f (end / 2) g
+  done-is : take end (putMid place (end - place) out new) ≡ samplesAt f (words (end / 2) (upper u) (lower u))
   done-is =
       let whole : length (take place out) + (end - place) ≡ end = omega (arith, before-size) in
       rw whole at (take-append-add (take place out) (new ++ postOf place (end - place) out) (end - place))
-      ∙ rw (take-at new (postOf place (end - place) out) (end - place) new-size, r .done, new-is, ← halves)
-      (sym (samples-add f (place / 2) ((end - place) / 2) g))
+      ∙ rw (take-at new (postOf place (end - place) out) (end - place) new-size, r .done, new-is, ← halves, words-add (place / 2) ((end - place) / 2) (upper u) (lower u))
+      (sym (samples-append f (words (place / 2) (upper u) (lower u)) _))
 
-  pub again : Reached f out₀ g (putMid place (end - place) out new) result end
+  pub again : Reached f out₀ u (putMid place (end - place) out new) next end
   again =
       record {
         within = omega arith;
         even = omega (arith, r .even);
         kept = same-len-mid place (end - place) out new (new-size ∙ sym size) ∙ r .kept;
-        now-at = next ∙ rw (size, r .now-at, ← halves) (sym (after-add (place / 2) ((end - place) / 2) g));
+        now-at = record {
+          a-at = drawn .now-at .a-at ∙ rw (size, r .now-at .a-at, ← halves) (repeat-add advance (place / 2) ((end - place) / 2) (upper u));
+          b-at = drawn .now-at .b-at ∙ rw (size, r .now-at .b-at, ← halves) (repeat-add advance (place / 2) ((end - place) / 2) (lower u));
+        };
         done = done-is;
       }
+
+-- all are written
+pub ended : {f : ℕ} {out₀ out : List ℤ} {u state : Lanes} {place : ℕ} → Reached f out₀ u out state place → length out₀ ≤ place
+    → LanesDrawn f (length out₀ / 2) u state out
+ended {f} {out₀} {out} {u} {state} {place} r all =
+    let whole : place ≡ length out₀ = omega (arith, r .within) in
+    record {
+      now-at = subst (λ (n : ℕ). LanesAfter (n / 2) u state) whole (r .now-at);
+      written = sym (take-all place out (omega (arith, r .kept))) ∙ r .done ∙ rw whole;
+    }
+
+-- ---- Of an accepted record
+
+-- what its streams give side by side are the samples of its pairs, and then the record after them
+module _ (f n : ℕ) (g : Generator) {u state : Lanes} {out : List ℤ} (range-a : InRange (g .a)) (range-b : InRange (g .b)) (accepted : pairsCode g n ≡ 0)
+    (same : (upper u ≡ g .a) × (lower u ≡ g .b)) (drawn : LanesDrawn f n u state out) where
+  reached : Sound g
+  reached = sound g range-a range-b (pairs-accepted g n .0 accepted .0)
+
+  pub drawn-samples : out ≡ samples f n g
+  drawn-samples =
+      let (_, room, none) = pairs-accepted g n .0 accepted in
+      drawn .written ∙ rw (same .0, same .1) (sym (samples-words f n g reached none room))
+
+  pub drawn-pairs : {next : Generator} → next ≡ onward g (upper state) (lower state) n → PairsDrawn f n g next out
+  drawn-pairs next-is =
+      let (_, room, none) = pairs-accepted g n .0 accepted in
+      (next-is ∙ rw (drawn .now-at .a-at, drawn .now-at .b-at, same .0, same .1) (sym (after-moved n g reached none room)), drawn-samples)

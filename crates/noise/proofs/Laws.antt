@@ -23,12 +23,10 @@ use Rattle.lanes.specs.Lanes.{words}
 use Rattle.lanes.proofs.Theorems.{word-is-pair}
 use Rattle.box_muller.specs.Steps.{fractionBits}
 use Rattle.box_muller.specs.Sample.{firstOf, secondOf}
-use Rattle.sample.specs.Chunk.{chunkLength, chunkHolds, samplesAt}
-use Rattle.sample.proofs.ChunkLaws.{chunk-held}
+use Rattle.sample.specs.Chunk.{samplesAt}
 use Rattle.box_muller.proofs.Closeness.{accepts}
 use Rattle.box_muller.proofs.Theorems.{theorems}
 use Rattle.noise.specs.Noise.{pairOf, samples, blockCode}
-use Rattle.noise.specs.Private.{pairWords, Small}
 
 -- ---- Which blocks are accepted
 
@@ -67,25 +65,10 @@ taken-pairs g n e =
 
 -- ---- One pair
 
--- A pair's samples fit 16 bits, as those of the call from k and v do.
-accepted-small : (n : ℕ) (x : ℤ) → natAbs x < 2 ^ 15 → natAbs (ifAccepted n x (pos 0)) < 2 ^ 15
-accepted-small n x h = split (eqb n 0)
-  where
-    split : (b : Bool) → natAbs (cond b x (pos 0)) < 2 ^ 15
-    split true = h
-    split false = omega arith
-
 -- A pair's refusal code is that of its two draws, which is that of one pair.
 pub pair-code : (f : ℕ) (g : Generator) → pairOf f g .code ≡ pairsCode g 1
 unfolding pairOf uniformsOf
 pair-code f g = refl
-
-pub pair-small : (g : Generator) → (natAbs (pairOf fractionBits g .first) < 2 ^ 15) × (natAbs (pairOf fractionBits g .second) < 2 ^ 15)
-unfolding pairOf
-pair-small g =
-    let u = uniformsOf g in
-    let (first, second) = theorems .sizes fractionBits (u .k) (u .v) in
-    (accepted-small (u .code) _ (omega (arith, first)), accepted-small (u .code) _ (omega (arith, second)))
 
 -- ---- The samples of n pairs
 
@@ -100,23 +83,6 @@ length-samples f zero g = refl
 length-samples f (suc n) g = let ih = length-samples f n (pairOf f g .next) in omega arith
 
 -- ---- The words behind the samples
-
--- They are the words of both streams side by side, where no request is open and the count has room.
-pub pair-words-drawn : (n : ℕ) (g : Generator) → Sound g → g .waiting ≡ 0 → g .count + n ≤ mostCount → pairWords n g ≡ words n (g .a) (g .b)
-unfolding pairWords words repeat
-pair-words-drawn zero g h none room = refl
-pair-words-drawn (suc n) g h none room =
-    let accepted : pairsCode g 1 ≡ 0 = pairs-accepted g 1 .1 (sound-accepted g h, omega arith, none) in
-    let a = output (advance (g .a)) in
-    let b = output (advance (g .b)) in
-    let word : ℕ = (a * 65536 + b / 65536) * 65536 + b % 65536 in
-    rw (uniforms-accepted g accepted, word-is-pair (advance (g .a)) (advance (g .b)))
-    (ap (λ (l : List ℕ). word ∷ l) (pair-words-drawn n (moved 1 g) (moved-sound 1 g h) none (omega arith)))
-
-pub length-pair-words : (n : ℕ) (g : Generator) → length (pairWords n g) ≡ n
-unfolding pairWords
-length-pair-words zero g = refl
-length-pair-words (suc n) g = ap suc (length-pair-words n (uniformsOf g .next))
 
 -- The call from k and v accepts the numbers of a pair, so the pair's samples are those of the whole-number steps.
 pub pair-is : (f : ℕ) (g : Generator) → Sound g → pairsCode g 1 ≡ 0
@@ -133,42 +99,24 @@ pair-is f g h e =
     let accepted : uniformsOf g .code ≡ 0 = ap (λ (u : Uniforms). u .code) (uniforms-accepted g e) in
     rw (pairOf, accepted, accepts f (uniformsOf g .k) (uniformsOf g .v) hk hv)
 
--- The samples are then those of their words.
+-- The samples of n pairs are those of the words of both streams side by side, where no request is open and the count has room.
 pub samples-words : (f n : ℕ) (g : Generator) → Sound g → g .waiting ≡ 0 → g .count + n ≤ mostCount
-    → samples f n g ≡ samplesAt f (pairWords n g)
-unfolding samples pairWords samplesAt
+    → samples f n g ≡ samplesAt f (words n (g .a) (g .b))
+unfolding samples words samplesAt repeat
 samples-words f zero g h none room = refl
 samples-words f (suc n) g h none room =
-    let (hk, hv) = numbers-bounded g (h .range-a) (h .range-b) in
-    let high : (uniformsOf g .k * 65536 + uniformsOf g .v) / 65536 ≡ uniformsOf g .k = omega (arith, hv) in
-    let low : (uniformsOf g .k * 65536 + uniformsOf g .v) % 65536 ≡ uniformsOf g .v = omega (arith, hv) in
     let accepted : pairsCode g 1 ≡ 0 = pairs-accepted g 1 .1 (sound-accepted g h, omega arith, none) in
-    let next-is : uniformsOf g .next ≡ moved 1 g = ap (λ (u : Uniforms). u .next) (uniforms-accepted g accepted) in
-    rw (pair-is f g h accepted, high, low)
-    (ap (λ (l : List ℤ). firstOf f (uniformsOf g .k) (uniformsOf g .v) ∷ secondOf f (uniformsOf g .k) (uniformsOf g .v) ∷ l)
-    (samples-words f n (uniformsOf g .next) (next-sound g h) (rw next-is none) (rw next-is (omega arith))))
+    let a = output (advance (g .a)) in
+    let b = output (advance (g .b)) in
+    let high : ((a * 65536 + b / 65536) * 65536 + b % 65536) / 65536 ≡ a * 65536 + b / 65536 = omega arith in
+    let low : ((a * 65536 + b / 65536) * 65536 + b % 65536) % 65536 ≡ b % 65536 = omega arith in
+    rw (pair-is f g h accepted, uniforms-accepted g accepted, word-is-pair (advance (g .a)) (advance (g .b)), high, low)
+    (ap (λ (l : List ℤ). firstOf f (a * 65536 + b / 65536) (b % 65536) ∷ secondOf f (a * 65536 + b / 65536) (b % 65536) ∷ l)
+    (samples-words f n (moved 1 g) (moved-sound 1 g h) none (omega arith)))
 
 -- So they are the same whatever a record notes, where no request is open.
 pub samples-noted : (f n asked : ℕ) (g : Generator) → Sound g → g .waiting ≡ 0 → g .count + n ≤ mostCount
     → samples f n (noted g 0 asked) ≡ samples f n g
 samples-noted f n asked g h none room =
     let same : Sound (noted g 0 asked) = record { range-a = h .range-a; range-b = h .range-b; minima-a = h .minima-a; minima-b = h .minima-b } in
-    rw (samples-words f n (noted g 0 asked) same refl room, pair-words-drawn n (noted g 0 asked) same refl room)
-    (sym (rw (samples-words f n g h none room, pair-words-drawn n g h none room)))
-
--- So a chunk of just as many words leaves them.
-pub words-samples : (f n : ℕ) (g : Generator) {zs : List ℕ} {out : List ℤ} (old : List ℤ) → Sound g → g .waiting ≡ 0 → g .count + n ≤ mostCount
-    → zs ≡ pairWords n g → length old ≡ 2 * n → n ≤ chunkLength → out ≡ chunkHolds f zs old → out ≡ samples f n g
-words-samples f n g {zs} old h none room e l few done =
-    let size = length-pair-words n g in
-    done ∙ sym (chunk-held f zs old (samplesAt f zs) (rw e (omega (arith, size))) (rw e (omega (arith, size))) refl) ∙ ap (samplesAt f) e ∙ sym (samples-words f n g h none room)
-
--- ---- Their size
-
--- Those at 11 fraction bits fit 16 bits.
-pub samples-small : (n : ℕ) (g : Generator) → Small (samples fractionBits n g)
-unfolding samples pairOf
-samples-small zero g i h = absurd (omega arith)
-samples-small (suc n) g zero h = omega (arith, pair-small g .0)
-samples-small (suc n) g (suc zero) h = omega (arith, pair-small g .1)
-samples-small (suc n) g (suc (suc i)) h = samples-small n (pairOf fractionBits g .next) i (omega arith)
+    samples-words f n (noted g 0 asked) same refl room ∙ sym (samples-words f n g h none room)

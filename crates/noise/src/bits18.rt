@@ -2,17 +2,20 @@
 use crate::PairAnswer18;
 use crate::chunk;
 use crate::chunk_end;
+use crate::onward;
+use crate::side_by_side;
 use crate::without_note;
+use lanes::Lanes;
 use streams::Generator;
 use streams::RecordAnswer;
 use streams::Uniforms;
 ghost use mathlib.Core.Path.{_≡_};
-ghost use Prim.Native.Nat.{_/_, _%_};
+ghost use Prim.Native.Nat.{_/_, _%_, _≤_};
 ghost use lib.ListN.{length};
 ghost use Rattle.streams.specs.Streams.{pairsCode};
 ghost use Rattle.box_muller.specs.Steps.{fractionBits18};
 ghost use Rattle.noise.specs.Noise.{sampledOf, pairAs18, blockOf, blockHolds, lookOf, lookHolds, takeOf, takeHolds};
-ghost use Rattle.noise.specs.Private.{PairsDrawn};
+ghost use Rattle.noise.specs.Private.{chunkSamples, LanesDrawn, PairsDrawn};
 
 // The samples of two numbers drawn, and the record after them.
 pub fn sampled18(drawn: Uniforms) -> PairAnswer18
@@ -36,12 +39,12 @@ pub fn sampled18(drawn: Uniforms) -> PairAnswer18
     }
 }
 
-// A block of even length on an accepted record, chunk by chunk.
-fn chunks18(g: Generator, out: &mut [i32]) -> Generator
-    requires { ⌜ (pairsCode g (length (now out) / 2) ≡ 0) × (length (now out) % 2 ≡ 0) ⌝ }
-    ensures { λ r. ⌜ PairsDrawn fractionBits18 (length (now (out .entry)) / 2) g r (now (out .exit)) ⌝ }
+// The samples of as many pairs as a slice of even length has room for, chunk by chunk.
+fn chunks18(streams: Lanes, out: &mut [i32]) -> Lanes
+    requires { ⌜ length (now out) % 2 ≡ 0 ⌝ }
+    ensures { λ r. ⌜ LanesDrawn fractionBits18 (length (now (out .entry)) / 2) streams r (now (out .exit)) ⌝ }
 {
-    let mut state = g;
+    let mut state = streams;
     let mut at = 0;
     let n = out.len();
     while at < n {
@@ -61,7 +64,10 @@ pub fn block18(g: Generator, out: &mut [i32]) -> RecordAnswer
     if code != 0 {
         return RecordAnswer { code, next: g };
     }
-    let next = chunks18(g, out);
+    let n = (out.len() / 2) as u64;
+    let streams = side_by_side(g);
+    let after = chunks18(streams, out);
+    let next = onward(g, after, n);
     RecordAnswer { code, next }
 }
 
@@ -71,11 +77,13 @@ pub fn look18(g: Generator, out: &mut [i32]) -> RecordAnswer
     ensures { λ r. ⌜ now (out .exit) ≡ lookHolds fractionBits18 g (now (out .entry)) ⌝ }
 {
     let free = without_note(g);
-    let shown = block18(free, out);
-    RecordAnswer {
-        code: shown.code,
-        next: g,
+    let code = requests::block_code(free, out.len());
+    if code != 0 {
+        return RecordAnswer { code, next: g };
     }
+    let streams = side_by_side(free);
+    chunks18(streams, out);
+    RecordAnswer { code, next: g }
 }
 
 // The samples that were asked for; the request is closed.
@@ -88,6 +96,9 @@ pub fn take18(g: Generator, out: &mut [i32]) -> RecordAnswer
         return RecordAnswer { code, next: g };
     }
     let free = without_note(g);
-    let next = chunks18(free, out);
+    let n = (out.len() / 2) as u64;
+    let streams = side_by_side(free);
+    let after = chunks18(streams, out);
+    let next = onward(free, after, n);
     RecordAnswer { code, next }
 }

@@ -7,6 +7,7 @@ pub use bits18::look18;
 pub use bits18::sampled18;
 pub use bits18::take18;
 use lanes::Both;
+use lanes::Lanes;
 use lanes::draw_pairs;
 use streams::Generator;
 use streams::RecordAnswer;
@@ -14,10 +15,11 @@ use streams::Uniforms;
 ghost use mathlib.Core.Path.{_≡_};
 ghost use Prim.Native.Nat.{_+_, _*_, _/_, _%_, _≤_, min};
 ghost use lib.ListN.{length};
-ghost use Rattle.streams.specs.Streams.{cleared, pairsCode, after};
+ghost use Rattle.streams.specs.Streams.{cleared, pairsCode, onward, mostCount};
+ghost use Rattle.lanes.specs.Lanes.{upper, lower};
 ghost use Rattle.box_muller.specs.Steps.{fractionBits, bitsOf};
 ghost use Rattle.noise.specs.Noise.{sampledOf, pairOf, blockOf, blockHolds, lookOf, lookHolds, takeOf, takeHolds};
-ghost use Rattle.noise.specs.Private.{chunkSamples, pairWords, PairsDrawn, Small};
+ghost use Rattle.noise.specs.Private.{chunkSamples, shortSamples, LanesDrawn, PairsDrawn, Small};
 
 pub struct PairAnswer {
     pub code: u32,
@@ -63,45 +65,27 @@ pub fn pair(g: Generator) -> PairAnswer
     sampled(drawn)
 }
 
-// The words 65536 k + v of as many pairs as z has elements, and the record after them: both streams are drawn side by side.
-fn draw_words(g: Generator, z: &mut [u64]) -> Generator
-    requires { ⌜ pairsCode g (length (now z)) ≡ 0 ⌝ }
-    ensures { λ r. ⌜ (r ≡ after (length (now (z .entry))) g) × (now (z .exit) ≡ pairWords (length (now (z .entry))) g) ⌝ }
+// The samples of as many pairs as z has elements, by way of their words in z: both streams are drawn side by side.
+fn draw_samples(streams: Lanes, in18: bool, z: &mut [u64], out: &mut [i32]) -> Lanes
+    requires { ⌜ (length (now out) ≡ 2 * length (now z)) × (length (now out) ≤ chunkSamples) ⌝ }
+    ensures { λ r. ⌜ LanesDrawn (bitsOf in18) (length (now (z .entry))) streams r (now (out .exit)) ⌝ }
 {
-    let a = g.a;
-    let b = g.b;
-    let n = z.len() as u64;
-    let drawn = draw_pairs(Both { a, b }, z);
-    let after_a = drawn.a;
-    let after_b = drawn.b;
-    let mut next = g;
-    next.a = after_a;
-    next.b = after_b;
-    next.count = g.count + n;
-    next
-}
-
-// The samples of as many pairs as z has elements, by way of their words in z.
-fn draw_samples(g: Generator, in18: bool, z: &mut [u64], out: &mut [i32]) -> Generator
-    requires { ⌜ (pairsCode g (length (now z)) ≡ 0) × (length (now out) ≡ 2 * length (now z)) × (length (now out) ≤ chunkSamples) ⌝ }
-    ensures { λ r. ⌜ PairsDrawn (bitsOf in18) (length (now (z .entry))) g r (now (out .exit)) ⌝ }
-{
-    let next = draw_words(g, z);
+    let after = draw_pairs(streams, z);
     sample::chunk(in18, z, out);
-    next
+    after
 }
 
 // The most samples in a chunk.
 const CHUNK_SAMPLES: usize = 2 * sample::CHUNK;
 
 // A chunk: its words stand in a local array, which is no longer than that, since it is zeroed at each call.
-fn chunk(g: Generator, in18: bool, out: &mut [i32]) -> Generator
-    requires { ⌜ (pairsCode g (length (now out) / 2) ≡ 0) × (length (now out) % 2 ≡ 0) × (length (now out) ≤ chunkSamples) ⌝ }
-    ensures { λ r. ⌜ PairsDrawn (bitsOf in18) (length (now (out .entry)) / 2) g r (now (out .exit)) ⌝ }
+fn chunk(streams: Lanes, in18: bool, out: &mut [i32]) -> Lanes
+    requires { ⌜ (length (now out) % 2 ≡ 0) × (length (now out) ≤ chunkSamples) ⌝ }
+    ensures { λ r. ⌜ LanesDrawn (bitsOf in18) (length (now (out .entry)) / 2) streams r (now (out .exit)) ⌝ }
 {
     let mut z = [0u64; sample::CHUNK];
     let n = out.len() / 2;
-    draw_samples(g, in18, &mut z[0..n], out)
+    draw_samples(streams, in18, &mut z[0..n], out)
 }
 
 // The samples of 16 bits among numbers of 32.
@@ -118,15 +102,15 @@ fn narrowed(samples: &[i32], out: &mut [i16])
 }
 
 // A chunk of samples of 16 bits.
-fn chunk16(g: Generator, out: &mut [i16]) -> Generator
-    requires { ⌜ (pairsCode g (length (now out) / 2) ≡ 0) × (length (now out) % 2 ≡ 0) × (length (now out) ≤ chunkSamples) ⌝ }
-    ensures { λ r. ⌜ PairsDrawn fractionBits (length (now (out .entry)) / 2) g r (now (out .exit)) ⌝ }
+fn chunk16(streams: Lanes, out: &mut [i16]) -> Lanes
+    requires { ⌜ (length (now out) % 2 ≡ 0) × (length (now out) ≤ chunkSamples) ⌝ }
+    ensures { λ r. ⌜ LanesDrawn fractionBits (length (now (out .entry)) / 2) streams r (now (out .exit)) ⌝ }
 {
     let mut samples = [0i32; CHUNK_SAMPLES];
     let n = out.len();
-    let next = chunk(g, false, &mut samples[0..n]);
+    let after = chunk(streams, false, &mut samples[0..n]);
     narrowed(&samples[0..n], out);
-    next
+    after
 }
 
 // Where the chunk that begins at a place of n ends.
@@ -141,12 +125,12 @@ fn chunk_end(at: usize, n: usize) -> usize
     }
 }
 
-// A block of even length on an accepted record, chunk by chunk.
-fn chunks(g: Generator, out: &mut [i16]) -> Generator
-    requires { ⌜ (pairsCode g (length (now out) / 2) ≡ 0) × (length (now out) % 2 ≡ 0) ⌝ }
-    ensures { λ r. ⌜ PairsDrawn fractionBits (length (now (out .entry)) / 2) g r (now (out .exit)) ⌝ }
+// The samples of as many pairs as a slice of even length has room for, chunk by chunk.
+fn chunks(streams: Lanes, out: &mut [i16]) -> Lanes
+    requires { ⌜ length (now out) % 2 ≡ 0 ⌝ }
+    ensures { λ r. ⌜ LanesDrawn fractionBits (length (now (out .entry)) / 2) streams r (now (out .exit)) ⌝ }
 {
-    let mut state = g;
+    let mut state = streams;
     let mut at = 0;
     let n = out.len();
     while at < n {
@@ -155,6 +139,69 @@ fn chunks(g: Generator, out: &mut [i16]) -> Generator
         at = end;
     }
     state
+}
+
+// The most pairs, and the most samples, in a short block.
+const SHORT: usize = 8;
+
+const SHORT_SAMPLES: usize = 2 * SHORT;
+
+// A short block: a chunk whose words and samples of 32 bits stand in shorter arrays.
+fn short(streams: Lanes, in18: bool, out: &mut [i32]) -> Lanes
+    requires { ⌜ (length (now out) % 2 ≡ 0) × (length (now out) ≤ shortSamples) ⌝ }
+    ensures { λ r. ⌜ LanesDrawn (bitsOf in18) (length (now (out .entry)) / 2) streams r (now (out .exit)) ⌝ }
+{
+    let mut z = [0u64; SHORT];
+    let n = out.len() / 2;
+    draw_samples(streams, in18, &mut z[0..n], out)
+}
+
+// The same in 16 bits.
+fn short16(streams: Lanes, out: &mut [i16]) -> Lanes
+    requires { ⌜ (length (now out) % 2 ≡ 0) × (length (now out) ≤ shortSamples) ⌝ }
+    ensures { λ r. ⌜ LanesDrawn fractionBits (length (now (out .entry)) / 2) streams r (now (out .exit)) ⌝ }
+{
+    let mut samples = [0i32; SHORT_SAMPLES];
+    let n = out.len();
+    let after = short(streams, false, &mut samples[0..n]);
+    narrowed(&samples[0..n], out);
+    after
+}
+
+// A block of even length: a short one at once, another chunk by chunk.
+fn filled(streams: Lanes, out: &mut [i16]) -> Lanes
+    requires { ⌜ length (now out) % 2 ≡ 0 ⌝ }
+    ensures { λ r. ⌜ LanesDrawn fractionBits (length (now (out .entry)) / 2) streams r (now (out .exit)) ⌝ }
+{
+    if out.len() <= SHORT_SAMPLES {
+        return short16(streams, out);
+    }
+    chunks(streams, out)
+}
+
+// The streams of a record, side by side.
+fn side_by_side(g: Generator) -> Lanes
+    ensures { λ r. ⌜ (upper r ≡ g .a) × (lower r ≡ g .b) ⌝ }
+{
+    let a = g.a;
+    let b = g.b;
+    let both = Both { a, b };
+    both.lanes()
+}
+
+// The record n pairs on, its streams as they then are.
+fn onward(g: Generator, streams: Lanes, n: u64) -> Generator
+    requires { ⌜ g .count + n ≤ mostCount ⌝ }
+    ensures { λ r. ⌜ r ≡ onward g (upper streams) (lower streams) n ⌝ }
+{
+    let both = streams.both();
+    let a = both.a;
+    let b = both.b;
+    let mut next = g;
+    next.a = a;
+    next.b = b;
+    next.count = g.count + n;
+    next
 }
 
 // The record with no request noted.
@@ -176,7 +223,10 @@ pub fn block(g: Generator, out: &mut [i16]) -> RecordAnswer
     if code != 0 {
         return RecordAnswer { code, next: g };
     }
-    let next = chunks(g, out);
+    let n = (out.len() / 2) as u64;
+    let streams = side_by_side(g);
+    let after = filled(streams, out);
+    let next = onward(g, after, n);
     RecordAnswer { code, next }
 }
 
@@ -186,11 +236,13 @@ pub fn look(g: Generator, out: &mut [i16]) -> RecordAnswer
     ensures { λ r. ⌜ now (out .exit) ≡ lookHolds fractionBits g (now (out .entry)) ⌝ }
 {
     let free = without_note(g);
-    let shown = block(free, out);
-    RecordAnswer {
-        code: shown.code,
-        next: g,
+    let code = requests::block_code(free, out.len());
+    if code != 0 {
+        return RecordAnswer { code, next: g };
     }
+    let streams = side_by_side(free);
+    chunks(streams, out);
+    RecordAnswer { code, next: g }
 }
 
 // The samples that were asked for; the request is closed.
@@ -203,6 +255,9 @@ pub fn take(g: Generator, out: &mut [i16]) -> RecordAnswer
         return RecordAnswer { code, next: g };
     }
     let free = without_note(g);
-    let next = chunks(free, out);
+    let n = (out.len() / 2) as u64;
+    let streams = side_by_side(free);
+    let after = chunks(streams, out);
+    let next = onward(free, after, n);
     RecordAnswer { code, next }
 }

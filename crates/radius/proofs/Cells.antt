@@ -1,72 +1,98 @@
--- The cell of M by the reciprocal R of h and one division: with d = high × 2^24 + low, i is floor(high / h), and with left = high - i h the
--- remainder r is left × 2^24 + low and the divisor of S is 65536 h + high - left.
+-- The cell of M by the reciprocal R of h: with d = high × 2^24 + low, i is floor(high / h), and the remainder r is M less 2^24 times the divisor
+-- of S, h × (65536 + i).
 use mathlib.Core.Path.{_≡_, refl, ap, _∙_}
 use Prim.Native.Nat.{ℕ, _+_, _-_, _*_, _/_, _%_, _^_, _≤_, _<_}
-use native.Mathlib.Nat.{div-div-eq-div-mul, mul-comm, mul-le-mul, div-add-mod', div-le-self, div-mul-le-self}
+use native.Mathlib.Nat.{div-div-eq-div-mul, div-lt-iff-lt-mul, mul-comm, mul-le-mul, mul-le-mul-left, div-add-mod', div-le-self}
+use native.Mathlib.Nat.{div-mul-le-self, mod-lt, mod-eq-of-lt}
 use native.Mathlib.Omega.{arith}
 use Rattle.tables.specs.Tables.{entryOf}
-use Rattle.log_coarse_lookup.specs.Reciprocals.{reciprocals}
-use Rattle.log_coarse_lookup.proofs.Quotients.{reciprocal-is, quotient-is}
+use Rattle.reciprocal_lookup.specs.Reciprocals.{reciprocals}
+use Rattle.reciprocal_lookup.proofs.Quotients.{reciprocal-is, quotient-is}
 
 -- ---- The quotient of a number of 16 bits by h
 module _ (x h R : ℕ) (is : R ≡ entryOf reciprocals 256 h) (few : x < 65536) (least : 256 ≤ h) (most : h < 512) where
+  pub reciprocal-small : R ≤ 2 ^ 31
+  reciprocal-small =
+      let below = div-lt-iff-lt-mul {k = h} {x = 2 ^ 39 - 1 + h} {y = 2 ^ 31 + 1} (omega arith) .1 (omega (arith, mul-le-mul-left (2 ^ 31 + 1) least)) in
+      rw (is, reciprocal-is h least most) (omega (arith, below))
+
   product-below : x * R < 2 ^ 48
-  product-below =
-      let small : R ≤ 2 ^ 31 - 1 + h = rw (is, reciprocal-is h least most) (div-le-self (2 ^ 31 - 1 + h) h) in
-      omega (arith, mul-le-mul few small)
+  product-below = omega (arith, mul-le-mul few reciprocal-small)
 
   pub product-fits : x * R < 2 ^ 64
   product-fits = omega (arith, product-below)
 
-  pub multiple-fits : (unit : ℕ) → x * R / unit * h < 2 ^ 64
-  multiple-fits unit =
-      let small : x * R / unit < 2 ^ 48 = omega (arith, product-below, div-le-self (x * R) unit) in
-      omega (arith, mul-le-mul small most)
+  quotient-below : (unit : ℕ) → x * R / unit < 2 ^ 48
+  quotient-below unit = omega (arith, product-below, div-le-self (x * R) unit)
 
-  pub by-reciprocal : x * R / 2 ^ 31 ≡ x / h
+  pub sum-fits : (unit : ℕ) → 65536 + x * R / unit < 2 ^ 64
+  sum-fits unit = omega (arith, quotient-below unit)
+
+  pub divisor-fits : (unit : ℕ) → h * (65536 + x * R / unit) < 2 ^ 64
+  divisor-fits unit =
+      let small : 65536 + x * R / unit ≤ 2 ^ 49 = omega (arith, quotient-below unit) in
+      omega (arith, mul-le-mul most small)
+
+  by-reciprocal : x * R / 2 ^ 39 ≡ x / h
   by-reciprocal = rw is (quotient-is x h few least most)
 
-  pub multiple-below : x * R / 2 ^ 31 * h ≤ x
+  multiple-below : x * R / 2 ^ 39 * h ≤ x
   multiple-below = rw by-reciprocal (div-mul-le-self x h)
 
--- ---- The remainder and the divisor, for P in place of 2^24
-remainder-by-left : (d P high low i h : ℕ) → high * P + low ≡ d → i * h ≤ high → (high - i * h) * P + low ≡ d - i * (h * P)
-remainder-by-left d P high low i h parts le = joined (high - i * h) (omega arith)
-  where
-    joined : (left : ℕ) → left + i * h ≡ high → left * P + low ≡ d - i * (h * P)
-    joined left e =
-        let sum : left * P + low + i * (h * P) ≡ d = rw (← parts, ← e) (omega arith) in
-        omega arith
+  left-below : x - x * R / 2 ^ 39 * h < h
+  left-below =
+      let whole : x / h * h + x % h ≡ x = div-add-mod' x h in
+      let rest : x % h < h = mod-lt x (omega arith) in
+      rw by-reciprocal (omega arith)
 
-divisor-by-left : (high i h : ℕ) → i * h ≤ high → h * 65536 + (high - (high - i * h)) ≡ h * (65536 + i)
-divisor-by-left high i h le = omega arith
+-- ---- The divisor and the remainder, for any i
+pub record Parts (M h i : ℕ) : Type 0 where
+  pub divisor-some : 0 < h * (65536 + i)
+  pub divisor-small : h * (65536 + i) < 2 ^ 27
+  pub divisor-low : h * (65536 + i) * 2 ^ 24 ≤ M
+  pub remainder-small : M - h * (65536 + i) * 2 ^ 24 < 2 ^ 33
+
+parts-of : (M h i : ℕ) → h ≡ M / 2 ^ 40 → 256 ≤ h → h < 512 → i * h ≤ M % 2 ^ 40 / 2 ^ 24 → M % 2 ^ 40 / 2 ^ 24 - i * h < h → Parts M h i
+parts-of M h i at least most le left = record {
+  divisor-some = omega arith;
+  divisor-small = omega arith;
+  divisor-low = omega arith;
+  remainder-small = omega arith;
+}
+
+remainder-is : (M h i : ℕ) → h ≡ M / 2 ^ 40 → M - h * (65536 + i) * 2 ^ 24 ≡ M % 2 ^ 40 - i * (h * 2 ^ 24)
+remainder-is M h i at = omega arith
 
 -- ---- i and S
-module _ (M R : ℕ) (is : R ≡ entryOf reciprocals 256 (M / 2 ^ 40)) (low : 2 ^ 48 ≤ M) (high : M < 2 ^ 49) where
-  abbrev h : ℕ
-  h = M / 2 ^ 40
-
+module _ (M h R : ℕ) (at : h ≡ M / 2 ^ 40) (is : R ≡ entryOf reciprocals 256 h) (least : 256 ≤ h) (most : h < 512) where
   abbrev d : ℕ
   d = M % 2 ^ 40
 
   abbrev i : ℕ
-  i = d / 2 ^ 24 * R / 2 ^ 31
+  i = d / 2 ^ 24 * R / 2 ^ 39
 
-  pub fine-is : i ≡ d / (h * 2 ^ 24)
+  pub parts : Parts M h i
+  parts =
+      parts-of M h i at least most
+      (multiple-below (d / 2 ^ 24) h R is (omega arith) least most) (left-below (d / 2 ^ 24) h R is (omega arith) least most)
+
+  pub shifted-fits : h * (65536 + i) * 2 ^ 24 < 2 ^ 64
+  shifted-fits = omega (arith, parts .divisor-small)
+
+  fine-is : i ≡ d / (h * 2 ^ 24)
   fine-is =
-      by-reciprocal (d / 2 ^ 24) h R is (omega arith) (omega arith) (omega arith)
+      by-reciprocal (d / 2 ^ 24) h R is (omega arith) least most
       ∙ div-div-eq-div-mul d (2 ^ 24) h ∙ ap (λ n. d / n) (mul-comm (2 ^ 24) h)
 
-  abbrev left : ℕ
-  left = d / 2 ^ 24 - i * h
+  pub index-is : i % 256 ≡ d / (h * 2 ^ 24)
+  index-is =
+      let le = multiple-below (d / 2 ^ 24) h R is (omega arith) least most in
+      let few : i * 256 ≤ i * h = mul-le-mul-left i least in
+      mod-eq-of-lt (below i h (d / 2 ^ 24) (omega arith) few le) ∙ fine-is
+    where
+      below : (i h x : ℕ) → x < 65536 → i * 256 ≤ i * h → i * h ≤ x → i < 256
+      below i h x small few le = omega arith
 
-  pub correction-is : (left * 2 ^ 24 + d % 2 ^ 24) * 2 ^ 16 / (h * 65536 + (d / 2 ^ 24 - left))
+  pub correction-is : (M - h * (65536 + i) * 2 ^ 24) * 2 ^ 16 / (h * (65536 + i))
       ≡ (d - d / (h * 2 ^ 24) * (h * 2 ^ 24)) * 2 ^ 16 / (h * (65536 + d / (h * 2 ^ 24)))
-  correction-is =
-      let le : i * h ≤ d / 2 ^ 24 = multiple-below (d / 2 ^ 24) h R is (omega arith) (omega arith) (omega arith) in
-      rw (
-        ← fine-is,
-        remainder-by-left d (2 ^ 24) (d / 2 ^ 24) (d % 2 ^ 24) i h (div-add-mod' d (2 ^ 24)) le,
-        divisor-by-left (d / 2 ^ 24) i h le,
-      )
-      refl
+  correction-is = rw (remainder-is M h i at, fine-is) refl

@@ -1,10 +1,11 @@
 // The number under the root, 2Q, of a first number k: the whole part of its root is F, the radius at 2^20 (document 01, 'Radius', with
 // the half step of document 02, Job 5).
 ghost use mathlib.Core.Path.{_≡_};
-ghost use Prim.Native.Nat.{_+_, _-_, _*_, _%_, _^_, _≤_, _<_};
-ghost use Rattle.tables.specs.Tables.{logCoarse, logFine, lnTwo, entryOf};
-ghost use Rattle.radius.specs.Steps.{numberBits, width, numerator, topBit, mantissa, coarseIndex, fineIndex, correction, logarithm};
+ghost use Prim.Native.Nat.{_+_, _-_, _*_, _/_, _%_, _^_, _≤_, _<_};
+ghost use Rattle.tables.specs.Tables.{logFine, entryOf};
+ghost use Rattle.radius.specs.Steps.{numberBits, width, numerator, topBit, mantissa, coarseIndex, fineIndex, correction};
 ghost use Rattle.radius.specs.Steps.{underRoot};
+ghost use Rattle.radius.specs.NormalForm.{normalOf, logarithmOf, underNormal};
 
 // The bits of k and the first number beyond them; the width of the numerator 2k + 1, and the powers of 2 in steps 2, 3 and 4.
 const NUMBER_BITS: u32 = 48;
@@ -21,8 +22,26 @@ const FINE: u64 = 1 << (WIDTH - 25);
 
 const FRACTION: u64 = 1 << (65 - WIDTH);
 
-// The unit of a reciprocal: high / h is high times the reciprocal of h over it.
-const RECIPROCAL: u64 = 1 << 31;
+// The unit of a reciprocal: high / h is high times the reciprocal of h over it. That of the inverses above the entries of B, and of the
+// product of both.
+const RECIPROCAL: u64 = 1 << 39;
+
+const INVERSE: u64 = 1 << 32;
+
+const BOTH: u64 = 1 << 39;
+
+// The bits of the float 2^52, and what the exponent of a float counts in its bits.
+const BITS: u64 = 0x4330_0000_0000_0000;
+
+const EXPONENT: u64 = 1 << 52;
+
+// What M counts in the bits of the float 2k + 1, and its top bit, which they do not have.
+const PLACE: u64 = 1 << (53 - WIDTH);
+
+const TOP_BIT: u64 = 1 << TOP;
+
+// 1072 and 4096, so that any exponent can be taken from it: 1023 + e leaves 49 - e mod 64.
+const EXPONENTS: u64 = 1072 + 4096;
 
 // The number under the logarithm.
 fn numerator(k: u64) -> u64
@@ -50,30 +69,82 @@ fn mantissa(k: u64) -> u64
     numerator(k) << (TOP - top_bit(k))
 }
 
-// h, i and S: the cell of a number in the logarithm tables, and what lies beyond it.
+// The normal form of k mod 2^48, which is the bits of the float 2k + 1: of the float that has 2k + 1 in its last bits, less 2^52. No zeros are
+// counted, so that the compiler makes several at a time.
+pub fn normal(k: u64) -> u64
+    ensures { λ r. ⌜ r ≡ normalOf (k % 2 ^ numberBits) ⌝ }
+{
+    f64::to_bits(f64::from_bits(BITS + numerator(k % LIMIT)) - 4503599627370496.0)
+}
+
+// The same in whole numbers.
+pub fn normal_whole(k: u64) -> u64
+    ensures { λ r. ⌜ r ≡ normalOf (k % 2 ^ numberBits) ⌝ }
+{
+    let exponent = (1022 + top_bit(k % LIMIT)) as u64;
+    exponent * EXPONENT + mantissa(k % LIMIT) * PLACE
+}
+
+// About r × 2^16 / (h (65536 + i)), from below, by the reciprocal of h and the inverse of 65536 + i. The contract is a bound alone.
+fn about(remainder: u64, reciprocal: u64, inverse: u64) -> u64
+    requires { ⌜ (remainder < 2 ^ 33) × (reciprocal ≤ 2 ^ 31) × (inverse < 2 ^ 32) ⌝ }
+    ensures { λ r. ⌜ r < 2 ^ 32 ⌝ }
+{
+    remainder * (reciprocal * inverse / INVERSE) / BOTH
+}
+
+// n / d, where a processor divides numbers of 64 bits. What the guess is does not matter.
+fn quotient(n: u64, d: u64, guess: u64) -> u64
+    requires { ⌜ (0 < d) × (d < 2 ^ 27) × (guess < 2 ^ 32) ⌝ }
+    ensures { λ r. ⌜ r ≡ n / d ⌝ }
+{
+    n / d
+}
+
+// The same with no division, unless the guess is far off: one that passes the test is the quotient, and so is the next number where that passes.
+// tools/target names it in place of `quotient` where a division is a call.
+fn guessed_quotient(n: u64, d: u64, guess: u64) -> u64
+    requires { ⌜ (0 < d) × (d < 2 ^ 27) × (guess < 2 ^ 32) ⌝ }
+    ensures { λ r. ⌜ r ≡ n / d ⌝ }
+{
+    let product = guess * d;
+    if product <= n {
+        let rest = n - product;
+        if rest < d {
+            return guess;
+        }
+        if rest - d < d {
+            return guess + 1;
+        }
+    }
+    n / d
+}
+
+// The cell of a number in the logarithm tables: h, B(i) and S.
 struct Cell {
     coarse: u64,
     fine: u64,
     correction: u64,
 }
 
-// With d = high × 2^24 + low and high = i h + left, i is high / h, by the reciprocal of h; r is left × 2^24 + low, and the divisor of S
-// is 65536 h + high - left. One division is left.
-fn cell_of(k: u64) -> Cell
-    requires { ⌜ k < 2 ^ numberBits ⌝ }
-    ensures { λ r. ⌜ (r .coarse ≡ coarseIndex width (numerator k)) × (r .fine ≡ fineIndex width (numerator k)) × (r .correction ≡ correction width (numerator k)) ⌝ }
+// With d = high × 2^24 + low, i is high / h, by the reciprocal of h, and r is M less 2^24 times the divisor of S. (That h is from 256 to 511
+// and i below 256 is said again, so that the compiler looks up without a test.)
+fn cell_of(scaled: u64) -> Cell
+    requires { ⌜ (2 ^ 48 ≤ scaled) × (scaled < 2 ^ 49) ⌝ }
+    ensures { λ r. ⌜ (r .coarse ≡ coarseIndex width scaled) × (r .fine ≡ entryOf logFine 0 (fineIndex width scaled)) × (r .correction ≡ correction width scaled) ⌝ }
 {
-    let scaled = mantissa(k);
-    let coarse = scaled / COARSE;
+    let coarse = scaled / COARSE % 256 + 256;
     let rest = scaled % COARSE;
-    let high = rest / FINE;
-    let low = rest % FINE;
-    let fine = high * log_coarse_lookup::reciprocal(coarse) / RECIPROCAL;
-    let left = high - fine * coarse;
-    let correction = (left * FINE + low) * FRACTION / (coarse * 65536 + (high - left));
+    let reciprocal = reciprocal_lookup::reciprocal(coarse);
+    let fine = rest / FINE * reciprocal / RECIPROCAL;
+    let divisor = coarse * (65536 + fine);
+    let remainder = scaled - divisor * FINE;
+    let arm = log_fine_lookup::arm(fine % 256);
+    let guess = about(remainder, reciprocal, arm / INVERSE);
+    let correction = quotient(remainder * FRACTION, divisor, guess);
     Cell {
         coarse,
-        fine,
+        fine: arm % INVERSE,
         correction,
     }
 }
@@ -85,17 +156,16 @@ fn difference_or_zero(x: u64, y: u64) -> u64
     if x < y { 0 } else { x - y }
 }
 
-// Q, the logarithm of 2^49 / (2k + 1) at 2^40.
-fn logarithm(k: u64) -> u64
-    requires { ⌜ k < 2 ^ numberBits ⌝ }
-    ensures { λ r. ⌜ (r ≡ logarithm (entryOf logCoarse 256) (entryOf logFine 0) lnTwo width (numerator k)) × (r < 2 ^ 46) ⌝ }
+// Q, the logarithm of 2^49 / (2k + 1) at 2^40, from 49 - e and M.
+fn logarithm(doublings: u64, scaled: u64) -> u64
+    requires { ⌜ (doublings < 64) × (2 ^ 48 ≤ scaled) × (scaled < 2 ^ 49) ⌝ }
+    ensures { λ r. ⌜ (r ≡ logarithmOf doublings scaled) × (r < 2 ^ 47) ⌝ }
 {
-    let doublings = (WIDTH - top_bit(k)) as u64;
     let ln2 = tables::ln_two();
-    let cell = cell_of(k);
+    let cell = cell_of(scaled);
     difference_or_zero(
         doublings * ln2,
-        log_coarse_lookup::entry(cell.coarse) + log_fine_lookup::entry(cell.fine) + cell.correction,
+        log_coarse_lookup::entry(cell.coarse) + cell.fine + cell.correction,
     )
 }
 
@@ -103,5 +173,14 @@ fn logarithm(k: u64) -> u64
 pub fn under_root(k: u64) -> u64
     ensures { λ r. ⌜ r ≡ underRoot (k % 2 ^ numberBits) ⌝ }
 {
-    2 * logarithm(k % LIMIT)
+    let doublings = (WIDTH - top_bit(k % LIMIT)) as u64;
+    2 * logarithm(doublings, mantissa(k % LIMIT))
+}
+
+// The same of a normal form.
+pub fn under_normal(n: u64) -> u64
+    ensures { λ r. ⌜ r ≡ underNormal n ⌝ }
+{
+    let doublings = (EXPONENTS - n / EXPONENT) % 64;
+    2 * logarithm(doublings, n / PLACE % TOP_BIT + TOP_BIT)
 }

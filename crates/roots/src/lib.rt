@@ -1,8 +1,12 @@
-// The whole part of a square root: a guess in floating point, which promises no more than a bound, and the root from any guess, which is
-// right whatever the guess is.
+// The whole part of a square root: two guesses, in floating point and in whole numbers, which promise no more than a bound, and the root
+// from any guess, which is right whatever the guess is.
+mod cells;
+mod whole;
+
+pub use whole::nears;
 ghost use mathlib.Core.Path.{_≡_};
 ghost use mathlib.Core.Bool.{not};
-ghost use Prim.Native.Nat.{min};
+ghost use Prim.Native.Nat.{_^_, _<_, min};
 ghost use lib.Dec.{T};
 ghost use lib.ListN.{length};
 ghost use lib.Ieee.{isNan};
@@ -26,9 +30,9 @@ fn float_of(x: u64) -> f64
     f64::from_bits(BITS + x % PLACES) - 4503599627370496.0
 }
 
-// About 1 over the root of the float that has these bits: half of its exponent, taken from a constant.
+// About 0.7 over the root of the float that has these bits: half of its exponent, taken from a constant.
 fn about_inverse_root(bits: u64) -> f64 {
-    f64::from_bits(0x5fe6_eb3b_e000_0000 - bits / 2 % 0x4000_0000_0000_0000)
+    f64::from_bits(0x5fde_973b_e000_0000 - bits / 2 % 0x4000_0000_0000_0000)
 }
 
 // The bits of a float, or 0 where it is not below 10^18.
@@ -36,16 +40,19 @@ fn bits_of(x: f64) -> u64 {
     if x < 1.0e18 { f64::to_bits(x) } else { 0 }
 }
 
-// Near the root of x, for x below 2^48: about 1 over the root, one step of Newton's, then one of the third order with the product. The
-// last sum has the rounded root in its last 24 bits. The contract is a bound alone: which guess it is, is left to the program.
+// Near the root of x, for x below 2^48: about 0.7 over the root, one step of Newton's, which gives about 0.68 over it, then one of the third
+// order with the product. The constants make the greatest error least. The last sum has the rounded root in its last 24 bits. The contract is a
+// bound alone: which guess it is, is left to the program.
 pub fn guess(x: u64) -> u64
     ensures { λ r. ⌜ Guess r ⌝ }
 {
     let f = float_of(x);
     let start = about_inverse_root(f64::to_bits(f));
-    let inverse = start * (1.5008789 - f * 0.5 * start * start);
-    let square = f * inverse * inverse;
-    let near = f * inverse * (1.875 - square * (1.25 - 0.375 * square));
+    let inverse = start * (1.4625 - f * start * start);
+    let product = f * inverse;
+    let square = product * inverse;
+    let near = product
+        * (2.756500333768153 - square * (3.9717338201824877 - 2.5752206987046584 * square));
     bits_of(near - 0.5 + 4503599644147712.0) % GUESSES
 }
 
@@ -84,16 +91,55 @@ fn searched(x: u64) -> u64
     low
 }
 
-// The whole part of the root of x, from any guess: a guess that passes the test is it. The loop stands apart, since on the straight way
-// it costs as much as all else.
+// The lowest root of a cell, less what a cell's numbers may be too large by, and the unit of the 28 bits that they have of it.
+const LOWEST: u64 = (1 << 31) - (1 << 8);
+
+const ROOT_UNIT: u64 = 8;
+
+// The units of a slope's 24 bits and of its fall's 12, and of both in a cell.
+const SLOPE: u64 = 1 << 24;
+
+const FALL: u64 = 1 << 20;
+
+const FALLS: u64 = 1 << 12;
+
+// A product of two numbers of 24 bits, which 64 bits hold.
+fn product(a: u64, b: u64) -> u64
+    requires { ⌜ (a < 2 ^ 24) × (b < 2 ^ 24) ⌝ }
+    ensures { λ r. ⌜ r < 2 ^ 48 ⌝ }
+{
+    a * b
+}
+
+// Near the root of x, from below, for x below 2^48, in whole numbers: the root or one less. x is moved up by an even number of places; its
+// upper 8 bits are then its cell, and the next 24 are how far it lies in the cell. The contract is a bound alone, as that of `guess`.
+pub fn near(x: u64) -> u64
+    ensures { λ r. ⌜ Guess r ⌝ }
+{
+    let places = u64::leading_zeros(x | 1) % 64 / 2;
+    let scaled = x << (2 * places);
+    let cell = cells::cell(scaled >> 56);
+    let along = (scaled >> 32) % SLOPE;
+    let fall = product(cell % FALLS, along) / FALL;
+    let slope = std::num::wrapping_sub_u64(cell / FALLS % SLOPE, fall) % SLOPE;
+    let rise = product(slope, along) / SLOPE;
+    ((LOWEST + ROOT_UNIT * (cell / (FALLS * SLOPE)) + rise) >> places) % GUESSES
+}
+
+// The whole part of the root of x, from any guess: a guess that passes the test is it, and so is the next number where that passes. The
+// loop stands apart, since on the straight way it costs as much as all else.
 pub fn root(x: u64, guess: u64) -> u64
     ensures { λ r. ⌜ r ≡ wholeRoot x ⌝ }
 {
     let g = guess % ROOTS;
     let square = g * g;
     if square <= x {
-        if x - square < 2 * g + 1 {
+        let rest = x - square;
+        if rest < 2 * g + 1 {
             return g;
+        }
+        if rest - (2 * g + 1) < 2 * g + 3 {
+            return g + 1;
         }
     }
     searched(x)

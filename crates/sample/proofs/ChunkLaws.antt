@@ -1,7 +1,7 @@
 -- Laws of a chunk: memory that is filled pair by pair, and the three cases of its lengths.
 use mathlib.Core.Path.{_≡_, refl, ap, sym, _∙_}
 use mathlib.Core.Bool.{cond, _&&_}
-use mathlib.Core.List.{List, [], _∷_}
+use mathlib.Core.List.{List, [], _∷_, _++_}
 use Prim.Native.Nat.{ℕ, zero, suc, _+_, _*_, _≤_, _<_}
 use native.Mathlib.Numerals.{add-one}
 use native.Mathlib.Omega.{arith}
@@ -17,6 +17,17 @@ filled f [] out = out
 filled f (z ∷ zs) [] = []
 filled f (z ∷ zs) (x ∷ []) = x ∷ []
 filled f (z ∷ zs) (x ∷ y ∷ out) = firstAt f z ∷ secondAt f z ∷ filled f zs out
+
+-- the samples of some z and of more
+pub samples-append : (f : ℕ) (l m : List ℕ) → samplesAt f (l ++ m) ≡ samplesAt f l ++ samplesAt f m
+unfolding samplesAt
+samples-append f [] m = refl
+samples-append f (z ∷ l) m = ap (λ (t : List ℤ). firstAt f z ∷ secondAt f z ∷ t) (samples-append f l m)
+
+pub samples-length : (f : ℕ) (zs : List ℕ) → length (samplesAt f zs) ≡ 2 * length zs
+unfolding samplesAt
+samples-length f [] = refl
+samples-length f (z ∷ zs) = let ih = samples-length f zs in omega arith
 
 -- too many z for a chunk, or another length than two for each: the memory stays
 pub chunk-long : (f : ℕ) (zs : List ℕ) (out : List ℤ) → chunkLength < length zs → out ≡ chunkHolds f zs out

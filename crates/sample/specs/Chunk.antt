@@ -21,7 +21,7 @@ samplesAt f (z ∷ zs) = firstAt f z ∷ secondAt f z ∷ samplesAt f zs
 
 -- The most pairs in a chunk.
 abbrev pub chunkLength : ℕ
-chunkLength = 32
+chunkLength = 16
 
 -- What the caller's memory holds: the samples, where a chunk has as many z and the memory two elements for each; else what it held.
 unfoldable pub chunkHolds : ℕ → List ℕ → List ℤ → List ℤ

@@ -15,6 +15,7 @@ ghost use Rattle.angle.specs.Steps.{signedOf};
 ghost use Rattle.box_muller.specs.Steps.{fractionBits, bitsOf, size, rounded};
 ghost use Rattle.box_muller.specs.Sample.{samplesOf, as18, nineSixteenths};
 ghost use Rattle.box_muller.specs.DataSheet.{thirtyThreeSixtyFourths};
+ghost use Rattle.roots.specs.Root.{Guessed};
 ghost use Rattle.sample.specs.Chunk.{chunkHolds, samplesAt};
 ghost use Rattle.sample.specs.Private.{scaleOf, underRootAt};
 
@@ -105,6 +106,20 @@ fn sample_each(in18: bool, z: &[u64], x: &[u64], g: &[u64], out: &mut [i32])
     }
 }
 
+// The most pairs whose roots are guessed in whole numbers.
+const FEW: usize = 4;
+
+// A guess at the root of each x: in whole numbers of a few, in floating point, several at a time, of more.
+fn guess_each(x: &[u64], g: &mut [u64])
+    ensures { λ _. ⌜ Guessed (length (now (x .entry))) (now (g .entry)) (now (g .exit)) ⌝ }
+{
+    if x.len() <= FEW {
+        roots::nears(x, g);
+        return;
+    }
+    roots::guesses(x, g)
+}
+
 // The samples of each z, by passes over them all: 2Q of each, a guess at the root of each, and the samples. What x and g hold does not
 // matter.
 fn by_passes(in18: bool, z: &[u64], x: &mut [u64], g: &mut [u64], out: &mut [i32])
@@ -112,12 +127,12 @@ fn by_passes(in18: bool, z: &[u64], x: &mut [u64], g: &mut [u64], out: &mut [i32
     ensures { λ r. ⌜ now (out .exit) ≡ samplesAt (bitsOf in18) (now (z .entry)) ⌝ }
 {
     under_roots(z, x);
-    roots::guesses(x, g);
+    guess_each(x, g);
     sample_each(in18, z, x, g, out)
 }
 
 // The most pairs in a chunk.
-pub const CHUNK: usize = 32;
+pub const CHUNK: usize = 16;
 
 // The two samples of each z = 65536 k + v, first and second alternating, where a chunk has as many z and the caller's memory has two
 // elements for each; else it stays. (A single sample goes this way too: the compiler puts the passes into one function where nothing

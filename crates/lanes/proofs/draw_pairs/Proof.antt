@@ -1,5 +1,5 @@
 -- `lanes::draw_pairs` leaves the words of as many pairs as there is room for. The loop has drawn i of them.
-use mathlib.Core.Path.{_≡_, refl, sym, ap, _∙_}
+use mathlib.Core.Path.{_≡_, refl, sym, ap, subst, _∙_}
 use mathlib.Core.List.{List}
 use Prim.Native.Nat.{ℕ, _+_, _-_, _≤_, _<_}
 use native.Mathlib.Numerals.{add-one}
@@ -11,10 +11,9 @@ use Rattle.bit_matrix.specs.Matrices.{repeat}
 use Rattle.bit_matrix.proofs.Theorems.{repeat-add}
 use Rattle.streams.specs.declared.Stream.{Stream}
 use Rattle.streams.specs.Streams.{advance}
-use Rattle.streams.specs.Recurrence.{InRange}
 use Rattle.lanes.specs.declared.Lanes.{Lanes}
-use Rattle.lanes.specs.Lanes.{wordOf, words}
-use Rattle.lanes.specs.Private.{lanesOf, upper, lower}
+use Rattle.lanes.specs.Lanes.{upper, lower, wordOf, words, LanesAfter}
+use Rattle.lanes.specs.Private.{lanesOf}
 use Rattle.lanes.proofs.Theorems.{upper-is, lower-is, lower-range, words-add}
 use Rattle.lanes.proofs.draw_pairs.Statement.{statement}
 use Rattle.lanes.proofs.draw_pairs.Tie as tie
@@ -23,8 +22,7 @@ use Rattle.lanes.proofs.draw_pairs.Tie as tie
 record Reached (z₀ : List ℕ) (start : Lanes) (z : List ℕ) (state : Lanes) (i : ℕ) : Type 0 where
   within : i ≤ length z
   kept : length z ≡ length z₀
-  a-at : upper state ≡ repeat advance i (upper start)
-  b-at : lower state ≡ repeat advance i (lower start)
+  now-at : LanesAfter i start state
   done : take i z ≡ words i (upper start) (lower start)
 
 abbrev Inv-loop : tie.InvT-loop
@@ -49,17 +47,13 @@ again {z₀} {z} {start} {state} {next} {i} {x} r step word h =
     record {
       within = simp length-set (omega arith);
       kept = simp length-set (r .kept);
-      a-at = a-is ∙ once-more i _ _ (r .a-at);
-      b-at = b-is ∙ once-more i _ _ (r .b-at);
-      done = rw (words-add i 1 (upper start) (lower start), add-one i, take-suc-set z i x h, r .done, word, a-is, b-is, r .a-at, r .b-at);
+      now-at = record { a-at = a-is ∙ once-more i _ _ (r .now-at .a-at); b-at = b-is ∙ once-more i _ _ (r .now-at .b-at) };
+      done = rw (words-add i 1 (upper start) (lower start), add-one i, take-suc-set z i x h, r .done, word, a-is, b-is, r .now-at .a-at, r .now-at .b-at);
     }
-
-lanes-requires : tie.Need-lanes-requires Inv-loop μ-loop
-lanes-requires c κs = search needs
 
 loop-holds : tie.Need-loop-holds Inv-loop μ-loop
 unfolding words repeat
-loop-holds c = record { within = omega arith; kept = refl; a-at = refl; b-at = refl; done = refl }
+loop-holds c = record { within = omega arith; kept = refl; now-at = record { a-at = refl; b-at = refl }; done = refl }
 
 advanced-requires : tie.Need-advanced-requires Inv-loop μ-loop
 advanced-requires c κs = search needs
@@ -87,38 +81,18 @@ loop-again c =
     (c .word .ensures)
     (c .before .before .loop-test .taken)
 
-both-requires : tie.Need-both-requires Inv-loop μ-loop
-both-requires c κs = search needs
-
 same-length : tie.Need-same-length Inv-loop μ-loop
-same-length c = c .before .before .loop .inv .kept
+same-length c = c .before .loop .inv .kept
 
-b-range : (c : tie.Start Inv-loop μ-loop) → InRange (c .args .streams .b)
-b-range c = record { s0-range = omega arith; s1-range = omega arith; s2-range = omega arith }
-
--- all pairs are drawn: the streams that were laid side by side, as many steps on
-ended : {z₀ z : List ℕ} {start state : Lanes} {i : ℕ} (a b : Stream) → Reached z₀ start z state i → start ≡ lanesOf a b → InRange b
-    → length z ≤ i → (upper state ≡ repeat advance (length z₀) a) × (lower state ≡ repeat advance (length z₀) b) × (z ≡ words (length z₀) a b)
-ended {z₀} {z} {start} {state} {i} a b r e range all =
+-- all pairs are drawn
+ended : {z₀ z : List ℕ} {start state : Lanes} {i : ℕ} → Reached z₀ start z state i → length z ≤ i
+    → LanesAfter (length z₀) start state × (z ≡ words (length z₀) (upper start) (lower start))
+ended {z₀} {z} {start} {state} {i} r all =
     let whole : i ≡ length z₀ = omega (arith, r .within, r .kept) in
-    let a-is : upper start ≡ a = ap upper e ∙ upper-is a b range in
-    let b-is : lower start ≡ b = ap lower e ∙ lower-is a b range in (
-      r .a-at ∙ rw (whole, a-is),
-      r .b-at ∙ rw (whole, b-is),
-      sym (take-all i z all) ∙ r .done ∙ rw (whole, a-is, b-is),
-    )
+    (subst (λ (n : ℕ). LanesAfter n start state) whole (r .now-at), sym (take-all i z all) ∙ r .done ∙ rw whole)
 
 returns : tie.Need-returns Inv-loop μ-loop
-returns c =
-    let start = c .before .before .before .before .before in
-    let end = ended (start .args .streams .a) (start .args .streams .b)
-    (c .before .before .loop .inv)
-    (c .before .before .before .lanes .ensures)
-    (b-range start)
-    (c .before .loop-test .left) in (
-      λ i. record { a = (c .both .ensures .0 ∙ end .0) i; b = (c .both .ensures .1 ∙ end .1) i },
-      end .2,
-    )
+returns c = ended (c .before .loop .inv) (c .loop-test .left)
 
 pub draw-pairs-spec : {M : Type 1} → statement M
 draw-pairs-spec =
@@ -126,7 +100,6 @@ draw-pairs-spec =
     (tie.spec
     Inv-loop
     μ-loop
-    lanes-requires
     loop-holds
     advanced-requires
     word-requires
@@ -135,6 +108,5 @@ draw-pairs-spec =
     add-i
     loop-less
     loop-again
-    both-requires
     same-length
     returns)

@@ -1,14 +1,12 @@
 -- `chunk16` narrows what `chunk` leaves in as much of the local array as the slice has elements.
-use mathlib.Core.Path.{_≡_, refl, ap, _∙_}
-use Prim.Native.Nat.{ℕ, _/_}
+use mathlib.Core.Path.{refl, _∙_}
+use Prim.Native.Nat.{_/_}
 use native.Mathlib.Omega.{arith}
 use lib.ListN.{length}
 use borrow.Author.Needs.{needs}
-use Rattle.streams.specs.Streams.{after}
 use Rattle.box_muller.specs.Steps.{fractionBits}
-use Rattle.noise.specs.Noise.{samples}
-use Rattle.noise.specs.Private.{chunkSamples}
-use Rattle.noise.proofs.ChunkLaws.{first-size, asked-array, array-room, array-taken, asked-narrow}
+use Rattle.noise.specs.Private.{chunkSamples, LanesDrawn}
+use Rattle.noise.proofs.ChunkLaws.{asked-array, array-drawn, array-room, array-taken, asked-narrow}
 use Rattle.noise.proofs.chunk16.Statement.{statement}
 use Rattle.noise.proofs.chunk16.Tie as tie
 
@@ -24,14 +22,13 @@ part-samples-end c = search needs
 chunk-requires : tie.Need-chunk-requires
 chunk-requires c κs =
     let start = c .before in
-    asked-array (start .args .g) (length (start .args .out .now)) _ refl (start .pre .2) (start .pre .0) (start .pre .1)
+    asked-array chunkSamples (length (start .args .out .now)) _ refl (start .pre .1) (start .pre .0)
 
 -- the array holds the samples
-new-is : (c : tie.After-chunk) → c .chunk .last .1 .1 .0 ≡ samples fractionBits (length (c .before .before .args .out .now) / 2) (c .before .before .args .g)
-new-is c =
+drawn : (c : tie.After-chunk) → LanesDrawn fractionBits (length (c .before .before .args .out .now) / 2) (c .before .before .args .streams) (c .chunk .result) (c .chunk .last .1 .1 .0)
+drawn c =
     let start = c .before .before in
-    c .chunk .ensures .1
-    ∙ ap (λ (m : ℕ). samples fractionBits (m / 2) (start .args .g)) (first-size chunkSamples (length (start .args .out .now)) _ refl (start .pre .2))
+    array-drawn _ refl (start .pre .1) (c .chunk .ensures)
 
 sub-narrowed : tie.Need-sub-narrowed
 sub-narrowed c = search needs
@@ -43,13 +40,13 @@ part-narrowed-end : tie.Need-part-narrowed-end
 part-narrowed-end c =
     let made = c .before .before in
     let start = made .before .before in
-    array-room (length (start .args .out .now)) (start .args .g) _ _ (start .pre .1) (new-is made)
+    array-room (length (start .args .out .now)) _ _ _ _ (start .pre .0) (drawn made .written)
 
 narrowed-requires : tie.Need-narrowed-requires
 narrowed-requires c κs =
     let made = c .before .before .before .before in
     let start = made .before .before in
-    asked-narrow (length (start .args .out .now)) (start .args .g) _ _ (start .pre .1) (new-is made)
+    asked-narrow (length (start .args .out .now)) _ _ _ _ (start .pre .0) (drawn made .written)
 
 same-length : tie.Need-same-length
 same-length c = search needs
@@ -58,12 +55,11 @@ returns : tie.Need-returns
 returns c =
     let made = c .before .before .before .before .before .before in
     let start = made .before .before in
-    let n = length (start .args .out .now) in
-    let g = start .args .g in
-    let size = first-size chunkSamples n _ refl (start .pre .2) in (
-      made .chunk .ensures .0 ∙ ap (λ (m : ℕ). after (m / 2) g) size,
-      c .before .narrowed .ensures ∙ array-taken n g _ _ (start .pre .1) (new-is made) ∙ new-is made,
-    )
+    let written = drawn made .written in
+    record {
+      now-at = drawn made .now-at;
+      written = c .before .narrowed .ensures ∙ array-taken (length (start .args .out .now)) _ _ _ _ (start .pre .0) written ∙ written;
+    }
 
 pub chunk16-spec : {M : Type 1} → statement M
 chunk16-spec =

@@ -1,85 +1,106 @@
 -- `radius::cell_of` meets its contract: h is its step of document 01, and i and S are by the laws of Cells. M from 2^48 to 2^49 keeps
 -- every product within 64 bits.
-use mathlib.Core.Path.{refl}
-use Prim.Native.Nat.{_^_, _≤_, _<_}
+use mathlib.Core.Path.{_≡_, refl, ap, _∙_}
+use Prim.Native.Nat.{ℕ, _+_, _-_, _*_, _/_, _%_, _^_, _≤_, _<_}
 use native.Mathlib.Omega.{arith}
 use borrow.Author.Needs.{needs}
-use Rattle.radius.specs.Steps.{width, numerator, mantissa, coarseIndex, rest, fineIndex, remainder, correction}
-use Rattle.radius.proofs.StepLaws.{mantissa-range}
-use Rattle.radius.proofs.Cells.{product-fits, multiple-fits, multiple-below, fine-is, correction-is}
+use Rattle.tables.specs.Tables.{entryOf, logFine}
+use Rattle.radius.specs.Steps.{coarseIndex, rest, fineIndex, remainder, correction}
+use Rattle.radius.proofs.NormalForm.{mantissa-again}
+use Rattle.radius.proofs.Cells.{Parts, reciprocal-small, product-fits, sum-fits, divisor-fits, parts, shifted-fits, index-is, correction-is}
 use Rattle.radius.proofs.cell_of.Statement.{statement}
 use Rattle.radius.proofs.cell_of.Tie as tie
 
-mantissa-requires : tie.Need-mantissa-requires
-mantissa-requires c κs = search needs
+add-coarse : tie.Need-add-coarse
+add-coarse c = search needs
 
 reciprocal-requires : tie.Need-reciprocal-requires
 reciprocal-requires c κs = search needs
 
--- M, and so h, is large and small enough
-module _ (c : tie.After-mantissa) where
-  scaled-range : (2 ^ 48 ≤ c .mantissa .result) × (c .mantissa .result < 2 ^ 49)
-  scaled-range =
-      rw (c .mantissa .ensures)
-      (mantissa-range width (numerator (c .before .args .k)) (omega arith) (omega arith) (omega arith) (omega (arith, c .before .pre)))
-
 mul-fine : tie.Need-mul-fine
-mul-fine c =
-    let range = scaled-range (c .before) in
-    record { fits = product-fits _ _ _ (c .reciprocal .ensures) (omega arith) (omega (arith, range)) (omega (arith, range)) }
+mul-fine c = record { fits = product-fits _ _ _ (c .reciprocal .ensures) (omega arith) (omega arith) (omega arith) }
 
-mul-left : tie.Need-mul-left
-mul-left c =
-    let range = scaled-range (c .before) in
-    record { fits = multiple-fits _ _ _ (c .reciprocal .ensures) (omega arith) (omega (arith, range)) (omega (arith, range)) _ }
+add-divisor : tie.Need-add-divisor
+add-divisor c = record { fits = sum-fits _ _ _ (c .reciprocal .ensures) (omega arith) (omega arith) (omega arith) _ }
 
-sub-left : tie.Need-sub-left
-sub-left c =
-    let range = scaled-range (c .before) in
-    multiple-below _ _ _ (c .reciprocal .ensures) (omega arith) (omega (arith, range)) (omega (arith, range))
+mul-divisor : tie.Need-mul-divisor
+mul-divisor c = record { fits = divisor-fits _ _ _ (c .reciprocal .ensures) (omega arith) (omega arith) (omega arith) _ }
 
-mul-correction : tie.Need-mul-correction
-mul-correction c = search needs
+mul-remainder : tie.Need-mul-remainder
+mul-remainder c =
+    record { fits = shifted-fits _ _ _ (omega (arith, c .before .pre)) (c .reciprocal .ensures) (omega arith) (omega arith) }
 
-add-correction : tie.Need-add-correction
-add-correction c = search needs
+-- h is as it was
+coarse-is : (M : ℕ) → (2 ^ 48 ≤ M) × (M < 2 ^ 49) → M / 2 ^ 40 % 256 + 256 ≡ M / 2 ^ 40
+coarse-is M range = omega (arith, range)
 
-mul-correction-2 : tie.Need-mul-correction-2
-mul-correction-2 c = search needs
+module _ (c : tie.After-reciprocal) where
+  abbrev M : ℕ
+  M = c .before .args .scaled
 
-mul-correction-3 : tie.Need-mul-correction-3
-mul-correction-3 c = search needs
+  abbrev h : ℕ
+  h = M / 2 ^ 40 % 256 + 256
 
-sub-correction : tie.Need-sub-correction
-sub-correction c = search needs
+  abbrev R : ℕ
+  R = c .reciprocal .result
 
-add-correction-2 : tie.Need-add-correction-2
-add-correction-2 c = search needs
+  abbrev i : ℕ
+  i = M % 2 ^ 40 / 2 ^ 24 * R / 2 ^ 39
 
-div-correction : tie.Need-div-correction
-div-correction c = omega (arith, scaled-range (c .before))
+  cell-parts : Parts M h i
+  cell-parts = parts M h R (coarse-is M (c .before .pre)) (c .reciprocal .ensures) (omega arith) (omega arith)
+
+sub-remainder : tie.Need-sub-remainder
+sub-remainder c = cell-parts c .divisor-low
+
+arm-requires : tie.Need-arm-requires
+arm-requires c κs = search needs
+
+about-requires : tie.Need-about-requires
+about-requires c κs =
+    let at = c .before in (
+      cell-parts at .remainder-small,
+      reciprocal-small (M at % 2 ^ 40 / 2 ^ 24) (h at) (R at) (at .reciprocal .ensures) (omega arith) (omega arith) (omega arith),
+      omega arith,
+    )
+
+mul-quotient : tie.Need-mul-quotient
+mul-quotient c = omega (arith, cell-parts (c .before .before) .remainder-small)
+
+quotient-requires : tie.Need-quotient-requires
+quotient-requires c κs =
+    let cell = cell-parts (c .before .before) in
+    (cell .divisor-some, cell .divisor-small, c .about .ensures)
 
 returns : tie.Need-returns
 unfolding coarseIndex rest fineIndex remainder correction
 returns c =
-    let range = scaled-range (c .before) in
-    rw (← (c .before .mantissa .ensures))
-    (refl, fine-is _ _ (c .reciprocal .ensures) (range .0) (range .1), correction-is _ _ (c .reciprocal .ensures) (range .0) (range .1))
+    let at = c .before .before .before in
+    let is = coarse-is (M at) (at .before .pre) in
+    let d : ℕ = M at % 2 ^ 40 in
+    rw (mantissa-again (M at) (at .before .pre .0) (at .before .pre .1)) (
+      is,
+      c .before .before .arm .ensures .1
+          ∙ ap (λ n. entryOf logFine 0 n)
+          (index-is (M at) (h at) (R at) is (at .reciprocal .ensures) (omega arith) (omega arith) ∙ ap (λ n. d / (n * 2 ^ 24)) is),
+      c .quotient .ensures
+          ∙ correction-is (M at) (h at) (R at) is (at .reciprocal .ensures) (omega arith) (omega arith)
+          ∙ ap (λ n. (d - d / (n * 2 ^ 24) * (n * 2 ^ 24)) * 2 ^ 16 / (n * (65536 + d / (n * 2 ^ 24)))) is,
+    )
 
 pub cell-of-spec : {M : Type 1} → statement M
 cell-of-spec =
     tie.close
     (tie.spec
-    mantissa-requires
+    add-coarse
     reciprocal-requires
     mul-fine
-    mul-left
-    sub-left
-    mul-correction
-    add-correction
-    mul-correction-2
-    mul-correction-3
-    sub-correction
-    add-correction-2
-    div-correction
+    add-divisor
+    mul-divisor
+    mul-remainder
+    sub-remainder
+    arm-requires
+    about-requires
+    mul-quotient
+    quotient-requires
     returns)

@@ -1,10 +1,10 @@
--- `angle::places` meets its contract: each arm's two places in the list sin, cos, -sin, -cos are its line of document 01.
+-- `angle::place` meets its contract: each arm's place in the list sin, cos, -sin, -cos, sin and the next are its line of document 01.
 use mathlib.Core.Path.{_≡_, refl}
 use Prim.Native.Nat.{ℕ, zero, suc}
 use native.Mathlib.Omega.{arith}
 use Rattle.angle.specs.Private.{Turns}
-use Rattle.angle.proofs.places.Statement.{statement}
-use Rattle.angle.proofs.places.Tie as tie
+use Rattle.angle.proofs.place.Statement.{statement}
+use Rattle.angle.proofs.place.Tie as tie
 
 returns : tie.Need-returns
 returns c = (omega arith, rw (c .match .keys1) (λ sin cos. refl))
@@ -25,7 +25,7 @@ last (suc (suc (suc q))) p h₀ h₁ h₂ t = t
 returns-4 : tie.Need-returns-4
 returns-4 c =
     let none = c .match .rest in
-    (omega arith, last (c .before .args .q) 12 (none .0 .0 .1) (none .0 .1) (none .1) (λ sin cos. refl))
+    (omega arith, last (c .before .args .q) 3 (none .0 .0 .1) (none .0 .1) (none .1) (λ sin cos. refl))
 
-pub places-spec : {M : Type 1} → statement M
-places-spec = tie.close (tie.spec returns returns-2 returns-3 returns-4)
+pub place-spec : {M : Type 1} → statement M
+place-spec = tie.close (tie.spec returns returns-2 returns-3 returns-4)

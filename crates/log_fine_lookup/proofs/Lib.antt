@@ -1,0 +1,2 @@
+-- The arms of the match.
+pub mod Arms
