@@ -32,10 +32,9 @@
  *   256 bytes: jabulghi_seed, jabulghi_ask, jabulghi_give_up, jabulghi_window_make, jabulghi_window_push, jabulghi_window_push_all
  *   1,024 bytes: jabulghi_sample, jabulghi_pair, jabulghi_sample18, jabulghi_pair18, jabulghi_legs, jabulghi_misclosure, jabulghi_intervals
  *   1,536 bytes: jabulghi_block18, jabulghi_look18, jabulghi_take18
- *   2,048 bytes: jabulghi_block, jabulghi_look, jabulghi_take, jabulghi_skip
+ *   2,048 bytes: jabulghi_block, jabulghi_look, jabulghi_take, jabulghi_skip, jabulghi_list
  *   4,096 bytes: jabulghi_marks_save, jabulghi_marks_return, jabulghi_marks_drop
- *   8,192 bytes: jabulghi_play
- *   24,576 bytes: jabulghi_list */
+ *   8,192 bytes: jabulghi_play */
 #ifndef JABULGHI_H
 #define JABULGHI_H
 

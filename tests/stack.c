@@ -77,6 +77,7 @@ static void block18(void) { jabulghi_block18(&record, samples18, 4096); }
 static void look18(void) { jabulghi_look18(&record, samples18, 4096); }
 static void take18(void) { jabulghi_take18(&record, samples18, 4096); }
 static void list(void) { jabulghi_list(text, text_length, listing, sizeof listing, &line, &length); }
+static void list_measured(void) { jabulghi_list(text, text_length, listing, sizeof listing - 1, &line, &length); }
 static void legs(void) { jabulghi_legs(text, text_length, shots, sizeof shots, &line_of_legs, &length); }
 static void misclosure(void) { jabulghi_misclosure(text, text_length, sums, millimetres, &line); }
 static void intervals(void) { jabulghi_intervals(text, text_length, sums, millimetres, &line); }
@@ -95,7 +96,8 @@ static const struct { const char *name; void (*set)(void), (*call)(void); } CALL
     {"jabulghi_skip", set_records, skip}, {"jabulghi_ask", set_records, ask}, {"jabulghi_take", set_request, take},
     {"jabulghi_give_up", set_request, give_up}, {"jabulghi_sample18", set_records, sample18}, {"jabulghi_pair18", set_records, pair18},
     {"jabulghi_block18", set_records, block18}, {"jabulghi_look18", set_records, look18}, {"jabulghi_take18", set_request, take18},
-    {"jabulghi_list", set_job, list}, {"jabulghi_list", set_none, list}, {"jabulghi_legs", set_survey, legs}, {"jabulghi_legs", set_none, legs},
+    {"jabulghi_list", set_job, list}, {"jabulghi_list", set_job, list_measured}, {"jabulghi_list", set_none, list},
+    {"jabulghi_legs", set_survey, legs}, {"jabulghi_legs", set_none, legs},
     {"jabulghi_misclosure", set_listing, misclosure}, {"jabulghi_misclosure", set_none, misclosure},
     {"jabulghi_intervals", set_readings, intervals}, {"jabulghi_intervals", set_none, intervals},
     {"jabulghi_play", set_loop, play}, {"jabulghi_play", set_job, play},

@@ -6,7 +6,7 @@ use native.Mathlib.Nat.{add-zero}
 use native.Mathlib.Decide.{decLt}
 use mathlib.Core.Path.{_≡_, refl, sym, ap, _∙_}
 use mathlib.Core.List.{List, [], _∷_, _++_, append-assoc}
-use lib.ListN.{length, getD, take, drop, set, length-append, length-set, length-drop, take-append-drop}
+use lib.ListN.{length, getD, take, drop, set, replicate, length-replicate, length-append, length-set, length-drop, take-append-drop}
 use lib.Seq.{
   sets,
   length-sets,
@@ -106,6 +106,21 @@ then-puts d at s t p q =
 pub puts-within : (d : List ℕ) (at : ℕ) (s : List ℕ) {next : ℕ} {e : List ℕ} → at ≤ length d → Puts d at s next e → next ≤ length e
 unfolding positionAfter
 puts-within d at s h p = rw (p .0, p .1, written-length d at s) (omega arith)
+
+-- bytes put into a room of zeros: the position is within it, and where they fit, they are what stands before it
+module _ (room : ℕ) (s : List ℕ) {next : ℕ} {e : List ℕ} (p : Puts (replicate room 0) 0 s next e) where
+  pub room-within : next ≤ length e
+  room-within = puts-within (replicate room 0) 0 s (omega arith) p
+
+  pub room-holds : length s ≤ room → (next ≡ length s) × (take (next - 0) (drop 0 e) ≡ s)
+  room-holds h =
+      let zeros : List ℕ = replicate room 0 in
+      let size : length zeros ≡ room = length-replicate room 0 in
+      let fit : 0 + length s ≤ length zeros = omega (arith, h, size) in
+      let n : next ≡ 0 + length s = p .0 ∙ position-fits zeros 0 s fit in (
+        omega (arith, n),
+        rw (p .1) (ap (λ (k : ℕ). take k (written zeros 0 s)) {x = next - 0} {y = 0 + length s} (omega (arith, n)) ∙ written-take zeros 0 s fit),
+      )
 
 -- the loop of `put`: one byte more, and the end
 module _ (d : List ℕ) (at : ℕ) (s : List ℕ) where

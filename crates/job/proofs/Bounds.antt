@@ -1,12 +1,12 @@
 -- What an accepted line keeps within bounds: the lines, the sigmas and the listing's length.
-use Prim.Native.Nat.{ℕ, _+_, _*_, _/_, _≤_, _<_}
+use Prim.Native.Nat.{ℕ, _+_, _-_, _*_, _/_, _≤_, _<_}
 use native.Mathlib.Omega.{arith}
 use native.Mathlib.Nat.{mul-le-mul}
 use mathlib.Core.Path.{_≡_, refl}
 use mathlib.Core.Bool.{true≢false}
 use mathlib.Core.List.{List}
 use lib.IntN.{ℤ, pos, negsuc, natAbs}
-use lib.ListN.{length}
+use lib.ListN.{length, take, drop, replicate}
 use borrow.Author.Tests.{ltb-false}
 use Rattle.streams.specs.declared.Generator.{Generator}
 use Rattle.noise.proofs.Theorems.{pair-sizes}
@@ -14,17 +14,22 @@ use Rattle.box_muller.specs.Steps.{fractionBits}
 use Rattle.noise.specs.Noise.{pairOf}
 use Rattle.noise.specs.declared.PairAnswer.{PairAnswer}
 use Rattle.job_refusals.specs.Limits.{lastLine, mostSigma, mostDistance, mostBearing}
-use Rattle.job_lines.specs.Forms.{Form, seeds, sigma, shot, noForm, readLine}
+use Rattle.job_lines.specs.Forms.{Form, seeds, sigma, shot, noForm, shotIn, readLine}
+use Rattle.job_lines.specs.declared.Shot.{Shot as ShotFields}
+use Rattle.buffer.specs.Buffer.{Puts}
+use Rattle.buffer.proofs.Writing.{room-holds}
+use Rattle.listing_writer.specs.declared.Row.{Row}
 use Rattle.listing_writer.specs.Rounding.{noiseSize, noisyDistance, noisyBearing}
-use Rattle.listing_writer.specs.Listing.{shotRow, noisyRow}
+use Rattle.listing_writer.specs.Listing.{shotRow, endRow, noisyRow, rowRoom}
 use Rattle.text.specs.Limits.{nameLength}
 use Rattle.text.proofs.Decimal.{decimal-length}
-use Rattle.job.specs.Private.{Steady, rowLength}
+use Rattle.job.specs.Private.{Steady, rowOf, Ready, Printing}
 use Rattle.job_refusals.specs.Refusals.{formless, misplaced, refusal}
 use Rattle.job.specs.Job.{settingAfter, printed}
 use Rattle.job.specs.declared.setting.Setting.{Setting}
+use Rattle.job.specs.declared.state.State.{State}
 use Rattle.job_refusals.proofs.Accepted.{accepted-line, line-few, sigma-within, shot-within}
-use Rattle.listing_writer.proofs.Rows.{row-length}
+use Rattle.listing_writer.proofs.Rows.{row-length, end-length}
 use Rattle.job.proofs.Names.{names-short}
 
 -- the most that 16 bits hold in size, and the noise that they give
@@ -55,18 +60,22 @@ unfolding noisyBearing
 bearing-bound σ b (pos n) = omega arith
 bearing-bound σ b (negsuc n) = omega arith
 
--- a row of a listing is at most rowLength bytes long
-row-bound : (f t : List ℕ) (m s : ℕ) → length f ≤ nameLength → length t ≤ nameLength → m ≤ mostDistance + mostNoise → s ≤ mostBearing → length (shotRow f t m s) ≤ rowLength
+-- a row of a listing is at most rowRoom bytes long
+row-bound : (f t : List ℕ) (m s : ℕ) → length f ≤ nameLength → length t ≤ nameLength → m ≤ mostDistance + mostNoise → s ≤ mostBearing → length (shotRow f t m s) ≤ rowRoom
 row-bound f t m s a b c d =
     let p = decimal-length 6 m (omega arith) in
     let q = decimal-length 4 s (omega arith) in
     rw (row-length f t m s) (omega arith)
 
+-- and its last row at most 8
+pub end-short : (k : ℕ) → k ≤ lastLine + 1 → length (endRow (k - 3)) ≤ 8
+end-short k h = let d = decimal-length 2 (k - 3) (omega arith) in omega (arith, end-length (k - 3))
+
 -- what the next line may rely on
 pub record Steps (k : ℕ) (x : Form) (s : Setting) : Type 0 where
   pub line : k ≤ lastLine
   pub steady : Steady (settingAfter x s .distance) (settingAfter x s .bearing)
-  pub row : length (printed x s) ≤ rowLength
+  pub row : length (printed x s) ≤ rowRoom
   pub early : k < 3 → length (printed x s) ≡ 0
 
 pub steps : (k : ℕ) (l : List ℕ) (s : Setting) → Steady (s .distance) (s .bearing) → refusal k (readLine l) ≡ 0 → Steps
@@ -93,3 +102,17 @@ steps k l s steady h = go (readLine l) refl h (line-few k (readLine l) h)
           early = λ h. absurd (omega (arith, h, ltb-false k 3 (accepted-line k (shot from to d b) a .placed)));
         }
     go noForm e a few = absurd (true≢false (accepted-line k noForm a .formed))
+
+-- an accepted line of a job half way prints no more than a row
+pub printing : (s : State) (l : List ℕ) → Ready s → refusal (s .line) (readLine l) ≡ 0 → Printing s (readLine l)
+printing s l r e =
+    record { accepted = e; row = steps (s .line) l (s .setting) (r .steady) e .row; short = r .short }
+
+-- the row of a shot holds all that is printed
+pub row-holds : (s : State) (line : List ℕ) (x : ShotFields) (pair : PairAnswer) (row : Row) → pair ≡ pairOf fractionBits (s .setting .generator)
+    → Printing s (shotIn line x) → Puts (replicate rowRoom 0) 0 (rowOf line x (s .setting .distance) (s .setting .bearing) pair) (row .length) (row .bytes)
+    → (row .length ≡ length (printed (shotIn line x) (s .setting))) × (take (row .length - 0) (drop 0 (row .bytes)) ≡ printed (shotIn line x) (s .setting))
+unfolding printed
+row-holds s line x pair row e p h =
+    let g : Puts (replicate rowRoom 0) 0 (printed (shotIn line x) (s .setting)) (row .length) (row .bytes) = rw (← e) h in
+    room-holds rowRoom (printed (shotIn line x) (s .setting)) g (p .row)

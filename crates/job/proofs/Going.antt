@@ -6,24 +6,22 @@ use mathlib.Core.Path.{_≡_, refl, sym, ap, ap₂, subst, _∙_}
 use mathlib.Core.Bool.{Bool, true, false, cond}
 use mathlib.Core.List.{List, _∷_, _++_, append-assoc}
 use lib.Dec.{ltb, eqb}
-use lib.ListN.{length, take, drop, length-append, drop-of-length-le}
-use lib.Seq.{length-take-le}
+use lib.ListN.{length, take, drop, replicate, length-append, drop-of-length-le}
 use borrow.Author.Tests.{eq-eqb, ne-eqb, eqb-true, lt-ltb, le-ltb}
 use Rattle.text.specs.Scan.{lines, firstLine}
-use Rattle.buffer.specs.Buffer.{written, positionAfter}
-use Rattle.text.proofs.Decimal.{decimal-length}
+use Rattle.buffer.specs.Buffer.{written, Puts}
 use Rattle.text.proofs.Split.{lines-from, end-within, part-line}
-use Rattle.buffer.proofs.Writing.{written-length, written-take, position-fits}
-use Rattle.job_refusals.specs.Limits.{listingRoom}
+use Rattle.buffer.proofs.Writing.{written-length, written-on, room-holds}
 use Rattle.job_lines.specs.Forms.{Form, readLine}
-use Rattle.listing_writer.specs.Listing.{header, endRow}
+use Rattle.listing_writer.specs.Listing.{header, endRow, rowRoom}
+use Rattle.listing_writer.specs.declared.Row.{Row}
 use Rattle.job_refusals.specs.Refusals.{refusal}
 use Rattle.job.specs.Job.{Outcome, refused, listed, onto, outcome, start, listingOf, settingAfter, printed}
-use Rattle.job.specs.Private.{refusedState, nextState, acceptedState, acceptedBuffer, takenOf, bufferOf, Going, Ended, Wrote}
+use Rattle.job.specs.Private.{refusedState, nextState, acceptedState, acceptedBuffer, takenOf, bufferOf, Ready, Adds, Going, Ended, Wrote}
 use Rattle.job.specs.declared.setting.Setting.{Setting}
 use Rattle.job.specs.declared.state.State.{State}
-use Rattle.job.proofs.Bounds.{steps}
-use Rattle.listing_writer.proofs.Rows.{header-length, end-length}
+use Rattle.job.proofs.Bounds.{end-short, steps}
+use Rattle.listing_writer.proofs.Rows.{header-length}
 
 pub onto-onto : (a b : List ℕ) (o : Outcome) → onto a (onto b o) ≡ onto (a ++ b) o
 onto-onto a b (refused n k) = refl
@@ -40,7 +38,15 @@ module _ (k : ℕ) (s : Setting) (l : List ℕ) (ls : List (List ℕ)) where
   unfolding outcome
   outcome-no h = rw (ne-eqb (refusal k (readLine l)) 0 h, outcome)
 
-module _ (text out : List ℕ) (s : State) (at : ℕ) (g : Going text out s at) where
+module _ (text out₀ out : List ℕ) (s : State) (at : ℕ) (g : Going text out₀ out s at) where
+  pub ready : Ready s
+  ready = record { steady = g .steady; short = omega (arith, g .used, g .short, g .line) }
+
+  -- a row more
+  pub row-on : (row before : List ℕ) → out₀ ≡ written before 0 header → written out (s .used) row ≡ written before 0 (g .bytes ++ row)
+  row-on row before h =
+      ap₂ (λ (d : List ℕ) (n : ℕ). written d n row) (g .wrote before h) (g .used) ∙ written-on before (g .bytes) row
+
   module _ (h : at < length text) where
     abbrev l : List ℕ
     l = firstLine (drop at text)
@@ -51,28 +57,32 @@ module _ (text out : List ℕ) (s : State) (at : ℕ) (g : Going text out s at) 
     abbrev x : Form
     x = readLine l
 
-    taken-yes : refusal (s .line) x ≡ 0
-        → takenOf s x out ≡ nextState (s .line) (positionAfter out (s .used) (printed x (s .setting))) (settingAfter x (s .setting))
+    abbrev row : List ℕ
+    row = printed (readLine (firstLine (drop at text))) (s .setting)
+
+    taken-yes : refusal (s .line) x ≡ 0 → takenOf s x ≡ nextState (s .line) (s .used + length row) (settingAfter x (s .setting))
     unfolding takenOf acceptedState
     taken-yes e = rw e
 
-    pub going-on : refusal (s .line) x ≡ 0 → Going text (bufferOf s x out) (takenOf s x out) next
+    pub going-on : refusal (s .line) x ≡ 0 → Going text out₀ (bufferOf s x out) (takenOf s x) next
     unfolding bufferOf acceptedBuffer
     going-on e =
         let t = steps (s .line) l (s .setting) (g .steady) e in
-        let r : s .used + length (printed x (s .setting)) ≤ length out = omega (arith, t .row, g .used, g .line, g .room) in
-        rw (taken-yes e, e, position-fits out (s .used) (printed x (s .setting)) r)
+        let n = length-append (g .bytes) row in
+        rw (taken-yes e, e)
         (record {
           code = refl;
           within = end-within text at h .1;
-          room = written-length out (s .used) (printed x (s .setting)) ∙ g .room;
           line = omega (arith, t .line);
           steady = t .steady;
-          used = omega (arith, t .row, g .used);
+          size = written-length out (s .used) row ∙ g .size;
+          bytes = g .bytes ++ row;
+          used = omega (arith, g .used, n);
+          short = omega (arith, t .row, g .short, n);
+          wrote = row-on row;
           so-far =
               g .so-far
-              ∙ rw (lines-from text at h, outcome-yes (s .line) (s .setting) l (lines (drop next text)) e, onto-onto)
-              (rw (written-take out (s .used) (printed x (s .setting)) r));
+              ∙ rw (lines-from text at h, outcome-yes (s .line) (s .setting) l (lines (drop next text)) e, onto-onto);
         })
 
     pub stopped : (refusal (s .line) (readLine l) ≡ 0 → ⊥) → listingOf text ≡ refused (refusal (s .line) (readLine l)) (s .line)
@@ -80,105 +90,105 @@ module _ (text out : List ℕ) (s : State) (at : ℕ) (g : Going text out s at) 
 
   -- no line is left
   module _ (h : length text ≤ at) where
-    ended : listingOf text ≡ onto (take (s .used) out)
-        (cond (ltb (s .line) 3) (refused 8 (s .line)) (listed (endRow (s .line - 3))))
+    ended : listingOf text ≡ onto (g .bytes) (cond (ltb (s .line) 3) (refused 8 (s .line)) (listed (endRow (s .line - 3))))
     unfolding outcome lines
     ended = g .so-far ∙ rw (drop-of-length-le text {i = at} h)
 
     pub missing : s .line < 3 → listingOf text ≡ refused 8 (s .line)
     missing e = ended ∙ rw (lt-ltb (s .line) 3 e)
 
-    pub complete : 3 ≤ s .line → listingOf text ≡ listed (take (s .used) out ++ endRow (s .line - 3))
+    pub complete : 3 ≤ s .line → listingOf text ≡ listed (g .bytes ++ endRow (s .line - 3))
     complete e = ended ∙ rw (le-ltb (s .line) 3 e)
 
 -- the code that is returned is the line's, and so is the line where it is refused
-module _ (s : State) (x : Form) (out : List ℕ) where
-  taken-code : takenOf s x out .code ≡ refusal (s .line) x
+module _ (s : State) (x : Form) where
+  taken-code : takenOf s x .code ≡ refusal (s .line) x
   unfolding takenOf acceptedState
   taken-code = go (eqb (refusal (s .line) x) 0) refl
     where
       go : (b : Bool) → eqb (refusal (s .line) x) 0 ≡ b
-          → _≡_ {A = ℕ} (cond {A = State} b (acceptedState s x out) (refusedState s (refusal (s .line) x)) .code) (refusal (s .line) x)
+          → _≡_ {A = ℕ} (cond {A = State} b (acceptedState s x) (refusedState s (refusal (s .line) x)) .code) (refusal (s .line) x)
       go true e = sym (eqb-true (refusal (s .line) x) 0 e)
       go false e = refl
 
-  taken-line : (refusal (s .line) x ≡ 0 → ⊥) → takenOf s x out .line ≡ s .line
+  taken-line : (refusal (s .line) x ≡ 0 → ⊥) → takenOf s x .line ≡ s .line
   unfolding takenOf
   taken-line h = rw (ne-eqb (refusal (s .line) x) 0 h)
 
 -- one round of the loop, on the part of the text from a line's start to its end
-module _ (text out : List ℕ) (s : State) (at end : ℕ) (r : State) (out′ : List ℕ)
-    (g : Going text out s at) (h : at < length text) (e : end ≡ at + length (firstLine (drop at text)))
-    (er : r ≡ takenOf s (readLine (take (end - at) (drop at text))) out)
+module _ (text out₀ out : List ℕ) (s : State) (at end : ℕ) (r : State) (out′ : List ℕ)
+    (g : Going text out₀ out s at) (h : at < length text) (e : end ≡ at + length (firstLine (drop at text)))
+    (er : r ≡ takenOf s (readLine (take (end - at) (drop at text))))
     (eo : out′ ≡ bufferOf s (readLine (take (end - at) (drop at text))) out) where
   line-part : take (end - at) (drop at text) ≡ firstLine (drop at text)
   line-part = rw e (part-line text at h)
 
   code : r .code ≡ refusal (s .line) (readLine (firstLine (drop at text)))
-  code = ap (λ (t : State). t .code) er ∙ taken-code s _ out ∙ ap (λ (l : List ℕ). refusal (s .line) (readLine l)) line-part
+  code = ap (λ (t : State). t .code) er ∙ taken-code s _ ∙ ap (λ (l : List ℕ). refusal (s .line) (readLine l)) line-part
 
   line : (r .code ≡ 0 → ⊥) → r .line ≡ s .line
-  line z = ap (λ (t : State). t .line) er ∙ taken-line s _ out (λ u. z (ap (λ (t : State). t .code) er ∙ taken-code s _ out ∙ u))
+  line z = ap (λ (t : State). t .line) er ∙ taken-line s _ (λ u. z (ap (λ (t : State). t .code) er ∙ taken-code s _ ∙ u))
 
-  pub line-on : r .code ≡ 0 → Going text out′ r end
-  line-on z = rw (er, eo, line-part, e) (going-on text out s at g h (sym code ∙ z))
+  pub line-on : r .code ≡ 0 → Going text out₀ out′ r end
+  line-on z = rw (er, eo, line-part, e) (going-on text out₀ out s at g h (sym code ∙ z))
 
-  pub line-off : (r .code ≡ 0 → ⊥) → Ended text out′ r
+  pub line-off : (r .code ≡ 0 → ⊥) → Ended text out₀ out′ r
   line-off z =
       record {
         yes = λ t. absurd (z t);
-        no = λ t. stopped text out s at g h (λ u. z (code ∙ u)) ∙ ap₂ refused (sym code) (sym (line z));
+        no = λ t. stopped text out₀ out s at g h (λ u. z (code ∙ u)) ∙ ap₂ refused (sym code) (sym (line z));
       }
 
-pub all-taken : (text out : List ℕ) (s : State) (at : ℕ) → Going text out s at → length text ≤ at → Ended text out s
-all-taken text out s at g h =
+pub all-taken : (text out₀ out : List ℕ) (s : State) (at : ℕ) → Going text out₀ out s at → length text ≤ at → Ended text out₀ out s
+all-taken text out₀ out s at g h =
     let e : at ≡ length text = omega (arith, g .within) in
-    record { yes = λ t. subst (λ (n : ℕ). Going text out s n) e g; no = λ t. absurd (t (g .code)) }
+    record { yes = λ t. subst (λ (n : ℕ). Going text out₀ out s n) e g; no = λ t. absurd (t (g .code)) }
 
 -- the start: the header is in the buffer
-pub going-start : (text out out′ : List ℕ) (s : State) (used : ℕ) → length out ≡ listingRoom → out′ ≡ written out 0 header → used ≡ positionAfter out 0 header
-    → s ≡ record { code = 0; line = 1; used = used; setting = start } → Going text out′ s 0
+pub going-start : (text out : List ℕ) (s : State) → s ≡ record { code = 0; line = 1; used = length header; setting = start } → Going text out out s 0
 unfolding start listingOf
-going-start text out out′ s used room e u f =
-    let r : 0 + length header ≤ length out = omega (arith, header-length) in
-    let k : used ≡ 0 + length header = u ∙ position-fits out 0 header r in
-    let t : take used (written out 0 header) ≡ header = ap (λ (n : ℕ). take n (written out 0 header)) k ∙ written-take out 0
-    header r in
-    rw (e, f)
+going-start text out s f =
+    rw f
     (record {
       code = refl;
       within = omega arith;
-      room = written-length out 0 header ∙ room;
       line = omega arith;
       steady = record { sigma-distance = omega arith; sigma-bearing = omega arith };
-      used = omega (arith, k, header-length);
-      so-far = ap (λ (l : List ℕ). onto l (outcome 1 start (lines text))) (sym t);
+      size = refl;
+      bytes = header;
+      used = refl;
+      short = omega (arith, header-length);
+      wrote = λ before h. h;
+      so-far = refl;
     })
 
-module _ (text out : List ℕ) (s : State) (g : Going text out s (length text)) where
-  pub end-room : s .used + length (endRow (s .line - 3)) ≤ length out
-  end-room =
-      let d = decimal-length 2 (s .line - 3) (omega (arith, g .line)) in
-      omega (arith, end-length (s .line - 3), g .used, g .line, g .room)
+module _ (text before out₀ out : List ℕ) (s : State) (h : out₀ ≡ written before 0 header) where
+  pub wrote-refused : Ended text out₀ out s → (s .code ≡ 0 → ⊥)
+      → Wrote (listingOf text) (record { code = s .code; line = s .line; length = 0 }) before out
+  wrote-refused e z = rw (e .no z) (refl, pos-of-ne-zero z)
 
-  pub wrote-missing : s .line < 3 → Wrote (listingOf text) (record { code = 8; line = s .line; length = 0 }) out
-  wrote-missing h = rw (missing text out s (length text) g (omega arith) h) (refl, omega arith)
+  module _ (g : Going text out₀ out s (length text)) where
+    pub wrote-missing : s .line < 3 → Wrote (listingOf text) (record { code = 8; line = s .line; length = 0 }) before out
+    wrote-missing k = rw (missing text out₀ out s (length text) g (omega arith) k) (refl, omega arith)
 
-  pub wrote-listed : (out′ : List ℕ) (n : ℕ) → 3 ≤ s .line → n ≡ positionAfter out (s .used) (endRow (s .line - 3)) → out′ ≡ written out
-      (s .used) (endRow (s .line - 3))
-      → Wrote (listingOf text) (record { code = 0; line = 0; length = n }) out′
-  wrote-listed out′ n h e f =
-      let w = written-take out (s .used) (endRow (s .line - 3)) end-room in
-      let t : length (take (s .used) out) ≡ s .used = length-take-le (s .used) out (omega (arith, end-room)) in
-      let m : n ≡ s .used + length (endRow (s .line - 3)) = e ∙ position-fits out (s .used) (endRow (s .line - 3)) end-room in
-      let k : n ≡ length (take (s .used) out ++ endRow (s .line - 3)) = omega
-      (arith, m, t, length-append (take (s .used) out) (endRow (s .line - 3))) in
-      rw (complete text out s (length text) g (omega arith) h) (
-        ap (λ (m : ℕ). record { code = 0; line = 0; length = m }) k,
-        rw (← k, m, f) w,
-        rw (← k, m, f, written-length out (s .used) (endRow (s .line - 3))) end-room,
-      )
+    pub wrote-listed : (out′ : List ℕ) (n : ℕ) → 3 ≤ s .line → n ≡ s .used + length (endRow (s .line - 3)) → out′ ≡ written out (s .used) (endRow (s .line - 3))
+        → Wrote (listingOf text) (record { code = 0; line = 0; length = n }) before out′
+    wrote-listed out′ n k e f =
+        let m : n ≡ length (g .bytes ++ endRow (s .line - 3)) = omega
+        (arith, e, g .used, length-append (g .bytes) (endRow (s .line - 3))) in
+        rw (complete text out₀ out s (length text) g (omega arith) k)
+        (ap (λ (i : ℕ). record { code = 0; line = 0; length = i }) m, f ∙ row-on text out₀ out s (length text) g (endRow (s .line - 3)) before h)
 
-pub wrote-refused : (text out : List ℕ) (s : State) → Ended text out s → (s .code ≡ 0 → ⊥)
-    → Wrote (listingOf text) (record { code = s .code; line = s .line; length = 0 }) out
-wrote-refused text out s e h = rw (e .no h) (refl, pos-of-ne-zero h)
+    -- the last row holds the count of shots
+    pub end-holds : (row : Row) → Puts (replicate rowRoom 0) 0 (endRow (s .line - 3)) (row .length) (row .bytes)
+        → (row .length ≡ length (endRow (s .line - 3))) × (take (row .length - 0) (drop 0 (row .bytes)) ≡ endRow (s .line - 3))
+    end-holds row p = room-holds rowRoom (endRow (s .line - 3)) p (omega (arith, end-short (s .line) (g .line)))
+
+    pub end-adds : (row : Row) → Puts (replicate rowRoom 0) 0 (endRow (s .line - 3)) (row .length) (row .bytes) → row .length ≤ length (row .bytes)
+        → Adds (s .used) row
+    end-adds row p w =
+        record {
+          short = ready text out₀ out s (length text) g .short;
+          whole = w;
+          room = omega (arith, end-holds row p .0, end-short (s .line) (g .line));
+        }

@@ -1,5 +1,6 @@
 -- What is known of a line once it is read, and what a line that prints nothing leaves.
 use Prim.Native.Nat.{ℕ, _≤_}
+use native.Mathlib.Nat.{add-zero}
 use mathlib.Core.Path.{_≡_, refl, sym, ap, subst, _∙_}
 use mathlib.Core.List.{List, []}
 use lib.ListN.{length}
@@ -18,21 +19,21 @@ use Rattle.job.specs.declared.setting.Settled.{Settled}
 use Rattle.job.specs.declared.state.State.{State}
 use Rattle.job_lines.proofs.RoundTrip.{printed-read, shot-not-none}
 
--- a line that prints nothing leaves the buffer and the place in it as they were
+-- a line that prints nothing leaves the buffer and the length of the listing as they were
 module _ (s : State) (x : Form) (out : List ℕ) (e : printed x (s .setting) ≡ []) where
   pub state-same : (r : State) (t : Setting) → r ≡ nextState (s .line) (s .used) t → t ≡ settingAfter x (s .setting)
-      → (r ≡ acceptedState s x out) × (out ≡ acceptedBuffer s x out)
+      → (r ≡ acceptedState s x) × (out ≡ acceptedBuffer s x out)
   unfolding acceptedState acceptedBuffer
-  state-same r t f h = rw (e, ← written-none out (s .used) .0, ← h) (f, written-none out (s .used) .1)
+  state-same r t f h = rw (e, add-zero (s .used), ← h) (f, written-none out (s .used) .1)
 
 -- a line, accepted or refused with the code n
 module _ (s : State) (x : Form) (out : List ℕ) (r : State) where
-  pub taken-on : (out′ : List ℕ) → refusal (s .line) x ≡ 0 → (r ≡ acceptedState s x out) × (out′ ≡ acceptedBuffer s x out)
-      → (r ≡ takenOf s x out) × (out′ ≡ bufferOf s x out)
+  pub taken-on : (out′ : List ℕ) → refusal (s .line) x ≡ 0 → (r ≡ acceptedState s x) × (out′ ≡ acceptedBuffer s x out)
+      → (r ≡ takenOf s x) × (out′ ≡ bufferOf s x out)
   unfolding takenOf bufferOf
   taken-on out′ z h = rw z h
 
-  pub taken-off : (n : ℕ) → n ≡ refusal (s .line) x → (n ≡ 0 → ⊥) → r ≡ refusedState s n → (r ≡ takenOf s x out) × (out ≡ bufferOf s x out)
+  pub taken-off : (n : ℕ) → n ≡ refusal (s .line) x → (n ≡ 0 → ⊥) → r ≡ refusedState s n → (r ≡ takenOf s x) × (out ≡ bufferOf s x out)
   unfolding takenOf bufferOf
   taken-off n e z h = rw (← e, ne-eqb n 0 z) (h, refl)
 

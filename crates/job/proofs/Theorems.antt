@@ -10,20 +10,19 @@ use lib.Dec.{eqb, leb, ltb}
 use lib.ListN.{length, length-append}
 use borrow.Author.Tests.{eqb-true, eqb-false, leb-true, leb-false, ltb-false, not-false}
 use Rattle.text.specs.Scan.{lines}
-use Rattle.text.proofs.Decimal.{decimal-length}
 use Rattle.job_refusals.specs.Limits.{mostBytes, lastLine, listingRoom, longestListing}
 use Rattle.job_lines.specs.Forms.{Form, seeds, sigma, shot, noForm, readLine, printLine}
-use Rattle.listing_writer.specs.Listing.{header, endRow}
+use Rattle.listing_writer.specs.Listing.{header, endRow, rowRoom}
 use Rattle.job_refusals.specs.Refusals.{formless, misplaced, tooMany, beyond, seedCode, refusal}
 use Rattle.job.specs.Job.{Outcome, refused, listed, onto, outcome, start, listingOf, jobOf, answerOf, settingAfter, printed}
 use Rattle.job.specs.Theorems.{Theorems, Accepts, textOf, rows, isShot, shots, Drawn}
-use Rattle.job.specs.Private.{Steady, rowLength}
+use Rattle.job.specs.Private.{Steady}
 use Rattle.job.specs.declared.setting.Setting.{Setting}
 use Rattle.job.specs.declared.JobAnswer.{JobAnswer}
-use Rattle.listing_writer.proofs.Rows.{header-length, end-length}
+use Rattle.listing_writer.proofs.Rows.{header-length}
 use Rattle.job_refusals.proofs.Refused.{seed-apart}
 use Rattle.job_refusals.proofs.Accepted.{accepted-line}
-use Rattle.job.proofs.Bounds.{steps}
+use Rattle.job.proofs.Bounds.{end-short, steps}
 use Rattle.job.proofs.Going.{outcome-yes, outcome-no}
 use Rattle.job.proofs.Answered.{job-short}
 use Rattle.job.proofs.Pairs.{drawn-pairs}
@@ -40,27 +39,24 @@ use Rattle.job.proofs.Jobs.{
 
 -- ---- the length of a listing
 
-end-short : (k : ℕ) → k ≤ lastLine + 1 → length (endRow (k - 3)) ≤ 8
-end-short k h = let d = decimal-length 2 (k - 3) (omega arith) in omega (arith, end-length (k - 3))
-
 -- the line, or 3 where no shot has come yet
 abbrev shotLine : ℕ → ℕ
 shotLine k = k + (3 - k)
 
 outcome-short : (ls : List (List ℕ)) (k : ℕ) (s : Setting) (bytes : List ℕ) → k ≤ lastLine + 1 → Steady (s .distance) (s .bearing)
-    → outcome k s ls ≡ listed bytes → length bytes + rowLength * shotLine k ≤ rowLength * (lastLine + 1) + 8
+    → outcome k s ls ≡ listed bytes → length bytes + rowRoom * shotLine k ≤ rowRoom * (lastLine + 1) + 8
 unfolding outcome
 outcome-short [] k s bytes h sd e = go (ltb k 3) refl e
   where
     go : (b : Bool) → ltb k 3 ≡ b → cond b (refused 8 k) (listed (endRow (k - 3))) ≡ listed bytes
-        → length bytes + rowLength * shotLine k ≤ rowLength * (lastLine + 1) + 8
+        → length bytes + rowRoom * shotLine k ≤ rowRoom * (lastLine + 1) + 8
     go true t e = absurd (refused-not-listed 8 k bytes e)
     go false t e = omega (arith, end-short k h, ap length (bytes-same (endRow (k - 3)) bytes e), ltb-false k 3 t)
 outcome-short (l ∷ ls) k s bytes h sd e = go (λ t r. outcome-short ls (k + 1) t r) (eqb (refusal k (readLine l)) 0) refl
   where
     go : ((t : Setting) (r : List ℕ) → k + 1 ≤ lastLine + 1 → Steady (t .distance) (t .bearing) → outcome (k + 1) t ls ≡ listed r
-        → length r + rowLength * shotLine (k + 1) ≤ rowLength * (lastLine + 1) + 8)
-        → (b : Bool) → eqb (refusal k (readLine l)) 0 ≡ b → length bytes + rowLength * shotLine k ≤ rowLength * (lastLine + 1) + 8
+        → length r + rowRoom * shotLine (k + 1) ≤ rowRoom * (lastLine + 1) + 8)
+        → (b : Bool) → eqb (refusal k (readLine l)) 0 ≡ b → length bytes + rowRoom * shotLine k ≤ rowRoom * (lastLine + 1) + 8
     go ih true t =
         let z = eqb-true (refusal k (readLine l)) 0 t in
         let p = steps k l s sd z in
@@ -74,7 +70,7 @@ outcome-short (l ∷ ls) k s bytes h sd e = go (λ t r. outcome-short ls (k + 1)
     go ih false t = absurd (refused-not-listed (refusal k (readLine l)) k bytes
         (sym (outcome-no k s l ls (eqb-false (refusal k (readLine l)) 0 t)) ∙ e))
 
-listing-short : (text bytes : List ℕ) → listingOf text ≡ listed bytes → length bytes ≤ longestListing
+pub listing-short : (text bytes : List ℕ) → listingOf text ≡ listed bytes → length bytes ≤ longestListing
 unfolding listingOf start
 listing-short text bytes e =
     let (r, q, f) = onto-listed header (outcome 1 start (lines text)) bytes e in

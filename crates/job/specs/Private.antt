@@ -4,17 +4,17 @@ use mathlib.Core.Path.{_≡_}
 use mathlib.Core.Bool.{cond}
 use mathlib.Core.List.{List}
 use lib.Dec.{eqb}
-use lib.ListN.{length, take, drop}
-use Rattle.text.specs.Limits.{nameLength}
+use lib.ListN.{length, drop}
 use Rattle.text.specs.Fields.{partOf}
 use Rattle.text.specs.Scan.{lines}
-use Rattle.buffer.specs.Buffer.{written, positionAfter}
+use Rattle.buffer.specs.Buffer.{written}
 use Rattle.job_refusals.specs.Limits.{lastLine, listingRoom, mostSigma, mostDistance, mostBearing}
 use Rattle.job_lines.specs.Forms.{Form}
 use Rattle.job_lines.specs.declared.Shot.{Shot as ShotFields}
 use Rattle.job_refusals.specs.Refusals.{refusal}
-use Rattle.listing_writer.specs.Listing.{noisyRow}
-use Rattle.job.specs.Job.{Outcome, refused, listed, onto, outcome, listingOf, printed, settingAfter}
+use Rattle.listing_writer.specs.Listing.{header, noisyRow, rowRoom}
+use Rattle.job.specs.Job.{Outcome, refused, listed, onto, outcome, listingOf, answerOf, printed, settingAfter}
+use Rattle.listing_writer.specs.declared.Row.{Row}
 use Rattle.noise.specs.declared.PairAnswer.{PairAnswer}
 use Rattle.job.specs.declared.setting.Setting.{Setting}
 use Rattle.job.specs.declared.state.State.{State}
@@ -45,43 +45,64 @@ refusedState s code = record { code = code; line = s .line; used = s .used; sett
 abbrev pub nextState : ℕ → ℕ → Setting → State
 nextState k used setting = record { code = 0; line = k + 1; used = used; setting = setting }
 
--- an accepted line that says x: the state after it, and the buffer with what it prints
-unfoldable pub acceptedState : State → Form → List ℕ → State
-acceptedState s x out = nextState (s .line) (positionAfter out (s .used) (printed x (s .setting))) (settingAfter x (s .setting))
+-- an accepted line that says x: the state after it, its listing as long as what was printed, and the buffer with what fits of that
+unfoldable pub acceptedState : State → Form → State
+acceptedState s x = nextState (s .line) (s .used + length (printed x (s .setting))) (settingAfter x (s .setting))
 
 unfoldable pub acceptedBuffer : State → Form → List ℕ → List ℕ
 acceptedBuffer s x out = written out (s .used) (printed x (s .setting))
 
 -- a line that says x, accepted or refused
-unfoldable pub takenOf : State → Form → List ℕ → State
-takenOf s x out = cond (eqb (refusal (s .line) x) 0) (acceptedState s x out) (refusedState s (refusal (s .line) x))
+unfoldable pub takenOf : State → Form → State
+takenOf s x = cond (eqb (refusal (s .line) x) 0) (acceptedState s x) (refusedState s (refusal (s .line) x))
 
 unfoldable pub bufferOf : State → Form → List ℕ → List ℕ
 bufferOf s x out = cond (eqb (refusal (s .line) x) 0) (acceptedBuffer s x out) out
 
+-- what a line may rely on: the sigmas are within their range, and the listing so far is no longer than any
+pub record Ready (s : State) : Type 0 where
+  pub steady : Steady (s .setting .distance) (s .setting .bearing)
+  pub short : s .used ≤ listingRoom
+
+-- a listing so far, and a row after it that has all its bytes
+pub record Adds (used : ℕ) (row : Row) : Type 0 where
+  pub short : used ≤ listingRoom
+  pub whole : row .length ≤ length (row .bytes)
+  pub room : row .length ≤ rowRoom
+
+-- a line that is accepted, and what it prints is no longer than a row
+pub record Printing (s : State) (x : Form) : Type 0 where
+  pub accepted : refusal (s .line) x ≡ 0
+  pub row : length (printed x (s .setting)) ≤ rowRoom
+  pub short : s .used ≤ listingRoom
+
 -- ---- A job half way and at its end
 
--- the most bytes of a row: two names, a distance of 7 digits, a bearing of 5, and what ends each
-abbrev pub rowLength : ℕ
-rowLength = 2 * nameLength + 7 + 5 + 4
-
--- the lines before `at` are accepted: what they left in the state and in the buffer, and what the lines ahead add to it
-pub record Going (text out : List ℕ) (s : State) (at : ℕ) : Type 0 where
+-- the lines before `at` are accepted: what they left in the state and in the buffer, and what the lines ahead add to it. `out₀` is the buffer
+-- with the header, and `bytes` the listing so far: where `before` was in the buffer, it now has as much of them as fits
+pub record Going (text out₀ out : List ℕ) (s : State) (at : ℕ) : Type 0 where
   pub code : s .code ≡ 0
   pub within : at ≤ length text
-  pub room : length out ≡ listingRoom
   pub line : s .line ≤ lastLine + 1
   pub steady : Steady (s .setting .distance) (s .setting .bearing)
-  pub used : s .used + 24 ≤ rowLength * s .line
-  pub so-far : listingOf text ≡ onto (take (s .used) out) (outcome (s .line) (s .setting) (lines (drop at text)))
+  pub size : length out ≡ length out₀
+  pub bytes : List ℕ
+  pub used : s .used ≡ length bytes
+  pub short : length bytes + 24 ≤ rowRoom * s .line
+  pub wrote : (before : List ℕ) → out₀ ≡ written before 0 header → out ≡ written before 0 bytes
+  pub so-far : listingOf text ≡ onto bytes (outcome (s .line) (s .setting) (lines (drop at text)))
 
 -- all lines are accepted, or the first that is not gives code and line
-pub record Ended (text out : List ℕ) (s : State) : Type 0 where
-  pub yes : s .code ≡ 0 → Going text out s (length text)
+pub record Ended (text out₀ out : List ℕ) (s : State) : Type 0 where
+  pub yes : s .code ≡ 0 → Going text out₀ out s (length text)
   pub no : (s .code ≡ 0 → ⊥) → listingOf text ≡ refused (s .code) (s .line)
 
--- the refusal, or the listing at the start of the buffer
-abbrev pub Wrote : Outcome → JobAnswer → List ℕ → Type 0
-Wrote (refused code line) r out = (r ≡ record { code = code; line = line; length = 0 }) × (0 < code)
-Wrote (listed bytes) r out =
-    (r ≡ record { code = 0; line = 0; length = length bytes }) × (take (length bytes) out ≡ bytes) × (length bytes ≤ length out)
+-- the refusal; or the listing's length, and as much of the listing in the buffer as fits
+abbrev pub Wrote : Outcome → JobAnswer → List ℕ → List ℕ → Type 0
+Wrote (refused code line) r out out′ = (r ≡ record { code = code; line = line; length = 0 }) × (0 < code)
+Wrote (listed bytes) r out out′ = (r ≡ record { code = 0; line = 0; length = length bytes }) × (out′ ≡ written out 0 bytes)
+
+-- the refusal with a buffer of that length; or the job is listed, and the listing fits
+pub record Decided (o : Outcome) (room : ℕ) (r : JobAnswer) : Type 0 where
+  pub yes : r .code ≡ 0 → (bytes : List ℕ) × (o ≡ listed bytes) × (length bytes ≤ room)
+  pub no : (r .code ≡ 0 → ⊥) → r ≡ answerOf o room

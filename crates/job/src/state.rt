@@ -1,7 +1,8 @@
 // A job, line by line: what each accepted line does to the state.
 use crate::setting::Setting;
 use crate::setting::settle;
-use crate::shot::print_shot;
+use crate::shot::add_row;
+use crate::shot::noisy_row;
 use job_lines::Line;
 use job_lines::Shot;
 use job_lines::read_line;
@@ -9,9 +10,8 @@ ghost use Prim.Native.Nat.{_≤_};
 ghost use mathlib.Core.Path.{_≡_};
 ghost use Rattle.job_refusals.specs.Limits.{lastLine};
 ghost use Rattle.job_lines.specs.Forms.{shotIn, said, readLine};
-ghost use Rattle.job_refusals.specs.Refusals.{refusal};
 ghost use Rattle.job.specs.Job.{settingOn};
-ghost use Rattle.job.specs.Private.{refusedState, nextState, acceptedState, acceptedBuffer, takenOf, bufferOf};
+ghost use Rattle.job.specs.Private.{refusedState, nextState, acceptedState, acceptedBuffer, takenOf, bufferOf, Ready, Printing};
 
 // The refusal code of a line, 0 while all are accepted; the number of the next line, or of that one; the listing's length so far; the setting.
 pub struct State {
@@ -48,14 +48,15 @@ fn next_state(line: u32, used: usize, setting: Setting) -> State
 
 // One pair is drawn, and the row printed.
 fn on_shot(line: &[u8], x: Shot, s: State, out: &mut [u8]) -> State
-    requires { ⌜ refusal (s .line) (shotIn (now line) x) ≡ 0 ⌝ }
-    ensures { λ r. ⌜ (r ≡ acceptedState s (shotIn (now (line .entry)) x) (now (out .entry)))
+    requires { ⌜ Printing s (shotIn (now line) x) ⌝ }
+    ensures { λ r. ⌜ (r ≡ acceptedState s (shotIn (now (line .entry)) x))
         × (now (out .exit) ≡ acceptedBuffer s (shotIn (now (line .entry)) x) (now (out .entry))) ⌝ }
 {
     let old = s.setting;
     let generator = old.generator;
     let pair = noise::pair(generator);
-    let used = print_shot(line, x, old.distance, old.bearing, pair, out, s.used);
+    let row = noisy_row(line, x, old.distance, old.bearing, pair);
+    let used = add_row(out, s.used, row);
     let moved = pair.next;
     let setting = Setting {
         generator: moved,
@@ -67,8 +68,8 @@ fn on_shot(line: &[u8], x: Shot, s: State, out: &mut [u8]) -> State
 
 // An accepted line, with the setting that it leaves to the shots after it.
 fn on_accepted(line: &[u8], x: Line, s: State, setting: Setting, out: &mut [u8]) -> State
-    requires { ⌜ (refusal (s .line) (said (now line) x) ≡ 0) × (setting ≡ settingOn (said (now line) x) (s .setting)) ⌝ }
-    ensures { λ r. ⌜ (r ≡ acceptedState s (said (now (line .entry)) x) (now (out .entry)))
+    requires { ⌜ Printing s (said (now line) x) × (setting ≡ settingOn (said (now line) x) (s .setting)) ⌝ }
+    ensures { λ r. ⌜ (r ≡ acceptedState s (said (now (line .entry)) x))
         × (now (out .exit) ≡ acceptedBuffer s (said (now (line .entry)) x) (now (out .entry))) ⌝ }
 {
     match x {
@@ -79,9 +80,10 @@ fn on_accepted(line: &[u8], x: Line, s: State, setting: Setting, out: &mut [u8])
     }
 }
 
-// One line of a job: the state after it, and its row in the buffer.
+// One line of a job: the state after it, and as much of its row in the buffer as fits.
 pub fn take_line(line: &[u8], s: State, out: &mut [u8]) -> State
-    ensures { λ r. ⌜ (r ≡ takenOf s (readLine (now (line .entry))) (now (out .entry)))
+    requires { ⌜ Ready s ⌝ }
+    ensures { λ r. ⌜ (r ≡ takenOf s (readLine (now (line .entry))))
         × (now (out .exit) ≡ bufferOf s (readLine (now (line .entry))) (now (out .entry))) ⌝ }
 {
     let x = read_line(line);

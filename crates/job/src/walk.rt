@@ -1,35 +1,37 @@
-// All lines of a job, and the listing in a buffer that has room for any.
+// All lines of a job, and the listing.
 use crate::JobAnswer;
 use crate::refused_job;
 use crate::setting::first_setting;
+use crate::shot::add_row;
 use crate::state::State;
 use crate::state::take_line;
-use listing_writer::put_end;
+use listing_writer::HEADER_LENGTH;
+use listing_writer::end_row;
 use listing_writer::put_header;
 use text::line::line_end;
 ghost use mathlib.Core.Path.{_≡_};
 ghost use lib.ListN.{length};
-ghost use Rattle.job_refusals.specs.Limits.{listingRoom};
+ghost use Rattle.listing_writer.specs.Listing.{header};
 ghost use Rattle.job.specs.Job.{start, listingOf};
 ghost use Rattle.job.specs.Private.{Going, Ended, Wrote};
 
-// Before line 1, with a header of that length.
-fn first_state(used: usize) -> State
-    ensures { λ r. ⌜ r ≡ record { code = 0; line = 1; used = used; setting = start } ⌝ }
+// Before line 1, after the header.
+fn first_state() -> State
+    ensures { λ r. ⌜ r ≡ record { code = 0; line = 1; used = length header; setting = start } ⌝ }
 {
     let setting = first_setting();
     State {
         code: 0,
         line: 1,
-        used,
+        used: HEADER_LENGTH,
         setting,
     }
 }
 
 // The state after the last line, or at the first that is refused.
 fn walk(text: &[u8], out: &mut [u8], first: State) -> State
-    requires { ⌜ Going (now text) (now out) first 0 ⌝ }
-    ensures { λ r. ⌜ Ended (now (text .entry)) (now (out .exit)) r ⌝ }
+    requires { ⌜ Going (now text) (now out) (now out) first 0 ⌝ }
+    ensures { λ r. ⌜ Ended (now (text .entry)) (now (out .entry)) (now (out .exit)) r ⌝ }
 {
     let mut s = first;
     let mut at = 0;
@@ -44,13 +46,12 @@ fn walk(text: &[u8], out: &mut [u8], first: State) -> State
     s
 }
 
-// The listing, or the refusal of a line.
+// The listing's length, and as much of it in the buffer as fits; or the refusal of a line.
 pub fn write_listing(text: &[u8], out: &mut [u8]) -> JobAnswer
-    requires { ⌜ length (now out) ≡ listingRoom ⌝ }
-    ensures { λ r. ⌜ Wrote (listingOf (now (text .entry))) r (now (out .exit)) ⌝ }
+    ensures { λ r. ⌜ Wrote (listingOf (now (text .entry))) r (now (out .entry)) (now (out .exit)) ⌝ }
 {
-    let used = put_header(out);
-    let first = first_state(used);
+    put_header(out);
+    let first = first_state();
     let s = walk(text, out, first);
     if s.code != 0 {
         return refused_job(s.code, s.line);
@@ -58,7 +59,7 @@ pub fn write_listing(text: &[u8], out: &mut [u8]) -> JobAnswer
     if s.line < 3 {
         return refused_job(8, s.line);
     }
-    let length = put_end(out, s.used, s.line - 3);
+    let length = add_row(out, s.used, end_row(s.line - 3));
     JobAnswer {
         code: 0,
         line: 0,

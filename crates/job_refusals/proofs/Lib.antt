@@ -1,3 +1,4 @@
 pub mod Refused
 pub mod Accepted
+pub mod FirstBad
 pub mod Theorems

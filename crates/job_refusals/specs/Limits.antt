@@ -1,6 +1,7 @@
 -- The limits of a job (document 01, "A job and its listing"); src/limits.rt has the same.
 use Prim.Native.Nat.{ℕ, _+_, _-_, _*_}
 use Rattle.listing_writer.specs.Rounding.{turnSteps}
+use Rattle.listing_writer.specs.Listing.{rowRoom}
 
 -- "A job is text of at most" so many bytes
 abbrev pub mostBytes : ℕ
@@ -14,9 +15,9 @@ mostShots = 500
 abbrev pub lastLine : ℕ
 lastLine = mostShots + 2
 
--- the most bytes of a listing: the header, a row of 40 for each shot, and the last row
+-- the most bytes of a listing: the header, a row for each shot, and the last row
 abbrev pub longestListing : ℕ
-longestListing = 16 + 40 * mostShots + 8
+longestListing = 16 + rowRoom * mostShots + 8
 
 -- the bytes of the listing program's buffer
 abbrev pub listingRoom : ℕ

@@ -1,13 +1,15 @@
 -- Why a line is refused (document 01, the table of causes, and "for a job 5, then the first bad line, within it 6, 8, 9, 7, 1;
 -- last 10"; document 02, Job 1, puts 11 and 12 where 1 stood).
-use Prim.Native.Nat.{ℕ}
+use Prim.Native.Nat.{ℕ, _+_}
 use mathlib.Core.Bool.{Bool, true, false, cond, not, _||_}
+use mathlib.Core.List.{List, [], _∷_}
 use lib.Dec.{ltb, eqb}
 use Rattle.streams.specs.Streams.{seedOf}
 use Rattle.job_refusals.specs.Limits.{lastLine, mostSeed, mostSigma, mostDistance, mostBearing}
-use Rattle.job_lines.specs.Forms.{Form, seeds, sigma, shot, noForm, seedsIn}
+use Rattle.job_lines.specs.Forms.{Form, seeds, sigma, shot, noForm, seedsIn, readLine}
 use Rattle.job_lines.specs.declared.Seeds.{Seeds as SeedsFields}
 use Rattle.streams.specs.declared.RecordAnswer.{RecordAnswer}
+use Rattle.job_refusals.specs.declared.first_bad.BadLine.{BadLine}
 
 -- "line is none of the three forms, or lacks its line feed"
 unfoldable pub formless : Form → Bool
@@ -53,3 +55,9 @@ refusal k x = cond (formless x) 6 (cond (misplaced k x) 8 (cond (tooMany k x) 9 
 unfoldable pub seedsAnswer : SeedsFields → RecordAnswer
 seedsAnswer x =
     cond (beyond (seedsIn x)) (record { code = 7; next = seedOf 0 0 0 0 0 0 .next }) (seedOf (x .a0) (x .a1) (x .a2) (x .b0) (x .b1) (x .b2))
+
+-- "the first bad line", from line k on: its code and its number; "text ends before line 2 .. (missing: the next one)"; 0 and 0 where there is none
+unfoldable pub firstBad : ℕ → List (List ℕ) → BadLine
+firstBad k [] = cond (ltb k 3) (record { code = 8; line = k }) (record { code = 0; line = 0 })
+firstBad k (l ∷ ls) =
+    cond (eqb (refusal k (readLine l)) 0) (firstBad (k + 1) ls) (record { code = refusal k (readLine l); line = k })

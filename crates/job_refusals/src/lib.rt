@@ -1,4 +1,5 @@
 // Why a job is refused (document 01, "A job and its listing" and the table of causes): its limits, and the refusal code of a line.
+pub mod first_bad;
 pub mod limits;
 pub mod seeds;
 

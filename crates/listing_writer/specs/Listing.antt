@@ -1,7 +1,8 @@
 -- The lines of a listing (document 01, "A job and its listing").
-use Prim.Native.Nat.{ℕ}
+use Prim.Native.Nat.{ℕ, _+_, _*_}
 use mathlib.Core.List.{List, [], _∷_}
 use lib.IntN.{ℤ}
+use Rattle.text.specs.Limits.{nameLength}
 use Rattle.text.specs.Ascii.{ascii}
 use Rattle.text.specs.Fields.{decimal}
 use Rattle.text.specs.Forms.{printForm}
@@ -25,3 +26,9 @@ refusedRow code line = printForm (ascii "REFUSED # #\n") (decimal code ∷ decim
 unfoldable pub noisyRow : ℕ → ℕ → List ℕ → List ℕ → ℕ → ℕ → ℤ → ℤ → List ℕ
 noisyRow sigmaMm sigmaStep from to mm step first second =
     shotRow from to (noisyDistance sigmaMm mm first) (noisyBearing sigmaStep step second)
+
+-- ---- The room of a row
+
+-- the bytes of the longest: two names, a distance of 7 digits, a bearing of 5, and what ends each
+abbrev pub rowRoom : ℕ
+rowRoom = 2 * nameLength + 7 + 5 + 4

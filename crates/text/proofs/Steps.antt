@@ -17,6 +17,7 @@ use Rattle.text.specs.Forms.{
   readForm,
   readFew,
   fieldsAt,
+  foundIn,
   lead,
   marks,
   startsWith,
@@ -114,12 +115,12 @@ module _ (f : ℕ) (form line : List ℕ) (c : Found) where
 
 -- one step at a # and at any other byte
 module _ (b : ℕ) (line : List ℕ) (c : Found) where
-  step-full : eqb b 35 ≡ true → 6 ≤ c .count → formStep b line c ≡ record
+  pub step-full : eqb b 35 ≡ true → 6 ≤ c .count → formStep b line c ≡ record
       { ok = false; at = c .at; count = c .count; places = c .places }
   unfolding formStep
   step-full e h = rw (e, le-leb 6 (c .count) h, formStep)
 
-  step-mark : eqb b 35 ≡ true → c .count < 6
+  pub step-mark : eqb b 35 ≡ true → c .count < 6
       → formStep b line c ≡ record {
         ok = true;
         at = c .at + length (field (drop (c .at) line));
@@ -130,12 +131,12 @@ module _ (b : ℕ) (line : List ℕ) (c : Found) where
   unfolding formStep
   step-mark e h = rw (e, lt-leb 6 (c .count) h, formStep)
 
-  step-end : eqb b 35 ≡ false → length line ≤ c .at → formStep b line c ≡ record
+  pub step-end : eqb b 35 ≡ false → length line ≤ c .at → formStep b line c ≡ record
       { ok = false; at = c .at; count = c .count; places = c .places }
   unfolding formStep
   step-end e h = rw (e, le-leb (length line) (c .at) h, formStep)
 
-  step-byte : eqb b 35 ≡ false → c .at < length line
+  pub step-byte : eqb b 35 ≡ false → c .at < length line
       → formStep b line c ≡ record { ok = eqb (getD line (c .at) 0) b; at = c .at + 1; count = c .count; places = c .places }
   unfolding formStep
   step-byte e h = rw (e, lt-leb (length line) (c .at) h, formStep)
@@ -161,7 +162,7 @@ module _ (form line : List ℕ) (c : Found) (i : ℕ) (fit : Fits form line c i)
   exact-on : formStep b line c .ok ≡ true → foundOf form line ≡ foundFrom (drop (i + 1) form) line (formStep b line c)
   exact-on t = fit .exact ∙ rw (ahead form i more) (found-on b (drop (i + 1) form) line c t)
 
-  pub exact-off : formStep b line c .ok ≡ false → formStep b line c ≡ foundOf form line
+  exact-off : formStep b line c .ok ≡ false → formStep b line c ≡ foundOf form line
   exact-off t = sym (fit .exact ∙ rw (ahead form i more) (found-off b (drop (i + 1) form) line c t))
 
   fit-mark : c .count < 6 → eqb b 35 ≡ true → Fits form line (formStep b line c) (i + 1)
@@ -181,7 +182,7 @@ module _ (form line : List ℕ) (c : Found) (i : ℕ) (fit : Fits form line c i)
       })
 
   -- where the next byte fits, the reading goes on, and where not, the line is not of the form
-  pub fit-step : formStep b line c .ok ≡ true → Fits form line (formStep b line c) (i + 1)
+  fit-step : formStep b line c .ok ≡ true → Fits form line (formStep b line c) (i + 1)
   fit-step t = split (eqb b 35) refl (decLt (c .count) 6) (decLt (c .at) (length line))
     where
       split : (m : Bool) → eqb b 35 ≡ m → Dec (c .count < 6) → Dec (c .at < length line) → Fits form line
@@ -203,7 +204,7 @@ module _ (form line : List ℕ) (c : Found) (i : ℕ) (fit : Fits form line c i)
             exact = subst (λ (x : Found). foundOf form line ≡ foundFrom (drop (i + 1) form) line x) (step-byte b line c e h) (exact-on t);
           })
 
-  pub fit-none : formStep b line c .ok ≡ false → readFew form line ≡ none
+  fit-none : formStep b line c .ok ≡ false → readFew form line ≡ none
   fit-none t = split (eqb b 35) refl (decLt (c .count) 6) (decLt (c .at) (length line))
     where
       split : (m : Bool) → eqb b 35 ≡ m → Dec (c .count < 6) → Dec (c .at < length line) → readFew form line ≡ none
@@ -213,6 +214,16 @@ module _ (form line : List ℕ) (c : Found) (i : ℕ) (fit : Fits form line c i)
       split false e k (yes h) =
           let o : eqb (getD line (c .at) 0) b ≡ false = sym (ap (λ (x : Found). x .ok) (step-byte b line c e h)) ∙ t in
           few-none form line (fit .reads ∙ rw (read-at-byte form line i (c .at) more e h, o))
+
+  -- the loop of `read_form`: one byte more, or the byte at which the reading ends
+  pub fit-on : (r : Found) → formStep b line c ≡ r → r .ok ≡ true → Fits form line r (i + 1)
+  fit-on r e o = subst (λ (x : Found). Fits form line x (i + 1)) e (fit-step (ap (λ (x : Found). x .ok) e ∙ o))
+
+  pub fit-off : (r : Found) → formStep b line c ≡ r → r .ok ≡ false → (readFew form line ≡ foundIn form line r) × (r ≡ foundOf form line)
+  unfolding foundIn
+  fit-off r e o =
+      let t = ap (λ (x : Found). x .ok) e ∙ o in
+      (rw o (fit-none t), sym e ∙ exact-off t)
 
 -- the start, and the end: the whole line is read, or something is left of it
 pub fit-start : (form line : List ℕ) (c : Found) → c .ok ≡ true → c .at ≡ 0 → c .count ≡ 0 → length (c .places) ≡ 6

@@ -24,7 +24,7 @@ returns : tie.Need-returns
 returns c =
     let at = c .before .before .before .before .before .before .before .before .before .before in
     rw (← end-parts (at .args .count))
-    (then-puts (at .args .out .now) (at .args .at) (ascii "END" ++ (32 ∷ [])) (decimal (at .args .count) ++ (10 ∷ []))
+    (then-puts (at .args .out .now) 0 (ascii "END" ++ (32 ∷ [])) (decimal (at .args .count) ++ (10 ∷ []))
     (c .before .before .before .before .before .before .put-field .ensures) (c .before .before .put-decimal .ensures))
 
 pub put-end-spec : {M : Type 1} → statement M

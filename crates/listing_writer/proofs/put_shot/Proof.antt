@@ -31,9 +31,9 @@ returns c =
     let m = decimal (at .args .mm) ++ (32 ∷ []) in
     let s = decimal (at .args .step) ++ (10 ∷ []) in
     rw (← row-parts (at .args .from .now) (at .args .to .now) (at .args .mm) (at .args .step))
-    (then-puts out (at .args .at) (f ++ t ++ m) s
-    (then-puts out (at .args .at) (f ++ t) m
-    (then-puts out (at .args .at) f t (c .before .before .before .before .before .before .before .before .before .before .before .before .before .before .put-field .ensures) (c .before .before .before .before .before .before .before .before .before .before .put-field2 .ensures))
+    (then-puts out 0 (f ++ t ++ m) s
+    (then-puts out 0 (f ++ t) m
+    (then-puts out 0 f t (c .before .before .before .before .before .before .before .before .before .before .before .before .before .before .put-field .ensures) (c .before .before .before .before .before .before .before .before .before .before .put-field2 .ensures))
     (c .before .before .before .before .before .before .put-decimal .ensures))
     (c .before .before .put-decimal2 .ensures))
 

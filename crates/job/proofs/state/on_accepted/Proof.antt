@@ -13,13 +13,13 @@ enum-known-x : tie.Need-enum-known-x
 enum-known-x c = search needs
 
 next-state-requires : tie.Need-next-state-requires
-next-state-requires c κs = line-few _ _ (c .before .before .before .before .before .pre .0)
+next-state-requires c κs = line-few _ _ (c .before .before .before .before .before .pre .0 .accepted)
 
 enum-known-x-2 : tie.Need-enum-known-x-2
 enum-known-x-2 c = search needs
 
 next-state-requires-2 : tie.Need-next-state-requires-2
-next-state-requires-2 c κs = line-few _ _ (c .before .before .before .before .before .pre .0)
+next-state-requires-2 c κs = line-few _ _ (c .before .before .before .before .before .pre .0 .accepted)
 
 enum-known-x-3 : tie.Need-enum-known-x-3
 enum-known-x-3 c = search needs
@@ -52,7 +52,7 @@ returns-3 c = rw (c .before .before .before .before .before .x3 .given .1) (c .b
 
 returns-4 : tie.Need-returns-4
 returns-4 c =
-    let z = rw (c .enum-told .given .1) at (c .before .before .before .before .pre .0) in
+    let z = rw (c .enum-told .given .1) at (c .before .before .before .before .pre .0 .accepted) in
     absurd (omega (arith, none-6 (c .before .before .before .before .args .s .line), z))
 
 pub on-accepted-spec : {M : Type 1} → statement M

@@ -3,6 +3,7 @@ use mathlib.Core.Path.{sym, ap, _∙_}
 use Rattle.job_refusals.specs.Refusals.{refusal}
 use Rattle.job_refusals.proofs.Refused.{names-apart}
 use Rattle.job.proofs.Names.{taken-on, taken-off, settled-code, settled-next, setting-apart}
+use Rattle.job.proofs.Bounds.{printing}
 use Rattle.job.proofs.state.take_line.Statement.{statement}
 use Rattle.job.proofs.state.take_line.Tie as tie
 
@@ -29,8 +30,9 @@ on-accepted-requires c κs =
     let k = at .args .s .line in
     let read = c .before .before .before .before .before .before .read-line in
     let settled = c .before .before .before .before .settle .ensures in
-    let left = c .before .before .if1 .left in (
-      sym (settled-code k _ _ _ settled ∙ names-apart k (at .args .line .now) (read .result)) ∙ left,
+    let left = c .before .before .if1 .left in
+    let accepted = sym (settled-code k _ _ _ settled ∙ names-apart k (at .args .line .now) (read .result)) ∙ left in (
+      rw (read .ensures .0) (printing (at .args .s) (at .args .line .now) (at .pre) (rw (read .ensures .0) at accepted)),
       settled-next k _ _ _ settled left ∙ setting-apart (at .args .line .now) (read .result) (at .args .s .setting),
     )
 

@@ -1,4 +1,5 @@
 -- `job::walk::first_state` meets its contract.
+use Rattle.listing_writer.proofs.Rows.{header-length}
 use Rattle.job.proofs.walk.first_state.Statement.{statement}
 use Rattle.job.proofs.walk.first_state.Tie as tie
 
@@ -6,7 +7,7 @@ first-setting-requires : tie.Need-first-setting-requires
 first-setting-requires c κs = tt
 
 returns : tie.Need-returns
-returns c = rw (c .first-setting .ensures)
+returns c = rw (c .first-setting .ensures, header-length)
 
 pub first-state-spec : {M : Type 1} → statement M
 first-state-spec = tie.close (tie.spec first-setting-requires returns)

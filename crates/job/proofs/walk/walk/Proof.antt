@@ -1,16 +1,16 @@
 -- `job::walk::walk` meets its contract.
 use Prim.Native.Nat.{_-_}
 use native.Mathlib.Omega.{arith}
-use mathlib.Core.Path.{sym, _∙_}
+use mathlib.Core.Path.{_∙_}
 use lib.ListN.{length}
 use Rattle.text.proofs.Split.{end-within}
-use Rattle.job.proofs.Going.{line-on, line-off, all-taken}
+use Rattle.job.proofs.Going.{ready, line-on, line-off, all-taken}
 use Rattle.job.specs.Private.{Going}
 use Rattle.job.proofs.walk.walk.Statement.{statement}
 use Rattle.job.proofs.walk.walk.Tie as tie
 
 abbrev Inv-loop : tie.InvT-loop
-Inv-loop text out₀ s₀ at₀ out s at = Going text out s at
+Inv-loop text out₀ s₀ at₀ out s at = Going text out₀ out s at
 
 abbrev μ-loop : tie.MeasureT-loop
 μ-loop text out₀ s₀ at₀ out s at = length text - at
@@ -35,15 +35,15 @@ part-take-line-end c = omega (
 )
 
 take-line-requires : tie.Need-take-line-requires Inv-loop μ-loop
-take-line-requires c κs = tt
+take-line-requires c κs = ready _ _ _ _ _ (c .before .before .before .before .loop .inv)
 
 same-length : tie.Need-same-length Inv-loop μ-loop
-same-length c = c .before .before .before .before .take-line .kept .1 .1 .0 ∙ c .before .before .before .before .before .before .before .before .before .loop .inv .room ∙ sym (c .before .before .before .before .before .before .before .before .before .before .before .before .pre .room)
+same-length c = c .before .before .before .before .take-line .kept .1 .1 .0 ∙ c .before .before .before .before .before .before .before .before .before .loop .inv .size
 
 returns : tie.Need-returns Inv-loop μ-loop
 returns c =
     let at = c .before .before .before .before .before .before .before .before .before in
-    line-off _ (at .loop .out) (at .loop .s) (at .loop .at) (c .before .before .before .before .before .before .before .line-end .result) (c .before .before .before .before .take-line .result) _ (at .loop .inv)
+    line-off _ _ (at .loop .out) (at .loop .s) (at .loop .at) (c .before .before .before .before .before .before .before .line-end .result) (c .before .before .before .before .take-line .result) _ (at .loop .inv)
     (c .before .before .before .before .before .before .before .before .loop-test .taken) (c .before .before .before .before .before .before .before .line-end .ensures) (c .before .before .before .before .take-line .ensures .0) (c .before .before .before .before .take-line .ensures .1) (c .if1 .taken)
 
 loop-less : tie.Need-loop-less Inv-loop μ-loop
@@ -54,14 +54,14 @@ loop-less c =
 loop-again : tie.Need-loop-again Inv-loop μ-loop
 loop-again c =
     let at = c .before .before .before .before .before .before .before .before .before in
-    line-on _ (at .loop .out) (at .loop .s) (at .loop .at) (c .before .before .before .before .before .before .before .line-end .result) (c .before .before .before .before .take-line .result) _ (at .loop .inv)
+    line-on _ _ (at .loop .out) (at .loop .s) (at .loop .at) (c .before .before .before .before .before .before .before .line-end .result) (c .before .before .before .before .take-line .result) _ (at .loop .inv)
     (c .before .before .before .before .before .before .before .before .loop-test .taken) (c .before .before .before .before .before .before .before .line-end .ensures) (c .before .before .before .before .take-line .ensures .0) (c .before .before .before .before .take-line .ensures .1) (c .if1 .left)
 
 same-length-2 : tie.Need-same-length-2 Inv-loop μ-loop
-same-length-2 c = c .before .loop .inv .room ∙ sym (c .before .before .before .before .pre .room)
+same-length-2 c = c .before .loop .inv .size
 
 returns-2 : tie.Need-returns-2 Inv-loop μ-loop
-returns-2 c = all-taken _ _ _ _ (c .before .loop .inv) (c .loop-test .left)
+returns-2 c = all-taken _ _ _ _ _ (c .before .loop .inv) (c .loop-test .left)
 
 pub walk-spec : {M : Type 1} → statement M
 walk-spec = tie.close (tie.spec Inv-loop μ-loop loop-holds line-end-requires sub-take-line part-take-line-start part-take-line-end take-line-requires same-length returns loop-less loop-again same-length-2 returns-2)

@@ -1,5 +1,6 @@
 -- `job_lines::write::shot_line` meets its contract.
-use Rattle.job_lines.proofs.ShotLines.{room-within}
+use Rattle.buffer.proofs.Writing.{room-within}
+use Rattle.job_lines.specs.Room.{shotRoom}
 use borrow.Author.Needs.{needs}
 use Rattle.job_lines.proofs.write.shot_line.Statement.{statement}
 use Rattle.job_lines.proofs.write.shot_line.Tie as tie
@@ -12,8 +13,7 @@ put-line-requires c κs = search needs
 
 returns : tie.Need-returns
 returns c =
-    let put = c .before .put-line .ensures in
-    (put, rw (put .0, put .1) (room-within _))
+    let put = c .before .put-line .ensures in (put, room-within shotRoom _ put)
 
 pub shot-line-spec : {M : Type 1} → statement M
 shot-line-spec = tie.close (tie.spec slice-aggregate-put-line put-line-requires returns)

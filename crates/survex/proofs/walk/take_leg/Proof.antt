@@ -3,7 +3,7 @@ use native.Mathlib.Omega.{arith}
 use mathlib.Core.Path.{refl, sym, ap, _∙_}
 use Rattle.survex_leg.specs.Legs.{legIn}
 use Rattle.survex_leg.proofs.Facts.{wrong-facts}
-use Rattle.job_lines.proofs.ShotLines.{shot-bytes, shot-part}
+use Rattle.job_lines.proofs.ShotLines.{shot-bytes}
 use Rattle.survex.proofs.ShotLines.{leg-short}
 use borrow.Author.Needs.{needs}
 use Rattle.survex.proofs.walk.take_leg.Statement.{statement}
@@ -48,7 +48,7 @@ returns-2 : tie.Need-returns-2
 returns-2 c =
     let e = sym (c .before .before .before .before .before .before .before .before .before .before .before .before .leg-of .ensures .0) ∙ ap (legIn (c .before .before .before .before .before .before .before .before .before .before .before .before .before .before .before .args .line .now)) (c .before .before .before .before .before .before .before .before .before .before .said2 .given .1) in
     let s = shot-bytes _ _ _ (leg-short _ _ _ e) (c .before .before .before .before .before .before .before .before .shot-line .ensures .0) in
-    rw (e, ← s .length-is, ← shot-part _ _ s) (refl, c .grown .ensures, c .before .before .before .put .ensures .1)
+    rw (e, ← s .0, ← s .1) (refl, c .grown .ensures, c .before .before .before .put .ensures .1)
 
 pub take-leg-spec : {M : Type 1} → statement M
 take-leg-spec =
