@@ -17,6 +17,9 @@ typedef struct { const char *name; uint8_t *bytes; size_t length; } text;
 /* What a refusal is about: each has sentences of its own. */
 typedef enum { JOB, SURVEY, LISTING, RECORD } subject;
 
+/* A line that was refused, its line feed included, and the text that it stands in; a line that is missing has no bytes. */
+typedef struct { const uint8_t *text, *bytes; size_t length, number; } bad_line;
+
 /* What a user is told besides refusals; sentences.c has the words. */
 typedef enum {
     NO_COMMAND, NO_SUCH_COMMAND, NO_SUCH_OPTION, LACKS_VALUE, TAKES_NO_VALUE, GIVEN_TWICE, ONE_FILE, NO_FILE, NEEDS, EITHER,
@@ -35,6 +38,7 @@ typedef struct { uint64_t millionths; unit in; } measure;
 /* The commands: each takes the words after its own name and returns an exit status. */
 int list(int count, char **words);
 int legs(int count, char **words);
+int level(int count, char **words);
 int misses(int count, char **words);
 int noise(int count, char **words);
 int seeds(int count, char **words);
@@ -65,6 +69,18 @@ int refuse_option(const char *name, uint32_t number);
 const char *sentence(saying what);
 int wrong(saying what, ...);
 void note(saying what, ...);
+
+/* legs_cause.c: what is wrong with a line of a survey, asked in this order. */
+bool is_other_data_line(const bad_line *line);
+bool is_command(const bad_line *line);
+bool lacks_data_line(const bad_line *line);
+bool has_few_fields(const bad_line *line);
+bool has_many_fields(const bad_line *line);
+bool has_bad_from(const bad_line *line);
+bool has_bad_to(const bad_line *line);
+bool has_bad_tape(const bad_line *line);
+bool has_long_tape(const bad_line *line);
+bool has_large_compass(const bad_line *line);
 
 /* reading.c: reads a whole file, or standard input where the name is "-". */
 int read_text(const char *name, text *read);

@@ -5,6 +5,7 @@
 static const char OVERVIEW[] =
     "usage: jabulghi list [FILE]     the listing of a job: each shot with its noise\n"
     "       jabulghi legs [FILE]     the shot lines of a Survex survey's level legs\n"
+    "       jabulghi level [FILE]    an ordinary Survex survey as the strict text that legs takes; not proved\n"
     "       jabulghi misses [FILE]   how far the loop of a listing misses, in millimetres\n"
     "       jabulghi job [FILE] --sigma SIGMAS         a job from a survey\n"
     "       jabulghi tolerance [FILE] --sigma SIGMAS   is this miss a blunder? The loop, played many times\n"
@@ -21,6 +22,12 @@ static const char OVERVIEW[] =
 static const struct { const char *command, *text; } HELP[] = {
     {"list", "usage: jabulghi list [FILE] [-o FILE]\n\nPrints the listing of a job: each shot with its noise, and the count of shots.\n"},
     {"legs", "usage: jabulghi legs [FILE] [-o FILE]\n\nPrints the shot lines of a Survex survey's level legs.\n"},
+    {"level",
+     "usage: jabulghi level [FILE] [--loop N] [-o FILE]\n"
+     "\n"
+     "Writes the legs of an ordinary Survex survey's loop as the strict text that legs takes, whole or not at all. It is not proved.\n"
+     "Scopes, equates, orders of readings and steep legs are worked in; standard error says what was done, and the new names of stations.\n"
+     "  --loop N  the loop that is written, where the survey has several; not given, they are listed\n"},
     {"misses", "usage: jabulghi misses [FILE] [-o FILE]\n\nPrints how far the loop of a listing misses, east and north in whole millimetres.\n"},
     {"job",
      "usage: jabulghi job [FILE] --sigma SIGMAS [--seeds SEEDS] [-o FILE]\n"

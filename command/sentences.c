@@ -6,9 +6,6 @@
 #include <stdlib.h>
 #include <string.h>
 
-/* The bad line, its line feed included; a line that is missing has no bytes. */
-typedef struct { const uint8_t *bytes; size_t length, number; } bad_line;
-
 static bool is_missing(const bad_line *line) { return line->length == 0; }
 static bool is_first(const bad_line *line) { return line->number == 1; }
 static bool is_second(const bad_line *line) { return line->number == 2; }
@@ -49,9 +46,19 @@ static const struct { subject about; uint32_t number; bool (*holds)(const bad_li
     {SURVEY, JABULGHI_NO_LEG, is_missing, "no data line"},
     {SURVEY, JABULGHI_NO_LEG, ends_in_crlf, CRLF},
     {SURVEY, JABULGHI_NO_LEG, lacks_line_feed, NO_LINE_FEED},
-    {SURVEY, JABULGHI_NO_LEG, NULL, "line is no data line or leg, or a name or number has another form"},
+    {SURVEY, JABULGHI_NO_LEG, is_other_data_line, "data line is not '*data normal from to tape compass clino'; jabulghi level takes other orders"},
+    {SURVEY, JABULGHI_NO_LEG, is_command, "commands are not taken here; jabulghi level takes ordinary Survex"},
+    {SURVEY, JABULGHI_NO_LEG, lacks_data_line, "leg before the data line"},
+    {SURVEY, JABULGHI_NO_LEG, has_few_fields, "leg has fewer than five fields"},
+    {SURVEY, JABULGHI_NO_LEG, has_many_fields, "leg has more than five fields"},
+    {SURVEY, JABULGHI_NO_LEG, has_bad_from, "from is no name of 1 to 12 letters or digits; jabulghi level gives new names"},
+    {SURVEY, JABULGHI_NO_LEG, has_bad_to, "to is no name of 1 to 12 letters or digits; jabulghi level gives new names"},
+    {SURVEY, JABULGHI_NO_LEG, has_bad_tape, "tape is not 1 to 4 digits, then perhaps a point and 1 to 3 decimals"},
+    {SURVEY, JABULGHI_NO_LEG, NULL, "compass is not 1 to 4 digits, then perhaps a point and 1 or 2 decimals"},
     {SURVEY, JABULGHI_LEG_OUT_OF_RANGE, ends_in_crlf, CRLF},
-    {SURVEY, JABULGHI_LEG_OUT_OF_RANGE, NULL, "tape above 1000, compass above 360, or clino not 0"},
+    {SURVEY, JABULGHI_LEG_OUT_OF_RANGE, has_long_tape, "tape above 1000"},
+    {SURVEY, JABULGHI_LEG_OUT_OF_RANGE, has_large_compass, "compass above 360"},
+    {SURVEY, JABULGHI_LEG_OUT_OF_RANGE, NULL, "clino is not the single digit 0; jabulghi level takes other forms, and steep legs as their plan"},
 
     {LISTING, JABULGHI_NO_FORM, is_missing, "line is missing"},
     {LISTING, JABULGHI_NO_FORM, ends_in_crlf, CRLF},
@@ -137,7 +144,7 @@ static bad_line line_of(const text *from, size_t number) {
         at = feed == NULL ? end : feed + 1;
     }
     const uint8_t *feed = at < end ? memchr(at, '\n', (size_t)(end - at)) : NULL;
-    return (bad_line){at, (size_t)((feed == NULL ? end : feed + 1) - at), number};
+    return (bad_line){from->bytes, at, (size_t)((feed == NULL ? end : feed + 1) - at), number};
 }
 
 static const char *sentence_of(subject about, uint32_t number, const bad_line *line) {
