@@ -15,7 +15,11 @@
 typedef struct { task *t; pthread_mutex_t lock; uint64_t next; uint32_t number; } pool;
 
 uint64_t processors(void) {
+#ifdef _WIN32
+    int found = pthread_num_processors_np();
+#else
     long found = sysconf(_SC_NPROCESSORS_ONLN);
+#endif
     return found < 1 ? 1 : (uint64_t)found;
 }
 
