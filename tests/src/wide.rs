@@ -20,9 +20,6 @@ impl Mark for i32 {
     fn mark(place: usize) -> i32 {
         (place as i32 + 1).wrapping_mul(0x5F356495)
     }
-    fn bytes(self) -> Vec<u8> {
-        self.to_le_bytes().to_vec()
-    }
 }
 
 #[derive(Clone, Debug)]
