@@ -67,10 +67,10 @@ int system_rename(const char *from, const char *to) {
 
 int system_remove(const char *name) { return _wunlink(wide(name)); }
 
-/* A pipe that nobody reads is no valid one here. */
+/* A write to a pipe fails only where nobody reads it; Windows has other numbers for that. */
 ssize_t system_write(int file, const void *bytes, size_t length) {
     int written = _write(file, bytes, length < 1 << 20 ? (unsigned)length : 1 << 20);
-    if (written < 0 && errno == EINVAL && GetFileType((HANDLE)_get_osfhandle(file)) == FILE_TYPE_PIPE) errno = EPIPE;
+    if (written < 0 && GetFileType((HANDLE)_get_osfhandle(file)) == FILE_TYPE_PIPE) errno = EPIPE;
     return written;
 }
 

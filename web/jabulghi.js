@@ -6,9 +6,15 @@
 //
 // Each call does what jabulghi.h says of it. A refusal is thrown, and leaves every array as it was. Numbers of 64 bits are given as numbers or, from 2^53
 // on, as BigInt. Texts are strings or Uint8Array. For samples give the array that they are written to, or how many you want.
-import { CODES, LISTING_ROOM } from './constants.js';
-import { check, Refusal } from './refusals.js';
-export { CODES, Refusal };
+import { CODES, LISTING_ROOM, SUBJECTS, WORDS } from './constants.js';
+export { CODES };
+
+export class Refusal extends Error {
+  constructor(code, line, sentence) {
+    super(`${line > 0 ? `line ${line}: ` : ''}${sentence} (${code})`);
+    Object.assign(this, { name: 'Refusal', code, line, sentence });
+  }
+}
 
 function whole(value, least, most) {
   if (typeof value !== 'number' && typeof value !== 'bigint') throw new TypeError(`a number is needed, not ${typeof value}`);
@@ -25,6 +31,7 @@ function ofKind(Kind, value) {
 }
 const room = (Kind, value) => (typeof value === 'number' ? new Kind(u32(value)) : ofKind(Kind, value));
 const encode = text => (typeof text === 'string' ? new TextEncoder().encode(text) : ofKind(Uint8Array, text));
+const decode = bytes => new TextDecoder().decode(bytes);
 const bytesOf = array => new Uint8Array(array.buffer, array.byteOffset, array.byteLength);
 
 // A call on copies of typed arrays, which stand above the library's own memory at multiples of 8. They are copied back, but for those in brackets.
@@ -43,6 +50,17 @@ function call({ exports, start }, name, ...values) {
   const code = exports[`jabulghi_${name}`](...passed);
   for (const [array, at, back] of lent) if (back) bytesOf(array).set(new Uint8Array(memory.buffer, at, array.byteLength));
   return code;
+}
+
+// Throws a Refusal where a call returned another number than 0, with the header's words.
+function check(code) { if (code !== CODES.OK) throw new Refusal(code, 0, WORDS[code]); }
+
+// The same for a text: with the command's sentence, or the header's words where it has none.
+function checkText(library, code, subject, line, text) {
+  if (code === CODES.OK) return;
+  const at = call(library, 'sentence', SUBJECTS.indexOf(subject), code, line, [text], text.length), bytes = new Uint8Array(library.exports.memory.buffer, at);
+  const sentence = decode(bytes.slice(0, bytes.indexOf(0)));
+  throw new Refusal(code, line, sentence === 'refused' ? WORDS[code] : sentence);
 }
 
 // A struct of C that the caller keeps. Its bytes can be saved, and put back by bytes.set(saved).
@@ -117,8 +135,8 @@ class Jabulghi {
   // A text from a text.
   #lines(name, subject, text, size) {
     const bytes = encode(text), lines = new Uint8Array(size(bytes.length)), line = new Uint32Array(1), length = new Uint32Array(1);
-    check(call(this, name, [bytes], bytes.length, lines, lines.length, line, length), subject, line[0], bytes);
-    return new TextDecoder().decode(lines.subarray(0, length[0]));
+    checkText(this, call(this, name, [bytes], bytes.length, lines, lines.length, line, length), subject, line[0], bytes);
+    return decode(lines.subarray(0, length[0]));
   }
   list(job) { return this.#lines('list', 'JOB', job, () => LISTING_ROOM); }
   legs(survey) { return this.#lines('legs', 'SURVEY', survey, length => 3 * length + 1); } // a leg of 10 bytes gives a shot line of at most 21
@@ -126,7 +144,7 @@ class Jabulghi {
   // The sums of a listing at 2^30, as BigInt, and in millimetres.
   #miss(name, listing, length) {
     const bytes = encode(listing), sums = new BigInt64Array(length), mm = new BigInt64Array(length), line = new Uint32Array(1);
-    check(call(this, name, [bytes], bytes.length, sums, mm, line), 'LISTING', line[0], bytes);
+    checkText(this, call(this, name, [bytes], bytes.length, sums, mm, line), 'LISTING', line[0], bytes);
     return [sums, ...Array.from(mm, Number)];
   }
   misclosure(listing) {

@@ -121,22 +121,23 @@ fn guess_each(x: &[u64], g: &mut [u64])
 }
 
 // The samples of each z, by passes over them all: 2Q of each, a guess at the root of each, and the samples. What x and g hold does not
-// matter.
+// matter. A single pair goes this way too: nothing else calls the passes, so that the compiler puts them into one function. (z is lent
+// on as a part, the whole of it: the compiler then reads its place once.)
 fn by_passes(in18: bool, z: &[u64], x: &mut [u64], g: &mut [u64], out: &mut [i32])
     requires { ⌜ (length (now x) ≡ length (now z)) × (length (now g) ≡ length (now z)) × (length (now out) ≡ 2 * length (now z)) ⌝ }
     ensures { λ r. ⌜ now (out .exit) ≡ samplesAt (bitsOf in18) (now (z .entry)) ⌝ }
 {
-    under_roots(z, x);
+    let n = z.len();
+    under_roots(&z[0..n], x);
     guess_each(x, g);
-    sample_each(in18, z, x, g, out)
+    sample_each(in18, &z[0..n], x, g, out)
 }
 
 // The most pairs in a chunk.
 pub const CHUNK: usize = 16;
 
 // The two samples of each z = 65536 k + v, first and second alternating, where a chunk has as many z and the caller's memory has two
-// elements for each; else it stays. (A single sample goes this way too: the compiler puts the passes into one function where nothing
-// else calls them, and a block is faster by it. Lengths that were cut to the lesser one took 6 % more.)
+// elements for each; else it stays. (Lengths that were cut to the lesser one took 6 % more.)
 pub fn chunk(in18: bool, z: &[u64], out: &mut [i32])
     ensures { λ r. ⌜ now (out .exit) ≡ chunkHolds (bitsOf in18) (now (z .entry)) (now (out .entry)) ⌝ }
 {
@@ -171,8 +172,10 @@ fn answer(in18: bool, k: u64, v: u32) -> Samples18
         };
     }
     let z = [k * 65536 + v as u64];
+    let mut x = [0u64];
+    let mut g = [0u64];
     let mut pair = [0i32; 2];
-    chunk(in18, &z, &mut pair);
+    by_passes(in18, &z, &mut x, &mut g, &mut pair);
     Samples18 {
         code: 0,
         first: pair[0],

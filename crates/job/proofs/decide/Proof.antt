@@ -30,10 +30,10 @@ refused-job-requires-2 c κs = tt
 returns-2 : tie.Need-returns-2
 returns-2 c =
     let w = c .before .before .before .write-listing in
-    rw (c .refused-job2 .ensures) (measured-long (w .result) _ _ _ _ (w .ensures) (c .before .if2 .taken))
+    rw (c .refused-job2 .ensures) (measured-long (w .result) _ _ _ _ (w .ensures) (omega (arith, c .before .if2 .taken, c .before .before .before .before .before .if1 .left)))
 
 returns-3 : tie.Need-returns-3
-returns-3 c = let w = c .before .before .write-listing in measured-fits (w .result) _ _ _ _ (w .ensures) (c .if2 .left)
+returns-3 c = let w = c .before .before .write-listing in measured-fits (w .result) _ _ _ _ (w .ensures) (omega (arith, c .if2 .left))
 
 pub decide-spec : {M : Type 1} → statement M
 decide-spec =

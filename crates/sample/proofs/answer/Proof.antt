@@ -10,7 +10,7 @@ use mir.Facts.{toZ-ofZ}
 use Rattle.radius.specs.Steps.{numberBits}
 use Rattle.signs.proofs.Sizes.{size-fits}
 use Rattle.box_muller.specs.Sample.{firstOf, secondOf, samplesOf}
-use Rattle.sample.specs.Chunk.{chunkHolds, samplesAt}
+use Rattle.sample.specs.Chunk.{samplesAt}
 use Rattle.box_muller.specs.Steps.{bitsOf}
 use Rattle.box_muller.proofs.RoundingLaws.{first-small, second-small, largest-range}
 use Rattle.sample.proofs.answer.Statement.{statement}
@@ -25,42 +25,48 @@ unfolding samplesOf
 returns-2 c =
     rw (lt-leb (2 ^ numberBits) (c .before .before .args .k) (omega arith), lt-ltb 65535 (c .before .before .args .v) (omega arith)) refl
 
-mul-t7 : tie.Need-mul-t7
-mul-t7 c = search needs
+mul-t9 : tie.Need-mul-t9
+mul-t9 c = search needs
 
-add-t9 : tie.Need-add-t9
-add-t9 c = search needs
+add-t11 : tie.Need-add-t11
+add-t11 c = search needs
 
-slice-aggregate-chunk : tie.Need-slice-aggregate-chunk
-slice-aggregate-chunk c = search needs
+slice-aggregate-by-passes : tie.Need-slice-aggregate-by-passes
+slice-aggregate-by-passes c = search needs
 
-slice-aggregate-chunk-2 : tie.Need-slice-aggregate-chunk-2
-slice-aggregate-chunk-2 c = search needs
+slice-aggregate-by-passes-2 : tie.Need-slice-aggregate-by-passes-2
+slice-aggregate-by-passes-2 c = search needs
 
-chunk-requires : tie.Need-chunk-requires
-chunk-requires c κs = search needs
+slice-aggregate-by-passes-3 : tie.Need-slice-aggregate-by-passes-3
+slice-aggregate-by-passes-3 c = search needs
 
-array-copy-out-t17 : tie.Need-array-copy-out-t17
-array-copy-out-t17 c = search needs
+slice-aggregate-by-passes-4 : tie.Need-slice-aggregate-by-passes-4
+slice-aggregate-by-passes-4 c = search needs
 
-array-copy-out-t20 : tie.Need-array-copy-out-t20
-array-copy-out-t20 c = search needs
+by-passes-requires : tie.Need-by-passes-requires
+by-passes-requires c κs = search needs
+
+array-copy-out-t23 : tie.Need-array-copy-out-t23
+array-copy-out-t23 c = search needs
+
+array-copy-out-t26 : tie.Need-array-copy-out-t26
+array-copy-out-t26 c = search needs
 
 -- k and v from z
 apart : (k v : ℕ) → v ≤ 65535 → ((k * 65536 + v) / 65536 ≡ k) × ((k * 65536 + v) % 65536 ≡ v)
 apart k v h = (omega arith, omega arith)
 
 returns-3 : tie.Need-returns-3
-unfolding samplesOf chunkHolds samplesAt
+unfolding samplesOf samplesAt
 returns-3 c =
-    let tested = c .before .before .before .before .before .before in
+    let tested = c .before .before .before .before .before .before .before .before .before .before in
     let k = tested .before .before .args .k in
     let v = tested .before .before .args .v in
     let a = apart k v (tested .if2 .left) in
     let z = k * 65536 + v in
     let f = bitsOf (tested .before .before .args .in18) in
     let most = largest-range (tested .before .before .args .in18) in
-    rw (c .before .before .before .chunk .ensures, lt-leb (2 ^ numberBits) k (tested .before .if1 .left), le-ltb 65535 v (tested .if2 .left))
+    rw (c .before .before .before .before .before .by-passes .ensures, lt-leb (2 ^ numberBits) k (tested .before .if1 .left), le-ltb 65535 v (tested .if2 .left))
     (ap₂ (λ (x y : ℤ). record { code = 0; first = x; second = y })
     (toZ-ofZ {w = w32} (size-fits w32 _ (omega (arith, most, first-small f (z / 65536) (z % 65536)))) ∙ ap₂ (firstOf f) (a .0) (a .1))
     (toZ-ofZ {w = w32} (size-fits w32 _ (omega (arith, most, second-small f (z / 65536) (z % 65536)))) ∙ ap₂ (secondOf f) (a .0) (a .1)))
@@ -71,11 +77,13 @@ answer-spec =
     (tie.spec
     returns
     returns-2
-    mul-t7
-    add-t9
-    slice-aggregate-chunk
-    slice-aggregate-chunk-2
-    chunk-requires
-    array-copy-out-t17
-    array-copy-out-t20
+    mul-t9
+    add-t11
+    slice-aggregate-by-passes
+    slice-aggregate-by-passes-2
+    slice-aggregate-by-passes-3
+    slice-aggregate-by-passes-4
+    by-passes-requires
+    array-copy-out-t23
+    array-copy-out-t26
     returns-3)

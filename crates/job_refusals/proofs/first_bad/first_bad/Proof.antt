@@ -56,10 +56,10 @@ loop-again c =
     (c .before .before .before .before .loop-test .taken) (c .before .before .before .line-end .ensures) (c .before .code-of .ensures) (c .if1 .left)
 
 returns-2 : tie.Need-returns-2 Inv-loop μ-loop
-returns-2 c = reading-short _ _ _ (c .before .before .loop .inv) (c .before .loop-test .left) (c .if2 .taken)
+returns-2 c = reading-short _ _ _ (c .before .before .loop .inv) (c .before .loop-test .left) (omega (arith, c .if2 .taken))
 
 returns-3 : tie.Need-returns-3 Inv-loop μ-loop
-returns-3 c = reading-none _ _ _ (c .before .before .loop .inv) (c .before .loop-test .left) (c .if2 .left)
+returns-3 c = reading-none _ _ _ (c .before .before .loop .inv) (c .before .loop-test .left) (omega (arith, c .if2 .left))
 
 pub first-bad-spec : {M : Type 1} → statement M
 first-bad-spec =

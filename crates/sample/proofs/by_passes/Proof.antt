@@ -1,0 +1,78 @@
+-- `sample::by_passes` meets its contract: each pass has what the next one asks for. The part of z that is passed on is the whole of it.
+use mathlib.Core.Path.{_≡_, ap, _∙_}
+use mathlib.Core.List.{List}
+use Prim.Native.Nat.{ℕ, _-_}
+use native.Mathlib.Omega.{arith}
+use lib.ListN.{length, take}
+use lib.Seq.{take-all}
+use borrow.Author.Needs.{needs}
+use Rattle.box_muller.specs.Steps.{bitsOf}
+use Rattle.sample.specs.Chunk.{samplesAt}
+use Rattle.sample.proofs.by_passes.Statement.{statement}
+use Rattle.sample.proofs.by_passes.Tie as tie
+
+whole : (z : List ℕ) → take (length z - 0) z ≡ z
+whole z = take-all (length z - 0) z (omega arith)
+
+sub-under-roots : tie.Need-sub-under-roots
+sub-under-roots c = search needs
+
+part-under-roots-start : tie.Need-part-under-roots-start
+part-under-roots-start c = search needs
+
+part-under-roots-end : tie.Need-part-under-roots-end
+part-under-roots-end c = search needs
+
+under-roots-requires : tie.Need-under-roots-requires
+under-roots-requires c κs = search needs
+
+guess-each-requires : tie.Need-guess-each-requires
+guess-each-requires c κs = search needs
+
+sub-sample-each : tie.Need-sub-sample-each
+sub-sample-each c = search needs
+
+part-sample-each-start : tie.Need-part-sample-each-start
+part-sample-each-start c = search needs
+
+part-sample-each-end : tie.Need-part-sample-each-end
+part-sample-each-end c = search needs
+
+sample-each-requires : tie.Need-sample-each-requires
+sample-each-requires c κs =
+    let start = c .before .before .before .before .before .before .before .before .before .before .before .before .before .before .before .before .before in
+    let size = ap length (whole (start .args .z .now)) in
+    let guessed = c .before .before .before .before .before .before .guess-each .ensures .size in
+    (c .before .before .before .before .before .before .before .before .before .before .before .under-roots .ensures, omega (arith, size, guessed, start .pre), omega (arith, size, start .pre))
+
+same-length : tie.Need-same-length
+same-length c = search needs
+
+same-length-2 : tie.Need-same-length-2
+same-length-2 c = search needs
+
+same-length-3 : tie.Need-same-length-3
+same-length-3 c = search needs
+
+returns : tie.Need-returns
+returns c =
+    let start = c .before .before .before .before .before .before .before .before .before .before .before .before .before .before .before .before .before .before .before in
+    c .before .sample-each .ensures ∙ ap (samplesAt (bitsOf (start .args .in18))) (whole (start .args .z .now))
+
+pub by-passes-spec : {M : Type 1} → statement M
+by-passes-spec =
+    tie.close
+    (tie.spec
+    sub-under-roots
+    part-under-roots-start
+    part-under-roots-end
+    under-roots-requires
+    guess-each-requires
+    sub-sample-each
+    part-sample-each-start
+    part-sample-each-end
+    sample-each-requires
+    same-length
+    same-length-2
+    same-length-3
+    returns)
