@@ -56,6 +56,7 @@ CALL(look18, (p[0], p[1], (size_t)n[0]))
 CALL(take18, (p[0], p[1], (size_t)n[0]))
 CALL(misclosure, (p[0], (size_t)n[0], p[1], p[2], p[3]))
 CALL(intervals, (p[0], (size_t)n[0], p[1], p[2], p[3]))
+CALL(play, (p[0], (size_t)n[0], n[1], p[1], (size_t)n[2], p[2]))
 CALL(window_make_members, (p[0], p[1], p[2], p[3], p[4], p[5], (uint32_t)n[0]))
 CALL(window_push_members, (p[0], p[1], p[2], p[3], p[4], p[5], (int16_t)n[0]))
 CALL(window_push_all_members, (p[0], p[1], p[2], p[3], p[4], p[5], p[6], (size_t)n[0]))
@@ -79,7 +80,7 @@ static uint32_t legs(void **p, const uint64_t *n) {
 #define ROW(name) {#name, name, 0}
 static struct { const char *name; uint32_t (*call)(void **, const uint64_t *); unsigned long ran; } CALLS[] = {
     ROW(seed), ROW(sample), ROW(pair), ROW(block), ROW(look), ROW(skip), ROW(ask), ROW(take), ROW(give_up), ROW(sample18), ROW(pair18), ROW(block18),
-    ROW(look18), ROW(take18), ROW(list), ROW(legs), ROW(misclosure), ROW(intervals), ROW(window_make_members), ROW(window_push_members),
+    ROW(look18), ROW(take18), ROW(list), ROW(legs), ROW(misclosure), ROW(intervals), ROW(play), ROW(window_make_members), ROW(window_push_members),
     ROW(window_push_all_members), ROW(marks_save_members), ROW(marks_return_members), ROW(marks_drop_members),
 };
 #define ROWS (sizeof CALLS / sizeof CALLS[0])

@@ -10,10 +10,10 @@ typedef struct {
     jabulghi_marks marks;
     int64_t sums[8], millimetres[8];
     size_t sizes[4];
-    uint32_t lines[4], numbers[21];
+    uint32_t lines[6], numbers[23];
 } answers;
 
-static void run(int16_t *samples, int32_t *samples18, uint8_t *bytes, answers *left) {
+static void run(int16_t *samples, int32_t *samples18, uint8_t *bytes, int64_t (*misses)[2], answers *left) {
     static const char job[] = "(seeds (a 2 8 16) (b 2 8 16))\n(sigma 4 10)\n";
     uint32_t *number = left->numbers;
     jabulghi_record *record = &left->record;
@@ -38,6 +38,8 @@ static void run(int16_t *samples, int32_t *samples18, uint8_t *bytes, answers *l
     *number++ = jabulghi_legs(bytes, 0, bytes, 0, &left->sizes[2], &left->sizes[3]);
     *number++ = jabulghi_misclosure(bytes, 0, left->sums, left->millimetres, &left->lines[2]);
     *number++ = jabulghi_intervals(bytes, 0, left->sums + 4, left->millimetres + 4, &left->lines[3]);
+    *number++ = jabulghi_play(bytes, 0, 5, misses, 0, &left->lines[4]);
+    *number++ = jabulghi_play((const uint8_t *)job, sizeof job - 1, 5, misses, 0, &left->lines[5]);
 }
 
 int main(void) {
@@ -45,7 +47,8 @@ int main(void) {
     static int16_t samples[2];
     static int32_t samples18[2];
     static uint8_t bytes[2];
-    run(samples, samples18, bytes, &with);
-    run(NULL, NULL, NULL, &without);
+    static int64_t misses[1][2];
+    run(samples, samples18, bytes, misses, &with);
+    run(NULL, NULL, NULL, NULL, &without);
     puts(memcmp(&with, &without, sizeof with) == 0 ? "alike" : "DIFFERENT");
 }

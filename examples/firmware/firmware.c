@@ -1,5 +1,5 @@
-/* A simulated logger without a system: the shots of a loop, each with noise as a listing has it, drawn shot by shot (less than 1 KB of stack, where
- * jabulghi_list takes 22 KB). It prints over semihosting what `jabulghi list ../loop.job` prints. */
+/* A simulated logger without a system: the shots of a loop, each with noise as a listing has it, drawn shot by shot, so that no text is
+ * kept (jabulghi_list makes the whole listing, in up to 20 KB of memory). It prints over semihosting what `jabulghi list ../loop.job` prints. */
 #include "jabulghi.h"
 #include "semihosting.h"
 

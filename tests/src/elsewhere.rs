@@ -5,7 +5,7 @@ use crate::library::{lent, Lent, Mark};
 use crate::random::Random;
 use crate::sample::Tables;
 use crate::stream::Record;
-use crate::{intervals, legs, listings, marks, misses, wide, windows};
+use crate::{intervals, legs, listings, marks, misses, plays, wide, windows};
 use std::path::Path;
 
 /// A call by its name without `jabulghi_`, the number that it returns, the numbers that it is passed, and its lent memory before and after.
@@ -116,7 +116,7 @@ fn called(tables: &Tables, random: &mut Random) -> Written {
 /// Writes them all into a file, and tells how many there are.
 pub fn write(tables: &Tables, random: &mut Random, file: &Path) {
     type Kind = fn(&Tables, &mut Random) -> Written;
-    let kinds: [(Kind, usize); 10] = [
+    let kinds: [(Kind, usize); 11] = [
         (seed, 200),
         (sample, 1000),
         (called, 3000),
@@ -127,6 +127,7 @@ pub fn write(tables: &Tables, random: &mut Random, file: &Path) {
         (legs::elsewhere, 300),
         (misses::elsewhere, 300),
         (intervals::elsewhere, 300),
+        (plays::elsewhere, 300),
     ];
     let mut out = Vec::new();
     for (kind, count) in kinds {

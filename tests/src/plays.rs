@@ -1,6 +1,7 @@
 //! Many plays of one loop: the library's misses beside the other implementation's, by the texts' way. Each play is a job of the same lines whose seeds are
 //! the registers that many pairs on, listed, and the listing summed.
 use crate::cases::{below, same, Case};
+use crate::elsewhere::Written;
 use crate::job;
 use crate::jump;
 use crate::library::{Lent, Mark};
@@ -160,20 +161,35 @@ pub fn given(tables: &Tables) -> String {
     format!("{} calls for plays written out, by number {numbers:?}", cases.len())
 }
 
+/// A job, the first of its plays, and how many.
+fn of_job(random: &mut Random) -> Plays {
+    let text = chain(random);
+    let shots = (text.split(|&b| b == b'\n').count() as u64).saturating_sub(3).max(1);
+    let first = match random.below(5) {
+        0 => 0,
+        1 => u64::MAX / shots - random.below(6) as u64,
+        2 => random.number(64),
+        _ => random.number(20),
+    };
+    let runs = if shots > 100 { random.below(3) } else { random.below(7) };
+    Plays(text, first, runs)
+}
+
+/// One call, for other processors.
+pub fn elsewhere(tables: &Tables, random: &mut Random) -> Written {
+    let case = std::iter::repeat_with(|| of_job(random)).find(|case| case.0.len() < 4000).unwrap();
+    let Plays(text, first, runs) = &case;
+    let (number, same_text, misses, line) = case.other(tables);
+    let written = Written::new("play", number, &[text.len() as u64, *first, *runs as u64]).lent(&Lent::holding(text), &same_text);
+    written.lent(&Lent::marked(*runs), &misses).lent(&Lent::marked(1), &line)
+}
+
 pub fn plays_of_jobs(tables: &Tables, random: &mut Random) -> String {
     let (count, mut played) = (6000, 0);
     let mut numbers = [0; 24];
     for _ in 0..count {
-        let text = chain(random);
-        let shots = (text.split(|&b| b == b'\n').count() as u64).saturating_sub(3).max(1);
-        let first = match random.below(5) {
-            0 => 0,
-            1 => u64::MAX / shots - random.below(6) as u64,
-            2 => random.number(64),
-            _ => random.number(20),
-        };
-        let runs = if shots > 100 { random.below(3) } else { random.below(7) };
-        let number = same(tables, &Plays(text, first, runs)).0;
+        let case = of_job(random);
+        let (runs, number) = (case.2, same(tables, &case).0);
         numbers[number as usize] += 1;
         played += if number == 0 { runs } else { 0 };
     }
