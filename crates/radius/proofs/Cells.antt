@@ -3,7 +3,7 @@
 use mathlib.Core.Path.{_≡_, refl, ap, _∙_}
 use Prim.Native.Nat.{ℕ, _+_, _-_, _*_, _/_, _%_, _^_, _≤_, _<_}
 use native.Mathlib.Nat.{div-div-eq-div-mul, div-lt-iff-lt-mul, mul-comm, mul-le-mul, mul-le-mul-left, div-add-mod', div-le-self}
-use native.Mathlib.Nat.{div-mul-le-self, mod-lt, mod-eq-of-lt}
+use native.Mathlib.Nat.{div-mul-le-self, mod-lt}
 use native.Mathlib.Omega.{arith}
 use Rattle.tables.specs.Tables.{entryOf}
 use Rattle.reciprocal_lookup.specs.Reciprocals.{reciprocals}
@@ -79,19 +79,10 @@ module _ (M h R : ℕ) (at : h ≡ M / 2 ^ 40) (is : R ≡ entryOf reciprocals 2
   pub shifted-fits : h * (65536 + i) * 2 ^ 24 < 2 ^ 64
   shifted-fits = omega (arith, parts .divisor-small)
 
-  fine-is : i ≡ d / (h * 2 ^ 24)
+  pub fine-is : i ≡ d / (h * 2 ^ 24)
   fine-is =
       by-reciprocal (d / 2 ^ 24) h R is (omega arith) least most
       ∙ div-div-eq-div-mul d (2 ^ 24) h ∙ ap (λ n. d / n) (mul-comm (2 ^ 24) h)
-
-  pub index-is : i % 256 ≡ d / (h * 2 ^ 24)
-  index-is =
-      let le = multiple-below (d / 2 ^ 24) h R is (omega arith) least most in
-      let few : i * 256 ≤ i * h = mul-le-mul-left i least in
-      mod-eq-of-lt (below i h (d / 2 ^ 24) (omega arith) few le) ∙ fine-is
-    where
-      below : (i h x : ℕ) → x < 65536 → i * 256 ≤ i * h → i * h ≤ x → i < 256
-      below i h x small few le = omega arith
 
   pub correction-is : (M - h * (65536 + i) * 2 ^ 24) * 2 ^ 16 / (h * (65536 + i))
       ≡ (d - d / (h * 2 ^ 24) * (h * 2 ^ 24)) * 2 ^ 16 / (h * (65536 + d / (h * 2 ^ 24)))

@@ -7,7 +7,7 @@ use lib.Pow.{pow-mono}
 use Rattle.tables.specs.Tables.{logCoarse, logFine, lnTwo, entryOf}
 use Rattle.radius.specs.Steps.{numberBits, width, numerator, topBit, mantissa, coarseIndex, rest, fineIndex, remainder, correction, logarithm, underRoot}
 use Rattle.radius.specs.NormalForm.{normalOf, logarithmOf, underNormal}
-use Rattle.radius.proofs.StepLaws.{top-bit, top-bit-below, top-below, mantissa-range}
+use Rattle.radius.proofs.StepLaws.{top-bit, top-bit-below, mantissa-range, top-at, mantissa-at}
 
 -- a number of 49 bits is its own M
 module _ (M : ℕ) (least : 2 ^ 48 ≤ M) (most : M < 2 ^ 49) where
@@ -49,7 +49,6 @@ pub under-normal : (k : ℕ) → k < 2 ^ numberBits → underNormal (normalOf k)
 unfolding underNormal normalOf underRoot
 under-normal k h =
     let m : ℕ = numerator k in
-    let top = top-below width m (omega arith) (omega arith) (omega arith) (omega arith) in
-    let range = mantissa-range width m (omega arith) (omega arith) (omega arith) (omega arith) in
-    let both = parts (topBit m) (mantissa width m) (omega (arith, top)) (range .0) (range .1) in
+    let range = mantissa-at k h in
+    let both = parts (topBit m) (mantissa width m) (omega (arith, top-at k h)) (range .0) (range .1) in
     rw (both .0, both .1) (ap (λ n. 2 * n) (logarithm-of m (omega arith) (omega arith)))

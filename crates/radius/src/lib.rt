@@ -128,7 +128,7 @@ struct Cell {
 }
 
 // With d = high × 2^24 + low, i is high / h, by the reciprocal of h, and r is M less 2^24 times the divisor of S. (That h is from 256 to 511
-// and i below 256 is said again, so that the compiler looks up without a test.)
+// is said again, so that the compiler looks up without a test.)
 fn cell_of(scaled: u64) -> Cell
     requires { ⌜ (2 ^ 48 ≤ scaled) × (scaled < 2 ^ 49) ⌝ }
     ensures { λ r. ⌜ (r .coarse ≡ coarseIndex width scaled) × (r .fine ≡ entryOf logFine 0 (fineIndex width scaled)) × (r .correction ≡ correction width scaled) ⌝ }
@@ -139,7 +139,7 @@ fn cell_of(scaled: u64) -> Cell
     let fine = rest / FINE * reciprocal / RECIPROCAL;
     let divisor = coarse * (65536 + fine);
     let remainder = scaled - divisor * FINE;
-    let arm = log_fine_lookup::arm(fine % 256);
+    let arm = log_fine_lookup::arm(fine);
     let guess = about(remainder, reciprocal, arm / INVERSE);
     let correction = quotient(remainder * FRACTION, divisor, guess);
     Cell {

@@ -8,15 +8,15 @@ ghost use Rattle.reciprocal_lookup.specs.Reciprocals.{reciprocals};
 ghost use Rattle.reciprocal_lookup.specs.Private.{arms};
 
 // What the last arm of the match gives: a number that is none of the other arms' is past the reciprocals.
-fn past(n: u64) -> u64
+fn past(n: u64) -> u32
     requires { ⌜ NoKey 256 n ⌝ }
     ensures { λ r. ⌜ r ≡ getD arms n 0 ⌝ }
 {
     0
 }
 
-// The reciprocals of 256 and on.
-fn nth(n: u64) -> u64
+// The reciprocals of 256 and on. (Of numbers of 32 bits a processor of 32 bits has a table too.)
+fn nth(n: u64) -> u32
     ensures { λ r. ⌜ r ≡ getD arms n 0 ⌝ }
 {
     match n {
@@ -288,5 +288,5 @@ pub fn reciprocal(h: u64) -> u64
     if h < 256 {
         return 0;
     }
-    nth(h - 256)
+    nth(h - 256) as u64
 }

@@ -7,7 +7,7 @@ use borrow.Author.Needs.{needs}
 use Rattle.tables.specs.Tables.{entryOf, logFine}
 use Rattle.radius.specs.Steps.{coarseIndex, rest, fineIndex, remainder, correction}
 use Rattle.radius.proofs.NormalForm.{mantissa-again}
-use Rattle.radius.proofs.Cells.{Parts, reciprocal-small, product-fits, sum-fits, divisor-fits, parts, shifted-fits, index-is, correction-is}
+use Rattle.radius.proofs.Cells.{Parts, reciprocal-small, product-fits, sum-fits, divisor-fits, parts, shifted-fits, fine-is, correction-is}
 use Rattle.radius.proofs.cell_of.Statement.{statement}
 use Rattle.radius.proofs.cell_of.Tie as tie
 
@@ -82,7 +82,7 @@ returns c =
       is,
       c .before .before .arm .ensures .1
           ∙ ap (λ n. entryOf logFine 0 n)
-          (index-is (M at) (h at) (R at) is (at .reciprocal .ensures) (omega arith) (omega arith) ∙ ap (λ n. d / (n * 2 ^ 24)) is),
+          (fine-is (M at) (h at) (R at) is (at .reciprocal .ensures) (omega arith) (omega arith) ∙ ap (λ n. d / (n * 2 ^ 24)) is),
       c .quotient .ensures
           ∙ correction-is (M at) (h at) (R at) is (at .reciprocal .ensures) (omega arith) (omega arith)
           ∙ ap (λ n. (d - d / (n * 2 ^ 24) * (n * 2 ^ 24)) * 2 ^ 16 / (n * (65536 + d / (n * 2 ^ 24)))) is,

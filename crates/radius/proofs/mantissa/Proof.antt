@@ -2,8 +2,8 @@
 use native.Mathlib.Nat.{mod-eq-of-lt}
 use native.Mathlib.Omega.{arith}
 use borrow.Author.Needs.{needs}
-use Rattle.radius.specs.Steps.{width, numerator, mantissa}
-use Rattle.radius.proofs.StepLaws.{top-below, mantissa-range}
+use Rattle.radius.specs.Steps.{mantissa}
+use Rattle.radius.proofs.StepLaws.{top-at, mantissa-at}
 use Rattle.radius.proofs.mantissa.Statement.{statement}
 use Rattle.radius.proofs.mantissa.Tie as tie
 
@@ -14,10 +14,7 @@ top-bit-requires : tie.Need-top-bit-requires
 top-bit-requires c κs = search needs
 
 sub-result : tie.Need-sub-result
-sub-result c =
-    let start = c .before .before in
-    let below = top-below width (numerator (start .args .k)) (omega arith) (omega arith) (omega arith) (omega (arith, start .pre)) in
-    omega (arith, below, c .top-bit .ensures .0)
+sub-result c = omega (arith, top-at (c .before .before .args .k) (c .before .before .pre), c .top-bit .ensures .0)
 
 cast-result : tie.Need-cast-result
 cast-result c = search needs
@@ -28,8 +25,7 @@ shl-result c = search needs
 returns : tie.Need-returns
 unfolding mantissa
 returns c =
-    let start = c .before .before in
-    let range = mantissa-range width (numerator (start .args .k)) (omega arith) (omega arith) (omega arith) (omega (arith, start .pre)) in
+    let range = mantissa-at (c .before .before .args .k) (c .before .before .pre) in
     rw (c .before .numerator .ensures, c .top-bit .ensures .0) (mod-eq-of-lt (omega (arith, range .1)))
 
 pub mantissa-spec : {M : Type 1} → statement M

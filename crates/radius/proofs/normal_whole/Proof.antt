@@ -3,9 +3,8 @@ use mathlib.Core.Path.{refl}
 use Prim.Native.Nat.{_%_, _^_, _<_}
 use native.Mathlib.Omega.{arith}
 use borrow.Author.Needs.{needs}
-use Rattle.radius.specs.Steps.{width, numerator}
 use Rattle.radius.specs.NormalForm.{normalOf}
-use Rattle.radius.proofs.StepLaws.{top-below, mantissa-range}
+use Rattle.radius.proofs.StepLaws.{top-at, mantissa-at}
 use Rattle.radius.proofs.normal_whole.Statement.{statement}
 use Rattle.radius.proofs.normal_whole.Tie as tie
 
@@ -13,9 +12,7 @@ top-bit-requires : tie.Need-top-bit-requires
 top-bit-requires c κs = search needs
 
 top : (c : tie.After-top-bit) → c .top-bit .result < 49
-top c =
-    rw (c .top-bit .ensures .0)
-    (top-below width (numerator (c .before .args .k % 2 ^ 48)) (omega arith) (omega arith) (omega arith) (omega arith))
+top c = rw (c .top-bit .ensures .0) (top-at _ (omega arith))
 
 add-exponent : tie.Need-add-exponent
 add-exponent c = omega (arith, top c)
@@ -30,9 +27,7 @@ mantissa-requires : tie.Need-mantissa-requires
 mantissa-requires c κs = search needs
 
 scaled : (c : tie.After-mantissa) → c .mantissa .result < 2 ^ 49
-scaled c =
-    rw (c .mantissa .ensures)
-    (mantissa-range width (numerator (c .before .before .args .k % 2 ^ 48)) (omega arith) (omega arith) (omega arith) (omega arith) .1)
+scaled c = rw (c .mantissa .ensures) (mantissa-at (c .before .before .args .k % 2 ^ 48) (omega arith) .1)
 
 mul-result-2 : tie.Need-mul-result-2
 mul-result-2 c = omega (arith, scaled c)

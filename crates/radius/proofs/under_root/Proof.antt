@@ -3,8 +3,8 @@ use mathlib.Core.Path.{ap}
 use Prim.Native.Nat.{_*_, _%_, _^_, _<_}
 use native.Mathlib.Omega.{arith}
 use borrow.Author.Needs.{needs}
-use Rattle.radius.specs.Steps.{width, numerator, underRoot}
-use Rattle.radius.proofs.StepLaws.{top-below, mantissa-range}
+use Rattle.radius.specs.Steps.{numerator, underRoot}
+use Rattle.radius.proofs.StepLaws.{top-at, mantissa-at}
 use Rattle.radius.proofs.NormalForm.{logarithm-of}
 use Rattle.radius.proofs.under_root.Statement.{statement}
 use Rattle.radius.proofs.under_root.Tie as tie
@@ -13,9 +13,7 @@ top-bit-requires : tie.Need-top-bit-requires
 top-bit-requires c κs = search needs
 
 top : (c : tie.After-top-bit) → c .top-bit .result < 49
-top c =
-    rw (c .top-bit .ensures .0)
-    (top-below width (numerator (c .before .args .k % 2 ^ 48)) (omega arith) (omega arith) (omega arith) (omega arith))
+top c = rw (c .top-bit .ensures .0) (top-at _ (omega arith))
 
 sub-doublings : tie.Need-sub-doublings
 sub-doublings c = omega (arith, top c)
@@ -28,7 +26,7 @@ mantissa-requires c κs = search needs
 
 logarithm-requires : tie.Need-logarithm-requires
 logarithm-requires c κs =
-    let range = mantissa-range width (numerator (c .before .before .args .k % 2 ^ 48)) (omega arith) (omega arith) (omega arith) (omega arith) in
+    let range = mantissa-at (c .before .before .args .k % 2 ^ 48) (omega arith) in
     (omega (arith, top (c .before)), rw (c .mantissa .ensures) (range .0), rw (c .mantissa .ensures) (range .1))
 
 mul-result : tie.Need-mul-result

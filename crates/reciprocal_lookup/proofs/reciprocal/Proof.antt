@@ -13,8 +13,11 @@ returns c = sym (entry-below _ _ _ (omega arith))
 nth-requires : tie.Need-nth-requires
 nth-requires c κs = search needs
 
+cast-result : tie.Need-cast-result
+cast-result c = search needs
+
 returns-2 : tie.Need-returns-2
 returns-2 c = c .nth .ensures ∙ sym (entry-at _ 256 _ (omega arith))
 
 pub reciprocal-spec : {M : Type 1} → statement M
-reciprocal-spec = tie.close (tie.spec returns nth-requires returns-2)
+reciprocal-spec = tie.close (tie.spec returns nth-requires cast-result returns-2)
