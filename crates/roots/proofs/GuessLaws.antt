@@ -35,17 +35,10 @@ again {x} {g₀} {g} {n} {i} {guess} r h below =
         rw (here, getD-set-same g i guess 0 (omega (arith, r .in-g))) below
 
 -- none yet
-pub begun : (x g : List ℕ) {n : ℕ} → n ≡ min (length x) (length g) → Reached x g g n 0
-begun x g e =
-    record {
-      within = omega arith;
-      in-x = omega (arith, e);
-      in-g = omega (arith, e);
-      done = λ j before. absurd (omega arith);
-      rest = refl;
-      kept = refl;
-    }
+pub begun : (x g : List ℕ) {n : ℕ} → n ≤ length x → n ≤ length g → Reached x g g n 0
+begun x g in-x in-g =
+    record { within = omega arith; in-x = in-x; in-g = in-g; done = λ j before. absurd (omega arith); rest = refl; kept = refl }
 
 -- all
-pub ended : {x g₀ g : List ℕ} {n i : ℕ} → n ≡ min (length x) (length g₀) → Reached x g₀ g n i → n ≤ i → Guessed (length x) g₀ g
-ended e r all = record { each = λ j first placed. r .done j (omega (arith, e)); rest = r .rest; size = r .kept }
+pub ended : {x g₀ g : List ℕ} {n i : ℕ} → min (length x) (length g₀) ≤ n → Reached x g₀ g n i → n ≤ i → Guessed (length x) g₀ g
+ended every r all = record { each = λ j first placed. r .done j (omega (arith, every)); rest = r .rest; size = r .kept }

@@ -16,7 +16,7 @@ lesser-requires : tie.Need-lesser-requires Inv-loop μ-loop
 lesser-requires c κs = search needs
 
 loop-holds : tie.Need-loop-holds Inv-loop μ-loop
-loop-holds c = begun _ _ (c .lesser .ensures)
+loop-holds c = begun _ _ (omega (arith, c .lesser .ensures)) (omega (arith, c .lesser .ensures))
 
 mul-near : tie.Need-mul-near Inv-loop μ-loop
 mul-near c = search needs
@@ -47,7 +47,7 @@ same-length : tie.Need-same-length Inv-loop μ-loop
 same-length c = c .before .loop .inv .kept
 
 returns : tie.Need-returns Inv-loop μ-loop
-returns c = ended (c .before .before .lesser .ensures) (c .before .loop .inv) (c .loop-test .left)
+returns c = ended (omega (arith, c .before .before .lesser .ensures)) (c .before .loop .inv) (c .loop-test .left)
 
 pub nears-spec : {M : Type 1} → statement M
 nears-spec =
