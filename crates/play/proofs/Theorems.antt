@@ -16,7 +16,7 @@ use Rattle.streams.proofs.Causes.{count-room}
 use Rattle.streams.proofs.Theorems.{after-moved, moved-sound, seeded, sound-accepted}
 use Rattle.box_muller.specs.Steps.{fractionBits}
 use Rattle.noise.specs.Noise.{samples}
-use Rattle.noise.proofs.Laws.{samples-words, pair-words-drawn}
+use Rattle.noise.proofs.Laws.{samples-words}
 use Rattle.job_lines.specs.Forms.{Form, seeds, sigma, shot, noForm, Printable}
 use Rattle.job_refusals.specs.Limits.{mostShots}
 use Rattle.job_refusals.specs.Refusals.{refusal}
@@ -60,12 +60,8 @@ module _ (g : Generator) (h : Sound g) where
 
   same-samples : (n : ℕ) → g .waiting ≡ 0 → g .count + n ≤ mostCount → samples fractionBits n g ≡ samples fractionBits n (fresh (g .a) (g .b))
   same-samples n none room =
-      rw (
-        samples-words fractionBits n g h none room,
-        pair-words-drawn n g h none room,
-        samples-words fractionBits n (fresh (g .a) (g .b)) fresh-sound refl (omega (arith, room)),
-        pair-words-drawn n (fresh (g .a) (g .b)) fresh-sound refl (omega (arith, room)),
-      )
+      samples-words fractionBits n g h none room
+      ∙ sym (samples-words fractionBits n (fresh (g .a) (g .b)) fresh-sound refl (omega (arith, room)))
 
   same-play : (l : List Shot) (d b : ℕ) → Within l → g .waiting ≡ 0 → g .count + length l ≤ mostCount
       → playedShots (settingOf g d b) l ≡ playedShots (settingOf (fresh (g .a) (g .b)) d b) l
