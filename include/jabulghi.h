@@ -18,10 +18,11 @@
  * would end the program, and an interrupt that makes such a call must save the registers of the floating-point unit.
  *
  * State and threads. The library has no data that is written. Calls on different records, windows and marks may run at once in several threads; on the
- * same one, one after another. A record has 40 bytes, a window 8,224 and a set of marks 960; all calls together are 60 to 90 KB of code and tables.
+ * same one, one after another. A record has 40 bytes, a window 8,224 and a set of marks 960; all calls together are 60 to 100 KB of code and tables.
  *
- * What it needs of a C library and of the compiler's own library (libgcc or compiler-rt):
+ * What it needs at most of a C library and of the compiler's own library (libgcc or compiler-rt):
  *   on x86_64, aarch64, riscv64: memcpy, memset
+ *   on x86_64-windows: memcpy, memset, ___chkstk_ms
  *   on armv7: memcpy, memset, __aeabi_uldivmod
  *   on thumbv6m: __aeabi_memcpy, __aeabi_memcpy4, __aeabi_memcpy8, __aeabi_memclr, __aeabi_memclr4, __aeabi_memclr8, __aeabi_uldivmod, __aeabi_lmul, __aeabi_llsl, __clzsi2, __aeabi_dadd, __aeabi_dsub, __aeabi_dmul, __aeabi_dcmplt
  *   on thumbv7m, thumbv7em, thumbv7em-hf, thumbv8m, thumbv8m-hf: __aeabi_memcpy, __aeabi_memcpy4, __aeabi_memcpy8, __aeabi_memclr, __aeabi_memclr4, __aeabi_memclr8, __aeabi_uldivmod, __aeabi_dadd, __aeabi_dsub, __aeabi_dmul, __aeabi_dcmplt
@@ -182,6 +183,19 @@ static inline uint32_t jabulghi_window_push_all(jabulghi_window *window, const i
  * place alone. */
 typedef struct jabulghi_marks { uint32_t used[16], length[16]; uint8_t names[16][12]; jabulghi_record records[16]; } jabulghi_marks;
 
+/* The sizes that the library counts on. */
+#if defined(__cplusplus) && __cplusplus >= 201103L
+#define JABULGHI_HAS_BYTES(type, bytes) static_assert(sizeof(type) == bytes, #type " has not " #bytes " bytes")
+#elif !defined(__cplusplus) && defined(__STDC_VERSION__) && __STDC_VERSION__ >= 201112L
+#define JABULGHI_HAS_BYTES(type, bytes) _Static_assert(sizeof(type) == bytes, #type " has not " #bytes " bytes")
+#else
+#define JABULGHI_HAS_BYTES(type, bytes) typedef char type##_has_##bytes##_bytes[sizeof(type) == bytes ? 1 : -1]
+#endif
+JABULGHI_HAS_BYTES(jabulghi_record, 40);
+JABULGHI_HAS_BYTES(jabulghi_window, 8224);
+JABULGHI_HAS_BYTES(jabulghi_marks, 960);
+#undef JABULGHI_HAS_BYTES
+
 /* The exported functions take a set's members one by one, for any language; from C and C++ use the inline functions below. used, lengths: 16 elements;
  * names: 192; records: 16. */
 uint32_t jabulghi_marks_save_members(uint32_t *used, uint32_t *lengths, uint8_t *names, jabulghi_record *records, const jabulghi_record *record,
@@ -224,19 +238,6 @@ uint32_t jabulghi_misclosure(const uint8_t *text, size_t text_length, int64_t *s
  * Refused: 6, 24, 25 (low above high), 23; each of the two calls refuses the other's header with 6 and line 1. sums and millimetres: 4 elements
  * each, east low, east high, north low, north high. */
 uint32_t jabulghi_intervals(const uint8_t *text, size_t text_length, int64_t *sums, int64_t *millimetres, uint32_t *line);
-
-/* The sizes that the library counts on. */
-#if defined(__cplusplus) && __cplusplus >= 201103L
-#define JABULGHI_HAS_BYTES(type, bytes) static_assert(sizeof(type) == bytes, #type " has not " #bytes " bytes")
-#elif !defined(__cplusplus) && defined(__STDC_VERSION__) && __STDC_VERSION__ >= 201112L
-#define JABULGHI_HAS_BYTES(type, bytes) _Static_assert(sizeof(type) == bytes, #type " has not " #bytes " bytes")
-#else
-#define JABULGHI_HAS_BYTES(type, bytes) typedef char type##_has_##bytes##_bytes[sizeof(type) == bytes ? 1 : -1]
-#endif
-JABULGHI_HAS_BYTES(jabulghi_record, 40);
-JABULGHI_HAS_BYTES(jabulghi_window, 8224);
-JABULGHI_HAS_BYTES(jabulghi_marks, 960);
-#undef JABULGHI_HAS_BYTES
 
 #ifdef __cplusplus
 }

@@ -6,7 +6,7 @@
 #include <ucontext.h>
 
 #define PAINT 0xA5
-static unsigned char stack[1 << 20];
+static unsigned char stack[1 << 20] __attribute__((aligned(16)));
 static ucontext_t here, there;
 
 static jabulghi_record record, unfit;

@@ -1,4 +1,4 @@
-/* What tests/stack.c needs of <ucontext.h> where there is no system: a call on another stack. */
+/* What tests/stack.c needs of <ucontext.h>, for ARM and RISC-V of 32 bits, also without a system: a call on another stack. */
 #include <stddef.h>
 typedef struct ucontext { struct { void *ss_sp; size_t ss_size; } uc_stack; struct ucontext *uc_link; void (*call)(void); } ucontext_t;
 

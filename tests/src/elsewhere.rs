@@ -4,6 +4,7 @@ use crate::inputs;
 use crate::library::{lent, Lent, Mark};
 use crate::random::Random;
 use crate::sample::Tables;
+use crate::stream::Record;
 use crate::{intervals, legs, listings, marks, misses, wide, windows};
 use std::path::Path;
 
@@ -73,33 +74,43 @@ fn sample(tables: &Tables, random: &mut Random) -> Written {
     Written::new("sample", number, &[k, v.into()]).lent(&Lent::marked(2), &samples)
 }
 
-/// A call on a record of any kind.
+/// A record for a call that takes a request, or for one that waits until none is open; one in three is of any kind.
+pub fn record(random: &mut Random, takes: bool) -> Record {
+    let any = inputs::noted(random, 20);
+    match (random.one_in(3), takes) {
+        (true, _) => any,
+        (false, true) => Record { open: 1, asked: random.below(100) as u32, ..any },
+        (false, false) => Record { open: 0, asked: 0, ..any },
+    }
+}
+
+/// The length of a block, mostly even; of one that is to be taken, mostly two for each pair that was asked for.
+pub fn length(random: &mut Random, record: &Record, takes: bool) -> usize {
+    if takes && record.asked < 400 && !random.one_in(5) {
+        return 2 * record.asked as usize;
+    }
+    2 * random.below(100) + usize::from(random.one_in(6))
+}
+
+/// A call on a record.
 fn called(tables: &Tables, random: &mut Random) -> Written {
-    let record = inputs::noted(random, 20);
-    let just = 2 * record.asked.min(400) as usize;
-    let (name, n, call) = match random.below(9) {
-        0 => ("pair", 0, Call::Pair),
-        1 => ("give_up", 0, Call::GiveUp),
-        2 => of_length("block", Call::Block, random.below(200)),
-        3 => of_length("look", Call::Look, random.below(200)),
-        4 => of_length("take", Call::Take, random.below(40)),
-        5 => of_length("take", Call::Take, just),
-        6 => of_length("block", Call::Block, 2 * random.below(200)),
-        7 => {
-            let n = inputs::n(random);
-            ("skip", n, Call::Skip(n))
-        }
-        _ => {
-            let n = [random.below(30) as u32, 1_000_000, 1_000_001, random.number(32) as u32][random.below(4)];
-            ("ask", n.into(), Call::Ask(n))
-        }
+    let name = *random.of(&["pair", "block", "block", "look", "take", "take", "skip", "ask", "give_up"]);
+    let takes = name == "take" || name == "give_up";
+    let record = record(random, takes);
+    let length = length(random, &record, takes);
+    let asked = [random.below(30) as u32, 1_000_000, 1_000_001, random.number(32) as u32][random.below(4)];
+    let skipped = inputs::n(random);
+    let (n, call) = match name {
+        "pair" => (0, Call::Pair),
+        "block" => (length as u64, Call::Block(length)),
+        "look" => (length as u64, Call::Look(length)),
+        "take" => (length as u64, Call::Take(length)),
+        "ask" => (asked.into(), Call::Ask(asked)),
+        "give_up" => (0, Call::GiveUp),
+        _ => (skipped, Call::Skip(skipped)),
     };
     let (number, next, out) = Called(record, call).other(tables);
     Written::new(name, number, &[n]).lent(&lent(&record), &next).lent(&Lent::marked(call.length()), &out)
-}
-
-fn of_length(name: &'static str, call: fn(usize) -> Call, length: usize) -> (&'static str, u64, Call) {
-    (name, length as u64, call(length))
 }
 
 /// Writes them all into a file, and tells how many there are.

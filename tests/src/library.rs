@@ -19,8 +19,11 @@ const MARGIN: usize = 8;
 
 pub trait Mark: Copy + PartialEq + fmt::Debug {
     fn mark(place: usize) -> Self;
-    /// Lowest byte first.
-    fn bytes(self) -> Vec<u8>;
+    /// Its bytes, lowest first as on x86-64.
+    fn bytes(self) -> Vec<u8> {
+        let start: *const Self = &self;
+        unsafe { std::slice::from_raw_parts(start.cast::<u8>(), size_of::<Self>()) }.to_vec()
+    }
     fn show(elements: &[Self]) -> String {
         format!("{elements:?}")
     }
@@ -29,16 +32,10 @@ impl Mark for i16 {
     fn mark(place: usize) -> i16 {
         (place * 30011 + 0x5AA5) as i16
     }
-    fn bytes(self) -> Vec<u8> {
-        self.to_le_bytes().to_vec()
-    }
 }
 impl Mark for u32 {
     fn mark(place: usize) -> u32 {
         (place as u32 + 1).wrapping_mul(0x9E3779B1)
-    }
-    fn bytes(self) -> Vec<u8> {
-        self.to_le_bytes().to_vec()
     }
     /// Ten words are a record.
     fn show(elements: &[u32]) -> String {

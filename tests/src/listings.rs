@@ -27,16 +27,10 @@ impl Mark for u8 {
     fn mark(place: usize) -> u8 {
         (place * 89 + 0xA5) as u8
     }
-    fn bytes(self) -> Vec<u8> {
-        vec![self]
-    }
 }
 impl Mark for usize {
     fn mark(place: usize) -> usize {
         (place + 1).wrapping_mul(0x9E3779B97F4A7C15)
-    }
-    fn bytes(self) -> Vec<u8> {
-        self.to_le_bytes().to_vec()
     }
 }
 

@@ -1,8 +1,8 @@
 //! Listings, whole and damaged, through the call and the program that tell how far their loop misses.
 use crate::cases::{same, Case};
 use crate::elsewhere::Written;
-use crate::library::Lent;
 use crate::job;
+use crate::library::Lent;
 use crate::misclosure::{miss, Miss, FARTHEST, HEADER, SHOTS};
 use crate::program::{failures, run, writes};
 use crate::random::Random;

@@ -1,7 +1,7 @@
 //! Document 02, Job 8: samples of 18 bits, in the calls whose names end so. Numbers and records are those of the same call in 16 bits; the samples are
 //! worked out afresh from the streams.
 use crate::cases::{below, records, same, Case};
-use crate::elsewhere::Written;
+use crate::elsewhere::{self, Written};
 use crate::inputs;
 use crate::library::{lent, record_of, Lent, Mark};
 use crate::random::Random;
@@ -19,9 +19,6 @@ extern "C" {
 impl Mark for i32 {
     fn mark(place: usize) -> i32 {
         (place as i32 + 1).wrapping_mul(0x5F356495)
-    }
-    fn bytes(self) -> Vec<u8> {
-        self.to_le_bytes().to_vec()
     }
 }
 
@@ -117,12 +114,8 @@ pub fn elsewhere(tables: &Tables, random: &mut Random) -> Written {
         return Written::new("sample18", number, &[k, v.into()]).lent(&Lent::marked(2), &samples);
     }
     let (name, kind) = *random.of(&[("pair18", Kind::Pair), ("block18", Kind::Block), ("look18", Kind::Look), ("take18", Kind::Take)]);
-    let record = inputs::noted(random, 20);
-    let length = match kind {
-        Kind::Pair => 2,
-        Kind::Take if record.asked < 300 => 2 * record.asked as usize,
-        _ => random.below(140),
-    };
+    let record = elsewhere::record(random, kind == Kind::Take);
+    let length = if kind == Kind::Pair { 2 } else { elsewhere::length(random, &record, kind == Kind::Take) };
     let (number, next, out) = Called18(record, kind, length).other(tables);
     Written::new(name, number, &[length as u64]).lent(&lent(&record), &next).lent(&Lent::marked(length), &out)
 }

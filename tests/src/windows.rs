@@ -65,9 +65,6 @@ impl Mark for i64 {
     fn mark(place: usize) -> i64 {
         (place as i64 + 1).wrapping_mul(0x5851F42D4C957F2D)
     }
-    fn bytes(self) -> Vec<u8> {
-        self.to_le_bytes().to_vec()
-    }
 }
 
 /// One sample, or many at once.
