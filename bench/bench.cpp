@@ -37,7 +37,7 @@ struct Unit {
     const char *name;
     double in_a_second;
 };
-static const Unit A_SAMPLE = {"ns a sample", 1e9}, A_WIDE_SAMPLE = A_SAMPLE, A_PAIR = {"ns a pair", 1e9}, A_CALL = {"µs a call", 1e6}, A_PUSH = {"ns a push", 1e9};
+static const Unit A_SAMPLE = {"ns a sample", 1e9}, A_WIDE_SAMPLE = A_SAMPLE, A_PAIR = {"ns a pair", 1e9}, A_CALL = {"µs a call", 1e6}, A_PUSH = {"ns a push", 1e9}, A_PLAY = {"µs a play", 1e6};
 
 // One of those that take turns: what its time is of and how many of these a run has; then the seconds of one, least first.
 struct Contestant {
@@ -176,6 +176,60 @@ static void add_job(Contestants &all) {
     };
     if (list() != JABULGHI_OK) fail("the job");
     all.push_back({"`jabulghi_list`, a job of 500 shots", A_CALL, 1, list});
+}
+
+// Plays of a loop of 40 legs, beside the texts' way: the job written with the play's registers, listed, and the listing summed.
+static const size_t LEGS = 40, PLAYS = 1000;
+static const std::string PLAY = "`jabulghi_play`, a loop of " + std::to_string(LEGS) + " legs";
+static const std::string BY_TEXTS = "the same by `jabulghi_list` and `jabulghi_misclosure` of a job a play";
+static int64_t misses[PLAYS][2];
+
+static std::string loop_after(const jabulghi_record &r) {
+    char seeds[100];
+    snprintf(seeds, sizeof seeds, "(seeds (a %u %u %u) (b %u %u %u))\n(sigma 4 10)\n", r.a[0], r.a[1], r.a[2], r.b[0], r.b[1], r.b[2]);
+    static std::string shots;
+    if (shots.empty()) {
+        for (size_t leg = 0; leg < LEGS; leg++) {
+            shots += "(shot A" + std::to_string(leg) + " A" + std::to_string((leg + 1) % LEGS) + " 12345 " + std::to_string(leg * 65536 / LEGS) + ")\n";
+        }
+    }
+    return seeds + shots;
+}
+
+static void play(uint64_t first, size_t runs) {
+    static const std::string text = loop_after(seeded());
+    uint32_t line;
+    if (jabulghi_play((const uint8_t *)text.data(), text.size(), first, misses, runs, &line) != JABULGHI_OK) fail("plays");
+}
+
+static void play_by_texts(jabulghi_record &record, int64_t *millimetres) {
+    static uint8_t listing[JABULGHI_LISTING_ROOM];
+    std::string text = loop_after(record);
+    uint32_t line;
+    size_t length;
+    int64_t sums[2];
+    jabulghi_list((const uint8_t *)text.data(), text.size(), listing, sizeof listing, &line, &length);
+    if (jabulghi_misclosure(listing, length, sums, millimetres, &line) != JABULGHI_OK) fail("a play by texts");
+    jabulghi_skip(&record, LEGS);
+}
+
+static void check_plays() {
+    jabulghi_record record = seeded();
+    play(0, 50);
+    for (size_t j = 0; j < 50; j++) {
+        int64_t expected[2];
+        play_by_texts(record, expected);
+        if (memcmp(misses[j], expected, sizeof expected) != 0) fail("plays and texts");
+    }
+}
+
+static void add_plays(Contestants &all) {
+    all.push_back({PLAY, A_PLAY, (double)PLAYS, [] { play(0, PLAYS); }});
+    all.push_back({BY_TEXTS, A_PLAY, 10, [] {
+        static jabulghi_record record = seeded();
+        int64_t millimetres[2];
+        for (int j = 0; j < 10; j++) play_by_texts(record, millimetres);
+    }});
 }
 
 // From count 0, so that none is refused; beside a skip the same pairs drawn.
@@ -387,6 +441,7 @@ static Contestants contestants() {
     add_others(all);
     add_pairs(all);
     add_job(all);
+    add_plays(all);
     add_skips(all, {UINT64_MAX, 1000});
     add_thousand(all);
     add_windows(all);
@@ -428,6 +483,7 @@ int main(int argc, char **argv) {
     check_skips();
     check_wide();
     check_windows();
+    check_plays();
     Contestants all = sheet ? of_sheet() : contestants();
     check_spread(all);
     all.push_back({"a fixed loop", A_CALL, 1, calibrate});
@@ -445,6 +501,9 @@ int main(int argc, char **argv) {
     const Contestant *eighteen = named(all, WIDE);
     printf("\nA block of samples of 18 bits takes %.2f of the time of one of 16 bits by the least and %.2f by the median.\n",
            eighteen->least() / all[0].least(), eighteen->median() / all[0].median());
+    const Contestant *play = named(all, PLAY), *texts = named(all, BY_TEXTS);
+    printf("\nA play takes %.2f times a block's sample a leg by the least and %.2f by the median (4 at most), and the texts' way %.1f times as long.\n",
+           play->least() / LEGS / all[0].least(), play->median() / LEGS / all[0].median(), texts->least() / play->least());
     printf("\nSamples of others are rounded to i16, in units of 2^-11. All take turns; a time is the least or the median of %d short runs.\n"
            "To draw 2^64 - 1 pairs by blocks of %zu would take %.0f years.\n",
            RUNS, LENGTH, 2 * all[0].least() * UINT64_MAX / (365.25 * 86400));

@@ -35,6 +35,7 @@
  *   1,536 bytes: jabulghi_block18, jabulghi_look18, jabulghi_take18
  *   2,048 bytes: jabulghi_block, jabulghi_look, jabulghi_take, jabulghi_skip
  *   4,096 bytes: jabulghi_marks_save, jabulghi_marks_return, jabulghi_marks_drop
+ *   8,192 bytes: jabulghi_play
  *   24,576 bytes: jabulghi_list */
 #ifndef JABULGHI_H
 #define JABULGHI_H
@@ -238,6 +239,15 @@ uint32_t jabulghi_misclosure(const uint8_t *text, size_t text_length, int64_t *s
  * Refused: 6, 24, 25 (low above high), 23; each of the two calls refuses the other's header with 6 and line 1. sums and millimetres: 4 elements
  * each, east low, east high, north low, north high. */
 uint32_t jabulghi_intervals(const uint8_t *text, size_t text_length, int64_t *sums, int64_t *millimetres, uint32_t *line);
+
+/* How far a loop misses in each of many plays. The text is a job as jabulghi_list takes it, its shots a loop. misses[i] is east and north of play
+ * first + i, in millimetres as jabulghi_misclosure rounds them. Play j starts j times the shots pairs on from the job's seeds, so that plays share no
+ * pair, and any stretch of plays can run alone; nothing is kept after the call. Play j is what jabulghi_misclosure gives for the listing of the job with
+ * the same lines and, as seeds, the registers of its record. Accepted, line is 0. Refused as the job is (5, 6, 8, 9, 7, 11, 12, line as there); then 23
+ * with the line of the first shot that does not start where the one before ended; then 13 with line 0 where the pairs of all plays up to first + runs
+ * would pass 2^64 - 1. Refused, misses stays. 0 runs and a job without shots are accepted; without shots each miss is 0, 0. That the last shot ends
+ * where the first started is not tested. */
+uint32_t jabulghi_play(const uint8_t *text, size_t text_length, uint64_t first, int64_t (*misses)[2], size_t runs, uint32_t *line);
 
 #ifdef __cplusplus
 }

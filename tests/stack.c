@@ -17,7 +17,7 @@ static int32_t samples18[4096];
 static uint8_t text[60001], listing[JABULGHI_LISTING_ROOM], shots[60000];
 static size_t text_length, length, line_of_legs;
 static uint32_t line;
-static int64_t sums[4], millimetres[4];
+static int64_t sums[4], millimetres[4], misses[3][2];
 
 static size_t depth(void (*call)(void)) {
     size_t untouched = 0;
@@ -42,6 +42,7 @@ static void set_text(const char *head, const char *row, const char *end) {
     text_length = (size_t)(at - (char *)text);
 }
 static void set_job(void) { set_text("(seeds (a 2 8 16) (b 2 8 16))\n(sigma 1000 1000)\n", "(shot ABCDEFGHIJKL MNOPQRSTUVWX 1000000 65535)\n", ""); }
+static void set_loop(void) { set_text("(seeds (a 2 8 16) (b 2 8 16))\n(sigma 1000 1000)\n", "(shot ABCDEFGHIJKL ABCDEFGHIJKL 1000000 65535)\n", ""); }
 static void set_survey(void) { set_text("*data normal from to tape compass clino\n", "ABCDEFGHIJKL\tMNOPQRSTUVWX 0999.999 0359.99 0 ; c\n", ""); }
 static void set_listing(void) { set_text("FROM TO MM STEP\n", "ABCDEFGHIJKL ABCDEFGHIJKL 1008242 65535\n", "END 500\n"); }
 static void set_readings(void) { set_text("FROM TO LOW HIGH STEP\n", "ABCDEFGHIJKL ABCDEFGHIJKL 1008241 1008242 65535\n", "END 500\n"); }
@@ -79,6 +80,7 @@ static void list(void) { jabulghi_list(text, text_length, listing, sizeof listin
 static void legs(void) { jabulghi_legs(text, text_length, shots, sizeof shots, &line_of_legs, &length); }
 static void misclosure(void) { jabulghi_misclosure(text, text_length, sums, millimetres, &line); }
 static void intervals(void) { jabulghi_intervals(text, text_length, sums, millimetres, &line); }
+static void play(void) { jabulghi_play(text, text_length, 1000000007, misses, 3, &line); }
 static void window_make(void) { jabulghi_window_make(&window, 4096); }
 static void window_push(void) { jabulghi_window_push(&window, -32768); }
 static void window_push_all(void) { jabulghi_window_push_all(&window, samples, 4096); }
@@ -96,6 +98,7 @@ static const struct { const char *name; void (*set)(void), (*call)(void); } CALL
     {"jabulghi_list", set_job, list}, {"jabulghi_list", set_none, list}, {"jabulghi_legs", set_survey, legs}, {"jabulghi_legs", set_none, legs},
     {"jabulghi_misclosure", set_listing, misclosure}, {"jabulghi_misclosure", set_none, misclosure},
     {"jabulghi_intervals", set_readings, intervals}, {"jabulghi_intervals", set_none, intervals},
+    {"jabulghi_play", set_loop, play}, {"jabulghi_play", set_job, play},
     {"jabulghi_window_make", set_window, window_make}, {"jabulghi_window_push", set_window, window_push},
     {"jabulghi_window_push_all", set_window, window_push_all}, {"jabulghi_marks_save", set_marks, marks_save},
     {"jabulghi_marks_return", set_marks, marks_return}, {"jabulghi_marks_drop", set_marks, marks_drop},

@@ -18,6 +18,7 @@ mod listings;
 mod marks;
 mod misclosure;
 mod misses;
+mod plays;
 mod program;
 mod random;
 mod readings;
@@ -49,8 +50,10 @@ fn main() {
     }
     println!("the other implementation gives document 01's readings and example; inputs from seed {seed}");
     type Group = fn(&Tables, &mut Random) -> String;
-    let edges: [fn(&Tables) -> String; 10] =
-        [edges::cells, edges::records, edges::lengths, skips::given, counts::given, marks::given, listings::given, windows::given, misses::given, intervals::given];
+    let edges: [fn(&Tables) -> String; 11] = [
+        edges::cells, edges::records, edges::lengths, skips::given, counts::given, marks::given, listings::given, windows::given, misses::given,
+        intervals::given, plays::given,
+    ];
     for group in edges {
         println!("{}, all equal", group(&tables));
     }
@@ -61,6 +64,7 @@ fn main() {
     let groups = groups.chain([wide::samples as Group, wide::runs, windows::pushes, windows::runs]);
     let groups = groups.chain([legs::calls as Group, legs::program, legs::peer]);
     let groups = groups.chain([misses::listings as Group, misses::program, intervals::listings, intervals::program]);
+    let groups = groups.chain([plays::plays_of_jobs as Group]);
     for (j, group) in groups.enumerate() {
         let start = Instant::now();
         let said = group(&tables, &mut Random(seed ^ (j as u64) << 56));

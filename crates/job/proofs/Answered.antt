@@ -16,7 +16,7 @@ use Rattle.job.specs.Job.{printed, settingAfter}
 use Rattle.job_lines.specs.Forms.{readLine}
 use Rattle.job_refusals.specs.Refusals.{refusal}
 use Rattle.listing_writer.specs.Listing.{header, endRow, refusedRow}
-use Rattle.job.specs.declared.state.Setting.{Setting}
+use Rattle.job.specs.declared.setting.Setting.{Setting}
 use Rattle.text.specs.Scan.{lines}
 use Rattle.job.specs.Private.{Wrote}
 use Rattle.job.specs.declared.JobAnswer.{JobAnswer}

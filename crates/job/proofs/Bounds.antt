@@ -22,7 +22,7 @@ use Rattle.text.proofs.Decimal.{decimal-length}
 use Rattle.job.specs.Private.{Steady, rowLength}
 use Rattle.job_refusals.specs.Refusals.{formless, misplaced, refusal}
 use Rattle.job.specs.Job.{settingAfter, printed}
-use Rattle.job.specs.declared.state.Setting.{Setting}
+use Rattle.job.specs.declared.setting.Setting.{Setting}
 use Rattle.job_refusals.proofs.Accepted.{accepted-line, line-few, sigma-within, shot-within}
 use Rattle.listing_writer.proofs.Rows.{row-length}
 use Rattle.job.proofs.Names.{names-short}

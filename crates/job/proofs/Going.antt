@@ -20,7 +20,7 @@ use Rattle.listing_writer.specs.Listing.{header, endRow}
 use Rattle.job_refusals.specs.Refusals.{refusal}
 use Rattle.job.specs.Job.{Outcome, refused, listed, onto, outcome, start, listingOf, settingAfter, printed}
 use Rattle.job.specs.Private.{refusedState, nextState, acceptedState, acceptedBuffer, takenOf, bufferOf, Going, Ended, Wrote}
-use Rattle.job.specs.declared.state.Setting.{Setting}
+use Rattle.job.specs.declared.setting.Setting.{Setting}
 use Rattle.job.specs.declared.state.State.{State}
 use Rattle.job.proofs.Bounds.{steps}
 use Rattle.listing_writer.proofs.Rows.{header-length, end-length}

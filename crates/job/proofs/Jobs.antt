@@ -31,7 +31,7 @@ use Rattle.listing_writer.specs.Listing.{header, endRow}
 use Rattle.job_refusals.specs.Refusals.{formless, refusal}
 use Rattle.job.specs.Job.{Outcome, refused, listed, onto, outcome, start, listingOf, settingAfter, printed}
 use Rattle.job.specs.Theorems.{textOf, rows, Accepts}
-use Rattle.job.specs.declared.state.Setting.{Setting}
+use Rattle.job.specs.declared.setting.Setting.{Setting}
 use Rattle.job_lines.proofs.RoundTrip.{all-marks, read-printed, printed-read}
 use Rattle.job.proofs.Going.{outcome-yes, outcome-no}
 
@@ -58,7 +58,7 @@ line-printed (shot from to d b) rest h =
 line-printed noForm rest h = absurd h
 
 -- the lines of the text that says a list of forms
-lines-text : (k : ℕ) (xs : List Form) → Accepts k xs → lines (textOf xs) ≡ map printLine xs
+pub lines-text : (k : ℕ) (xs : List Form) → Accepts k xs → lines (textOf xs) ≡ map printLine xs
 unfolding textOf Accepts lines
 lines-text k [] h = refl
 lines-text k (x ∷ xs) h =

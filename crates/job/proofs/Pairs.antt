@@ -59,28 +59,28 @@ later-shots (x ∷ xs) k h n (p, e, a) =
 
 -- the registers that accepted seeds give, and their pairs
 module _ (a0 a1 a2 b0 b1 b2 : ℕ) (e : refusal 1 (seeds a0 a1 a2 b0 b1 b2) ≡ 0) where
-  abbrev one : Stream
-  one = record { s0 = a0; s1 = a1; s2 = a2 }
+  abbrev pub streamA : Stream
+  streamA = record { s0 = a0; s1 = a1; s2 = a2 }
 
-  abbrev two : Stream
-  two = record { s0 = b0; s1 = b1; s2 = b2 }
+  abbrev pub streamB : Stream
+  streamB = record { s0 = b0; s1 = b1; s2 = b2 }
 
   code-0 : seedOf a0 a1 a2 b0 b1 b2 .code ≡ 0
   unfolding seedCode
   code-0 = accepted-line 1 (seeds a0 a1 a2 b0 b1 b2) e .fit
 
-  sound : (seedOf a0 a1 a2 b0 b1 b2 .next ≡ fresh one two) × Sound (fresh one two)
-  sound =
+  pub seeds-sound : (seedOf a0 a1 a2 b0 b1 b2 .next ≡ fresh streamA streamB) × Sound (fresh streamA streamB)
+  seeds-sound =
       let ((x0, x1, x2), (y0, y1, y2)) = seeds-within a0 a1 a2 b0 b1 b2 (accepted-line 1 (seeds a0 a1 a2 b0 b1 b2) e .ranged) in
-      seeded one two
+      seeded streamA streamB
       (record { s0-range = omega arith; s1-range = omega arith; s2-range = omega arith })
       (record { s0-range = omega arith; s1-range = omega arith; s2-range = omega arith })
       code-0
 
   accepts-pairs : (n : ℕ) → n ≤ lastLine → pairOf fractionBits (after n (seedOf a0 a1 a2 b0 b1 b2 .next)) .code ≡ 0
   accepts-pairs n h =
-      let (same, s) = sound in
-      rw same (pair-accepted fractionBits n (fresh one two) s refl (omega arith))
+      let (same, s) = seeds-sound in
+      rw same (pair-accepted fractionBits n (fresh streamA streamB) s refl (omega arith))
 
 -- a listed job by its first two lines
 module _ (text bytes : List ℕ) (xs : List Form) (r : Shots 3 xs) where

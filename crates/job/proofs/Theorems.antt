@@ -18,7 +18,7 @@ use Rattle.job_refusals.specs.Refusals.{formless, misplaced, tooMany, beyond, s
 use Rattle.job.specs.Job.{Outcome, refused, listed, onto, outcome, start, listingOf, jobOf, answerOf, settingAfter, printed}
 use Rattle.job.specs.Theorems.{Theorems, Accepts, textOf, rows, isShot, shots, Drawn}
 use Rattle.job.specs.Private.{Steady, rowLength}
-use Rattle.job.specs.declared.state.Setting.{Setting}
+use Rattle.job.specs.declared.setting.Setting.{Setting}
 use Rattle.job.specs.declared.JobAnswer.{JobAnswer}
 use Rattle.listing_writer.proofs.Rows.{header-length, end-length}
 use Rattle.job_refusals.proofs.Refused.{seed-apart}

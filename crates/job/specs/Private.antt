@@ -16,7 +16,7 @@ use Rattle.job_refusals.specs.Refusals.{refusal}
 use Rattle.listing_writer.specs.Listing.{noisyRow}
 use Rattle.job.specs.Job.{Outcome, refused, listed, onto, outcome, listingOf, printed, settingAfter}
 use Rattle.noise.specs.declared.PairAnswer.{PairAnswer}
-use Rattle.job.specs.declared.state.Setting.{Setting}
+use Rattle.job.specs.declared.setting.Setting.{Setting}
 use Rattle.job.specs.declared.state.State.{State}
 use Rattle.job.specs.declared.JobAnswer.{JobAnswer}
 

@@ -15,7 +15,7 @@ use Rattle.job_lines.specs.Forms.{Form, seeds, sigma, shot, noForm, readLine, p
 use Rattle.listing_writer.specs.Listing.{header, endRow, noisyRow}
 use Rattle.job_refusals.specs.Refusals.{refusal}
 use Rattle.job.specs.Job.{refused, listed, start, jobOf, answerOf, printed, settingAfter}
-use Rattle.job.specs.declared.state.Setting.{Setting}
+use Rattle.job.specs.declared.setting.Setting.{Setting}
 
 -- the text that says these forms, a line each
 unfoldable pub textOf : List Form → List ℕ

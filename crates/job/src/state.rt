@@ -1,28 +1,17 @@
 // A job, line by line: what each accepted line does to the state.
+use crate::setting::Setting;
+use crate::setting::settle;
 use crate::shot::print_shot;
 use job_lines::Line;
-use job_lines::Seeds;
 use job_lines::Shot;
-use job_lines::Sigma;
 use job_lines::read_line;
-use job_refusals::line_code;
-use job_refusals::seeds::seeds_answer;
-use streams::Generator;
 ghost use Prim.Native.Nat.{_≤_};
 ghost use mathlib.Core.Path.{_≡_};
-ghost use Rattle.buffer.specs.Buffer.{written, positionAfter};
 ghost use Rattle.job_refusals.specs.Limits.{lastLine};
-ghost use Rattle.job_lines.specs.Forms.{seedsIn, sigmaIn, shotIn, said, readLine};
+ghost use Rattle.job_lines.specs.Forms.{shotIn, said, readLine};
 ghost use Rattle.job_refusals.specs.Refusals.{refusal};
-ghost use Rattle.job.specs.Job.{settingAfter};
+ghost use Rattle.job.specs.Job.{settingOn};
 ghost use Rattle.job.specs.Private.{refusedState, nextState, acceptedState, acceptedBuffer, takenOf, bufferOf};
-
-// What the shots to come are printed with: the generator record and the sigmas.
-pub struct Setting {
-    pub generator: Generator,
-    pub distance: u32,
-    pub bearing: u32,
-}
 
 // The refusal code of a line, 0 while all are accepted; the number of the next line, or of that one; the listing's length so far; the setting.
 pub struct State {
@@ -57,35 +46,6 @@ fn next_state(line: u32, used: usize, setting: Setting) -> State
     }
 }
 
-fn on_seeds(x: Seeds, s: State) -> State
-    requires { ⌜ refusal (s .line) (seedsIn x) ≡ 0 ⌝ }
-    ensures { λ r. ⌜ r ≡ nextState (s .line) (s .used) (settingAfter (seedsIn x) (s .setting)) ⌝ }
-{
-    let old = s.setting;
-    let answer = seeds_answer(x);
-    let generator = answer.next;
-    let setting = Setting {
-        generator,
-        distance: old.distance,
-        bearing: old.bearing,
-    };
-    next_state(s.line, s.used, setting)
-}
-
-fn on_sigma(x: Sigma, s: State) -> State
-    requires { ⌜ refusal (s .line) (sigmaIn x) ≡ 0 ⌝ }
-    ensures { λ r. ⌜ r ≡ nextState (s .line) (s .used) (settingAfter (sigmaIn x) (s .setting)) ⌝ }
-{
-    let old = s.setting;
-    let generator = old.generator;
-    let setting = Setting {
-        generator,
-        distance: x.distance as u32,
-        bearing: x.bearing as u32,
-    };
-    next_state(s.line, s.used, setting)
-}
-
 // One pair is drawn, and the row printed.
 fn on_shot(line: &[u8], x: Shot, s: State, out: &mut [u8]) -> State
     requires { ⌜ refusal (s .line) (shotIn (now line) x) ≡ 0 ⌝ }
@@ -105,14 +65,15 @@ fn on_shot(line: &[u8], x: Shot, s: State, out: &mut [u8]) -> State
     next_state(s.line, used, setting)
 }
 
-fn on_accepted(line: &[u8], x: Line, s: State, out: &mut [u8]) -> State
-    requires { ⌜ refusal (s .line) (said (now line) x) ≡ 0 ⌝ }
+// An accepted line, with the setting that it leaves to the shots after it.
+fn on_accepted(line: &[u8], x: Line, s: State, setting: Setting, out: &mut [u8]) -> State
+    requires { ⌜ (refusal (s .line) (said (now line) x) ≡ 0) × (setting ≡ settingOn (said (now line) x) (s .setting)) ⌝ }
     ensures { λ r. ⌜ (r ≡ acceptedState s (said (now (line .entry)) x) (now (out .entry)))
         × (now (out .exit) ≡ acceptedBuffer s (said (now (line .entry)) x) (now (out .entry))) ⌝ }
 {
     match x {
-        Line::Seeds(seeds) => on_seeds(seeds, s),
-        Line::Sigma(sigma) => on_sigma(sigma, s),
+        Line::Seeds(seeds) => next_state(s.line, s.used, setting),
+        Line::Sigma(sigma) => next_state(s.line, s.used, setting),
         Line::Shot(shot) => on_shot(line, shot, s, out),
         Line::NoForm => s,
     }
@@ -124,9 +85,11 @@ pub fn take_line(line: &[u8], s: State, out: &mut [u8]) -> State
         × (now (out .exit) ≡ bufferOf s (readLine (now (line .entry))) (now (out .entry))) ⌝ }
 {
     let x = read_line(line);
-    let code = line_code(x, s.line);
-    if code != 0 {
-        return refused_line(code, s);
+    let setting = s.setting;
+    let settled = settle(x, s.line, setting);
+    if settled.code != 0 {
+        return refused_line(settled.code, s);
     }
-    on_accepted(line, x, s, out)
+    let next = settled.next;
+    on_accepted(line, x, s, next, out)
 }

@@ -1,12 +1,11 @@
 // All lines of a job, and the listing in a buffer that has room for any.
 use crate::JobAnswer;
 use crate::refused_job;
-use crate::state::Setting;
+use crate::setting::first_setting;
 use crate::state::State;
 use crate::state::take_line;
 use listing_writer::put_end;
 use listing_writer::put_header;
-use streams::Generator;
 use text::line::line_end;
 ghost use mathlib.Core.Path.{_≡_};
 ghost use lib.ListN.{length};
@@ -18,13 +17,7 @@ ghost use Rattle.job.specs.Private.{Going, Ended, Wrote};
 fn first_state(used: usize) -> State
     ensures { λ r. ⌜ r ≡ record { code = 0; line = 1; used = used; setting = start } ⌝ }
 {
-    let seeded = Generator::seed(0, 0, 0, 0, 0, 0);
-    let generator = seeded.next;
-    let setting = Setting {
-        generator,
-        distance: 0,
-        bearing: 0,
-    };
+    let setting = first_setting();
     State {
         code: 0,
         line: 1,

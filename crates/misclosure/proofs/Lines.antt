@@ -12,9 +12,9 @@ use Rattle.text.specs.Forms.{isEmpty}
 use Rattle.text.specs.Fields.{same}
 use Rattle.listing_reader.specs.Entries.{leg, last, neither}
 use Rattle.listing_reader.specs.declared.Span.{Span as SpanFields}
-use Rattle.misclosure.specs.Misclosure.{lastLine, mostStep, beyond, follows, refusal}
+use Rattle.misclosure.specs.Misclosure.{lastLine, mostStep, beyond, follows, refusal, stationCode}
 use Rattle.sums.specs.Sums.{mostDistance}
-use Rattle.misclosure.specs.Private.{Limited, limitCode, orderCode, stationCode, Moved, Takes, shotSaid}
+use Rattle.misclosure.specs.Private.{Limited, limitCode, orderCode, Moved, Takes, shotSaid}
 use Rattle.misclosure.specs.declared.entry.State.{State}
 
 pub follows-none : (station from : List ℕ) → length station ≡ 0 → follows station from ≡ true

@@ -1,18 +1,18 @@
 -- Products and sums of signed numbers at 64 bits, and their rounding.
 use mathlib.Core.Path.{_≡_, refl, sym, ap, ap₂, _∙_}
 use mathlib.Core.Bool.{Bool, true, false, cond, false≢true, true≢false}
-use Prim.Native.Nat.{ℕ, suc, _+_, _*_, _/_, _^_, _≤_, _<_}
-use native.Mathlib.Nat.{mul-le-mul, div-le-self}
+use Prim.Native.Nat.{ℕ, zero, suc, _+_, _*_, _/_, _^_, _≤_, _<_}
+use native.Mathlib.Nat.{mul-le-mul, le-refl, div-mul-le-self}
 use native.Mathlib.Omega.{arith}
 use borrow.Author.Tests.{le-ltb}
 use lib.IntN.{ℤ, pos, negsuc, negℤ, natAbs, _+ℤ_, _-ℤ_, _*ℤ_}
 use lib.Signed.{nonNeg, ltZ, quotZ}
 use mir.Syntax.{w64}
 use mir.Val.{SFits, toZ, ofZ}
-use mir.Facts.{toZ-pos}
+use mir.Facts.{toZ-pos, toZ-ofZ}
 use Rattle.angle.specs.Steps.{signedOf}
 use Rattle.angle.proofs.Ranges.{signed-range}
-use Rattle.signs.proofs.Sizes.{natAbs-neg, sum-size, product-size, size-fits, size-reads}
+use Rattle.signs.proofs.Sizes.{natAbs-neg, sum-size, product-size, size-fits, size-reads, fits-size}
 use Rattle.sums.specs.Sums.{sine, cosine, mostDistance, rounded}
 use Rattle.misclosure.specs.Private.{widenedBy}
 use Rattle.misclosure.specs.declared.Ends.{Ends}
@@ -96,43 +96,66 @@ widened-is g t low high e x y sign least greatest =
 
 -- ---- rounding
 
--- a sum moved by less than 2^62, and its quotient by any number above 0
-module _ (z y : ℤ) (room : natAbs z < 2 ^ 62) (half : natAbs y < 2 ^ 62) where
-  moved-small : natAbs (again z +ℤ y) < 2 ^ 63
-  moved-small = rw (reads z (omega arith)) (omega (arith, sum-size z y))
+-- a number's quotient by 2 or more, which has room for one more
+module _ (z : ℤ) (h : SFits w64 z) (n : ℕ) (many : 2 ≤ n) where
+  part-small : (m : ℕ) → m ≤ 2 ^ 63 → m / n ≤ 2 ^ 62
+  part-small m k = omega (arith, div-mul-le-self m n, mul-le-mul (le-refl (m / n)) many, k)
 
-  pub moved-fits : SFits w64 (again z +ℤ y)
-  moved-fits = size-fits w64 _ moved-small
+  quotient-small : natAbs (quotZ z (pos n)) ≤ 2 ^ 62
+  quotient-small = go z (fits-size w64 z h)
+    where
+      go : (x : ℤ) → natAbs x ≤ 2 ^ 63 → natAbs (quotZ x (pos n)) ≤ 2 ^ 62
+      go (pos m) k = part-small m k
+      go (negsuc m) k = rw (natAbs-neg (pos (suc m / n))) (part-small (suc m) k)
 
-  module _ (n : ℕ) (some : 0 < n) where
-    quotient-small : (x : ℤ) → natAbs x < 2 ^ 63 → natAbs (quotZ x (pos n)) < 2 ^ 63
-    quotient-small (pos m) k = omega (arith, k, div-le-self m n)
-    quotient-small (negsuc m) k = rw (natAbs-neg (pos (suc m / n))) (omega (arith, k, div-le-self (suc m) n))
+  pub quotient-fits : SFits w64 (quotZ (again z) (pos n))
+  quotient-fits = rw (toZ-ofZ h) (size-fits w64 _ (omega (arith, quotient-small)))
 
-    pub quotient-fits : SFits w64 (quotZ (again (again z +ℤ y)) (pos n))
-    quotient-fits = rw (reads (again z +ℤ y) moved-small) (size-fits w64 _ (quotient-small (again z +ℤ y) moved-small))
+  pub quotient-is : again (quotZ (again z) (pos n)) ≡ quotZ z (pos n)
+  quotient-is = ap (λ (x : ℤ). again (quotZ x (pos n))) (toZ-ofZ h) ∙ reads (quotZ z (pos n)) (omega (arith, quotient-small))
 
-    pub quotient-is : again (quotZ (again (again z +ℤ y)) (pos n)) ≡ quotZ (z +ℤ y) (pos n)
-    quotient-is =
-        ap (λ (x : ℤ). again (quotZ x (pos n))) (reads (again z +ℤ y) moved-small) ∙ reads (quotZ (again z +ℤ y) (pos n)) (quotient-small (again z +ℤ y) moved-small)
-        ∙ ap (λ (x : ℤ). quotZ (x +ℤ y) (pos n)) (reads z (omega arith))
+  pub next-fits : (y : ℤ) → natAbs y ≤ 1 → SFits w64 (again (quotZ (again z) (pos n)) +ℤ y)
+  next-fits y k = rw quotient-is (size-fits w64 _ (omega (arith, sum-size (quotZ z (pos n)) y, quotient-small, k)))
 
--- half a unit away from zero, and the quotient towards it
-pub rounds-below : (z : ℤ) → natAbs z < 2 ^ 62 → ltZ (again z) (pos 0) ≡ true → quotZ (z -ℤ pos (2 ^ 29)) (pos (2 ^ 30)) ≡ rounded z
-rounds-below z room t = go z (rw (reads z (omega arith)) at t)
-  where
-    go : (y : ℤ) → ltZ y (pos 0) ≡ true → quotZ (y -ℤ pos (2 ^ 29)) (pos (2 ^ 30)) ≡ rounded y
-    go (pos n) u = absurd (false≢true (sym (le-ltb n 0 (omega arith)) ∙ u))
-    go (negsuc n) u =
-        let e : suc (suc (n + 536870911)) ≡ suc n + 2 ^ 29 = omega arith in
-        ap (λ (k : ℕ). negℤ (pos (k / 2 ^ 30))) e
+-- half millimetres below zero, k of them
+below-zero : (k m : ℕ) → suc m / 2 ^ 29 ≡ k → ltZ (negℤ (pos k)) (pos 0) ≡ true
+    → quotZ (negℤ (pos k) -ℤ pos 1) (pos 2) ≡ negℤ (pos ((suc m + 2 ^ 29) / 2 ^ 30))
+below-zero zero m e t = absurd (false≢true t)
+below-zero (suc k) m e t =
+    let h : suc (suc (k + 0)) / 2 ≡ (suc m + 2 ^ 29) / 2 ^ 30 = omega (arith, e) in
+    ap (λ (i : ℕ). negℤ (pos i)) h
 
-pub rounds-above : (z : ℤ) → natAbs z < 2 ^ 62 → ltZ (again z) (pos 0) ≡ false → quotZ (z +ℤ pos (2 ^ 29)) (pos (2 ^ 30)) ≡ rounded z
-rounds-above z room t = go z (rw (reads z (omega arith)) at t)
-  where
-    go : (y : ℤ) → ltZ y (pos 0) ≡ false → quotZ (y +ℤ pos (2 ^ 29)) (pos (2 ^ 30)) ≡ rounded y
-    go (pos n) u = refl
-    go (negsuc n) u = absurd (true≢false u)
+above-zero : (k m : ℕ) → suc m / 2 ^ 29 ≡ k → ltZ (negℤ (pos k)) (pos 0) ≡ false
+    → quotZ (negℤ (pos k) +ℤ pos 1) (pos 2) ≡ negℤ (pos ((suc m + 2 ^ 29) / 2 ^ 30))
+above-zero zero m e t =
+    let h : (suc m + 2 ^ 29) / 2 ^ 30 ≡ 0 = omega (arith, e) in
+    ap (λ (i : ℕ). negℤ (pos i)) (sym h)
+above-zero (suc k) m e t = absurd (true≢false t)
+
+-- from half millimetres to whole ones, away from zero
+rounds-below : (z : ℤ) → ltZ (quotZ z (pos (2 ^ 29))) (pos 0) ≡ true → quotZ (quotZ z (pos (2 ^ 29)) -ℤ pos 1) (pos 2) ≡ rounded z
+rounds-below (pos m) t = absurd (false≢true (sym (le-ltb (m / 2 ^ 29) 0 (omega arith)) ∙ t))
+rounds-below (negsuc m) t = below-zero (suc m / 2 ^ 29) m refl t
+
+rounds-above : (z : ℤ) → ltZ (quotZ z (pos (2 ^ 29))) (pos 0) ≡ false → quotZ (quotZ z (pos (2 ^ 29)) +ℤ pos 1) (pos 2) ≡ rounded z
+rounds-above (pos m) t = let e : (m / 2 ^ 29 + 1) / 2 ≡ (m + 2 ^ 29) / 2 ^ 30 = omega arith in ap pos e
+rounds-above (negsuc m) t = above-zero (suc m / 2 ^ 29) m refl t
+
+-- as the machine has them
+module _ (z : ℤ) (h : SFits w64 z) (n : ℕ) (half : n ≡ 2 ^ 29) where
+  halves : again (quotZ (again z) (pos n)) ≡ quotZ z (pos (2 ^ 29))
+  halves = quotient-is z h n (omega (arith, half)) ∙ ap (λ (m : ℕ). quotZ z (pos m)) half
+
+  whole : (y : ℤ) → natAbs y ≤ 1 → again (quotZ (again (again (quotZ (again z) (pos n)) +ℤ y)) (pos 2)) ≡ quotZ (quotZ z (pos (2 ^ 29)) +ℤ y) (pos 2)
+  whole y k = quotient-is _ (next-fits z h n (omega (arith, half)) y k) 2 (omega arith) ∙ ap (λ (x : ℤ). quotZ (x +ℤ y) (pos 2)) halves
+
+  pub millimetres-below : ltZ (again (quotZ (again z) (pos n))) (pos 0) ≡ true
+      → again (quotZ (again (again (quotZ (again z) (pos n)) -ℤ pos 1)) (pos 2)) ≡ rounded z
+  millimetres-below t = whole (negℤ (pos 1)) (omega arith) ∙ rounds-below z (sym (ap (λ (x : ℤ). ltZ x (pos 0)) halves) ∙ t)
+
+  pub millimetres-above : ltZ (again (quotZ (again z) (pos n))) (pos 0) ≡ false
+      → again (quotZ (again (again (quotZ (again z) (pos n)) +ℤ pos 1)) (pos 2)) ≡ rounded z
+  millimetres-above t = whole (pos 1) (omega arith) ∙ rounds-above z (sym (ap (λ (x : ℤ). ltZ x (pos 0)) halves) ∙ t)
 
 -- a rounded sum, as it is put into the answer
 pub rounded-reads : (a z : ℤ) → natAbs z < 2 ^ 62 → a ≡ rounded (again z) → again a ≡ rounded z

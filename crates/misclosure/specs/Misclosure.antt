@@ -39,6 +39,10 @@ refusal k station (leg from to low high step) = cond (beyond k low high step) 24
 refusal k station (last count) = cond (eqb count (k - 2)) 0 6
 refusal k station neither = 6
 
+-- the last of a shot's causes alone
+unfoldable pub stationCode : List ℕ → List ℕ → ℕ
+stationCode station from = cond (follows station from) 0 23
+
 -- A listing is refused with a code and a line, or gives its shots
 pub data Outcome : Type 0 where
   refused : ℕ → ℕ → Outcome

@@ -17,7 +17,6 @@ use Rattle.misclosure.specs.Misclosure.{
   lastLine,
   mostStep,
   beyond,
-  follows,
   refusal,
   Outcome,
   refused,
@@ -53,15 +52,12 @@ pub record Limited (k : ℕ) (x : SpanFields) : Type 0 where
   pub high : x .high ≤ mostDistance
   pub step : x .step ≤ mostStep
 
--- the three causes of a shot
+-- two causes of a shot
 unfoldable pub limitCode : ℕ → ℕ → ℕ → ℕ → ℕ
 limitCode k low high step = cond (beyond k low high step) 24 0
 
 unfoldable pub orderCode : ℕ → ℕ → ℕ
 orderCode low high = cond (ltb high low) 25 0
-
-unfoldable pub stationCode : List ℕ → List ℕ → ℕ
-stationCode station from = cond (follows station from) 0 23
 
 -- two sums with the least and the greatest product of a shot by a factor added
 abbrev pub widenedBy : ℤ → ℕ → ℕ → Ends → Ends

@@ -15,7 +15,8 @@ ghost use mathlib.Core.Path.{_≡_};
 ghost use mathlib.Core.Bool.{false, cond};
 ghost use lib.Dec.{eqb};
 ghost use Rattle.text.specs.Fields.{partOf};
-ghost use Rattle.misclosure.specs.Private.{Small, Limited, limitCode, orderCode, stationCode, Takes, Moved, shotSaid};
+ghost use Rattle.misclosure.specs.Misclosure.{stationCode};
+ghost use Rattle.misclosure.specs.Private.{Small, Limited, limitCode, orderCode, Takes, Moved, shotSaid};
 ghost use Rattle.listing_reader.specs.Entries.{readEntry, last};
 
 // The number of the next line, where the last station stands in the line before it, and the sums so far.
@@ -63,7 +64,7 @@ fn order_code(x: Span) -> u32
 }
 
 // 23 for a shot that does not start at the station, else 0: any may be the first.
-fn station_code(station: &[u8], from: &[u8]) -> u32
+pub fn station_code(station: &[u8], from: &[u8]) -> u32
     ensures { λ r. ⌜ r ≡ stationCode (now (station .entry)) (now (from .entry)) ⌝ }
 {
     if station.len() == 0 {

@@ -6,9 +6,10 @@ mod sum;
 mod walk;
 
 use crate::sum::both_millimetres;
-use crate::sum::millimetres;
 use crate::walk::read_listing;
+pub use entry::station_code;
 use listing_reader::is_header;
+pub use sum::millimetres;
 use text::line::line_end;
 ghost use mathlib.Core.Path.{_≡_};
 ghost use mathlib.Core.Bool.{true, false};

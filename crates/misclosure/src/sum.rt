@@ -7,10 +7,8 @@ ghost use Rattle.sums.specs.Sums.{mostDistance, rounded};
 ghost use Rattle.misclosure.specs.Misclosure.{roundedEnds};
 ghost use Rattle.misclosure.specs.Private.{SmallEnds, widenedBy};
 
-// Half a millimetre and a millimetre at 2^30.
+// Half a millimetre at 2^30.
 const HALF: i64 = 1 << 29;
-
-const UNIT: i64 = 1 << 30;
 
 // A distance times a sine or a cosine, added to a sum.
 fn added(sum: i64, distance: u64, factor: i64) -> i64
@@ -41,15 +39,15 @@ pub fn widened(sums: Ends, low: u64, high: u64, factor: i64) -> Ends
     }
 }
 
-// A sum in whole millimetres, halves away from zero: `/` goes towards zero.
+// A sum at 2^30 in whole millimetres, halves away from zero, by way of its half millimetres: `/` goes towards zero.
 pub fn millimetres(sum: i64) -> i64
-    requires { ⌜ natAbs sum < 2 ^ 62 ⌝ }
     ensures { λ r. ⌜ r ≡ rounded sum ⌝ }
 {
-    if sum < 0 {
-        return (sum - HALF) / UNIT;
+    let halves = sum / HALF;
+    if halves < 0 {
+        return (halves - 1) / 2;
     }
-    (sum + HALF) / UNIT
+    (halves + 1) / 2
 }
 
 // Both ends in whole millimetres.

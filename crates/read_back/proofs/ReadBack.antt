@@ -25,7 +25,7 @@ use Rattle.job_refusals.specs.Limits as limits
 use Rattle.job_refusals.specs.Refusals as jobs
 use Rattle.job.specs.Job as job
 use Rattle.job.specs.Private.{Steady}
-use Rattle.job.specs.declared.state.Setting.{Setting}
+use Rattle.job.specs.declared.setting.Setting.{Setting}
 use Rattle.job_refusals.proofs.Refused.{or-false}
 use Rattle.job_refusals.proofs.Accepted.{Accepted, accepted-line}
 use Rattle.job.proofs.Bounds.{steps}
@@ -40,7 +40,7 @@ use Rattle.misclosure.proofs.Lines.{in-range}
 use Rattle.misclosure.proofs.Listings.{outcome-row, outcome-leg, outcome-end, listing-headed}
 
 -- "1,008,242 mm, which the half step can reach"
-sized-most : (σ d : ℕ) (z : ℤ) → σ ≤ limits.mostSigma → d ≤ limits.mostDistance → natAbs z ≤ 16879 → noisyDistance σ d z ≤ mostDistance
+pub sized-most : (σ d : ℕ) (z : ℤ) → σ ≤ limits.mostSigma → d ≤ limits.mostDistance → natAbs z ≤ 16879 → noisyDistance σ d z ≤ mostDistance
 unfolding noisyDistance noiseSize
 sized-most σ d (pos n) h k l = omega (arith, mul-le-mul h l)
 sized-most σ d (negsuc n) h k l = omega arith
@@ -48,7 +48,7 @@ sized-most σ d (negsuc n) h k l = omega arith
 distance-most : (σ d : ℕ) (g : Generator) → σ ≤ limits.mostSigma → d ≤ limits.mostDistance → noisyDistance σ d (pairOf fractionBits g .first) ≤ mostDistance
 distance-most σ d g h k = sized-most σ d (pairOf fractionBits g .first) h k (pair-sizes fractionBits g .0)
 
-bearing-most : (σ b : ℕ) (z : ℤ) → noisyBearing σ b z ≤ mostStep
+pub bearing-most : (σ b : ℕ) (z : ℤ) → noisyBearing σ b z ≤ mostStep
 unfolding noisyBearing
 bearing-most σ b (pos n) = omega arith
 bearing-most σ b (negsuc n) = omega arith

@@ -1,7 +1,4 @@
 -- `misclosure` meets its contract: the sums, and each rounded once.
-use native.Mathlib.Omega.{arith}
-use Prim.Native.Nat.{_^_}
-use Rattle.misclosure.proofs.Machine.{read-small}
 use Rattle.misclosure.proofs.Answer.{miss-is}
 use Rattle.misclosure.proofs.misclosure.Statement.{statement}
 use Rattle.misclosure.proofs.misclosure.Tie as tie
@@ -10,10 +7,10 @@ read-listing-requires : tie.Need-read-listing-requires
 read-listing-requires c κs = tt
 
 millimetres-requires : tie.Need-millimetres-requires
-millimetres-requires c κs = read-small (c .before .before .before .read-listing .result .east .low) (2 ^ 62) (c .before .before .before .read-listing .ensures .1 .east .0) (omega arith)
+millimetres-requires c κs = tt
 
 millimetres-requires-2 : tie.Need-millimetres-requires-2
-millimetres-requires-2 c κs = read-small (c .before .before .before .before .before .read-listing .result .north .low) (2 ^ 62) (c .before .before .before .before .before .read-listing .ensures .1 .north .0) (omega arith)
+millimetres-requires-2 c κs = tt
 
 returns : tie.Need-returns
 returns c =

@@ -17,12 +17,12 @@ signed-of-requires c κs = tt
 widened-requires : tie.Need-widened-requires
 widened-requires c κs =
     let (small, limited) = c .before .before .before .pre in
-    (small .east, limited .low, limited .high, read-units (c .before .before .before .args .x .step) (c .before .signed-of .ensures) .0)
+    (small .east, limited .low, limited .high, omega (arith, read-units (c .before .before .before .args .x .step) (c .before .signed-of .ensures)))
 
 widened-requires-2 : tie.Need-widened-requires-2
 widened-requires-2 c κs =
     let (small, limited) = c .before .before .before .before .before .pre in
-    (small .north, limited .low, limited .high, read-units (c .before .before .before .before .before .args .x .step) (c .before .before .before .signed-of .ensures) .1)
+    (small .north, limited .low, limited .high, omega (arith, read-units (c .before .before .before .before .before .args .x .step) (c .before .before .before .signed-of .ensures)))
 
 add-t7 : tie.Need-add-t7
 add-t7 c = search needs

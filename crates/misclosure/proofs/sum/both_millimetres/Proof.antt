@@ -1,16 +1,15 @@
 -- `sum::both_millimetres` meets its contract.
 use mathlib.Core.Path.{ap₂}
 use lib.IntN.{ℤ}
-use borrow.Author.Needs.{needs}
 use Rattle.misclosure.proofs.Machine.{rounded-reads}
 use Rattle.misclosure.proofs.sum.both_millimetres.Statement.{statement}
 use Rattle.misclosure.proofs.sum.both_millimetres.Tie as tie
 
 millimetres-requires : tie.Need-millimetres-requires
-millimetres-requires c κs = search needs
+millimetres-requires c κs = tt
 
 millimetres-requires-2 : tie.Need-millimetres-requires-2
-millimetres-requires-2 c κs = search needs
+millimetres-requires-2 c κs = tt
 
 returns : tie.Need-returns
 returns c =

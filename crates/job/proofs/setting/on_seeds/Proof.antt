@@ -1,0 +1,17 @@
+-- `job::setting::on_seeds` meets its contract.
+use Rattle.job_refusals.proofs.Accepted.{seeds-seeded}
+use Rattle.job.specs.Job.{settingAfter, settingOn}
+use Rattle.job.proofs.setting.on_seeds.Statement.{statement}
+use Rattle.job.proofs.setting.on_seeds.Tie as tie
+
+seeds-answer-requires : tie.Need-seeds-answer-requires
+seeds-answer-requires c κs = tt
+
+returns : tie.Need-returns
+unfolding settingAfter settingOn
+returns c =
+    let (k, accepted) = c .before .before .pre in
+    rw (c .before .seeds-answer .ensures, seeds-seeded k _ accepted)
+
+pub on-seeds-spec : {M : Type 1} → statement M
+on-seeds-spec = tie.close (tie.spec seeds-answer-requires returns)

@@ -1,0 +1,5 @@
+pub mod Taking
+pub mod Going
+pub mod Ending
+pub mod Shots
+pub mod Theorems

@@ -1,0 +1,3 @@
+pub mod Loop
+pub mod Theorems
+pub mod Private

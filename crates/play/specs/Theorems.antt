@@ -1,0 +1,53 @@
+-- What a play is, as theorems: the record below has a proof in proofs/Theorems.antt.
+use Prim.Native.Nat.{ℕ, _+_, _*_, _<_}
+use mathlib.Core.Path.{_≡_}
+use mathlib.Core.Bool.{false}
+use mathlib.Core.List.{List, [], _++_}
+use lib.IntN.{ℤ}
+use lib.ListN.{length, drop, getD}
+use Rattle.text.specs.Scan.{lines}
+use Rattle.text.specs.Theorems.{join}
+use Rattle.job_lines.specs.Forms.{seeds, printLine}
+use Rattle.streams.specs.declared.Generator.{Generator}
+use Rattle.job.specs.Job as job
+use Rattle.job.specs.declared.setting.Setting.{Setting}
+use Rattle.sums.specs.Sums.{Shot, sine, cosine, rounded}
+use Rattle.misclosure.specs.Misclosure.{listingOf, missOf}
+use Rattle.loop_reader.specs.Loop.{accepted}
+use Rattle.play.specs.Play.{ahead, sumAt, missAt, missesFrom, playOf, answerOf, missesAfter}
+
+-- the job with the same lines and, as seeds on line 1, the registers of a record, all 32 bits of each
+abbrev pub reseeded : List ℕ → Generator → List ℕ
+reseeded text g =
+    printLine (seeds (g .a .s0) (g .a .s1) (g .a .s2) (g .b .s0) (g .b .s1) (g .b .s2)) ++ join (drop 1 (lines text))
+
+-- play j of a loop is what `misclosure` gives for the listing of the job so reseeded
+abbrev pub IsMisclosure : List ℕ → Setting → List Shot → ℕ → Type 0
+IsMisclosure text s l j =
+    (bytes : List ℕ) × (job.jobOf (reseeded text (ahead (j * length l) s .generator)) ≡ job.listed bytes)
+    × (missOf (listingOf false bytes) ≡ record {
+      code = 0;
+      line = 0;
+      east = sumAt sine s l j;
+      north = sumAt cosine s l j;
+      easting = rounded (sumAt sine s l j);
+      northing = rounded (sumAt cosine s l j);
+    })
+
+-- the code of a call, and the misses that it leaves
+abbrev pub codeOf : List ℕ → ℕ → List (List ℤ) → ℕ
+codeOf text first old = answerOf (playOf text first (length old)) .code
+
+abbrev pub leaves : List ℕ → ℕ → List (List ℤ) → List (List ℤ)
+leaves text first old = missesAfter (playOf text first (length old)) first old
+
+pub record Theorems : Type 0 where
+  -- "misses[i] is .. of play first + i"
+  pub element : (s : Setting) (l : List Shot) (first runs i : ℕ) → i < runs → getD (missesFrom first runs s l) i [] ≡ missAt s l (first + i)
+  -- "What play j gives is .. `misclosure` of the listing of the job with the same lines and, as seeds on line 1, the registers of that record"
+  pub play-is : (text : List ℕ) (first runs j : ℕ) (s : Setting) (l : List Shot) → playOf text first runs ≡ accepted s l → j < first + runs
+      → IsMisclosure text s l j
+  -- "the plays of first and n + m runs are those of n runs followed by those of m runs from first + n"
+  pub joined : (text : List ℕ) (first : ℕ) (x y : List (List ℤ)) → codeOf text first (x ++ y) ≡ 0
+      → (codeOf text first x ≡ 0) × (codeOf text (first + length x) y ≡ 0)
+      × (leaves text first (x ++ y) ≡ leaves text first x ++ leaves text (first + length x) y)

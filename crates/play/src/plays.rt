@@ -1,0 +1,73 @@
+// Plays, one after another.
+use crate::sum::CHUNK_SAMPLES;
+use crate::sum::one_play;
+use job::setting::Setting;
+use misclosure::millimetres;
+use streams::Generator;
+ghost use mathlib.Core.Path.{_≡_};
+ghost use mathlib.Core.Bool.{cond};
+ghost use Prim.Native.Nat.{_+_, _*_, _≤_};
+ghost use lib.Dec.{leb};
+ghost use lib.ListN.{length};
+ghost use Rattle.streams.specs.Streams.{mostCount, pairsCode};
+ghost use Rattle.job_refusals.specs.Limits.{mostShots};
+ghost use Rattle.job.specs.Private.{Steady};
+ghost use Rattle.play.specs.Play.{missesFrom};
+ghost use Rattle.play.specs.Private.{chunkShots, unpackedAll, settingOf, Near};
+
+// 13 where the pairs of all plays up to the last would pass the most that a record counts.
+pub fn room_code(first: u64, runs: u64, shots: u64) -> u32
+    ensures { λ r. ⌜ r ≡ cond (leb ((first + runs) * shots) mostCount) 0 13 ⌝ }
+{
+    if shots == 0 {
+        return 0;
+    }
+    let most = u64::MAX / shots;
+    if most < first {
+        return 13;
+    }
+    if most - first < runs {
+        return 13;
+    }
+    0
+}
+
+// As many plays as there are misses, from a record on.
+fn each_play(
+    g: Generator,
+    distance: u32,
+    bearing: u32,
+    shots: &[u64],
+    samples: &mut [i16],
+    misses: &mut [[i64; 2]],
+)
+    requires { ⌜ Steady distance bearing × Near (now shots) × (length (now shots) ≤ mostShots) ⌝ }
+    requires { ⌜ (length (now samples) ≡ 2 * chunkShots) × (pairsCode g (length (now misses) * length (now shots)) ≡ 0) ⌝ }
+    ensures { λ _. ⌜ now (misses .exit) ≡ missesFrom 0 (length (now (misses .entry))) (settingOf g distance bearing) (unpackedAll (now (shots .entry))) ⌝ }
+{
+    let mut state = g;
+    let mut i = 0;
+    while i < misses.len() {
+        let p = one_play(state, distance, bearing, shots, samples);
+        state = p.next;
+        let sums = p.sums;
+        let east = millimetres(sums.east);
+        let north = millimetres(sums.north);
+        misses[i] = [east, north];
+        i += 1;
+    }
+}
+
+// The plays from the first that is given on: its record is that many times the shots pairs on.
+pub fn plays(s: Setting, first: u64, shots: &[u64], misses: &mut [[i64; 2]])
+    requires { ⌜ Steady (s .distance) (s .bearing) × Near (now shots) × (length (now shots) ≤ mostShots) ⌝ }
+    requires { ⌜ pairsCode (s .generator) ((first + length (now misses)) * length (now shots)) ≡ 0 ⌝ }
+    ensures { λ _. ⌜ now (misses .exit) ≡ missesFrom first (length (now (misses .entry))) s (unpackedAll (now (shots .entry))) ⌝ }
+{
+    let generator = s.generator;
+    let n = shots.len() as u64;
+    let skipped = generator.skip(first * n);
+    let start = skipped.next;
+    let mut samples = [0i16; CHUNK_SAMPLES];
+    each_play(start, s.distance, s.bearing, shots, &mut samples, misses)
+}

@@ -1,0 +1,137 @@
+// The sums of one play at 2^30, its pairs drawn by blocks.
+use angle::signed_of;
+use listing_writer::noisy_bearing;
+use listing_writer::noisy_distance;
+use noise::block;
+use streams::Generator;
+ghost use mathlib.Core.Path.{_≡_};
+ghost use Prim.Native.Nat.{_+_, _-_, _*_, _/_, _≤_, min};
+ghost use lib.IntN.{natAbs, _+ℤ_};
+ghost use lib.ListN.{length};
+ghost use Rattle.streams.specs.Streams.{after, pairsCode};
+ghost use Rattle.job_refusals.specs.Limits.{mostDistance, mostShots};
+ghost use Rattle.job.specs.Private.{Steady};
+ghost use Rattle.sums.specs.Sums.{sine, cosine, product, total};
+ghost use Rattle.play.specs.Play.{playedShots};
+ghost use Rattle.play.specs.Private.{largestSample, chunkShots, noisyOf, noisyShots, unpackedAll, settingOf, Near, SmallSamples, Spare, Grown};
+
+// The shots of a block.
+const CHUNK_SHOTS: usize = 32;
+
+// The samples of a block.
+pub const CHUNK_SAMPLES: usize = 2 * CHUNK_SHOTS;
+
+// East and north.
+pub struct Sums {
+    pub east: i64,
+    pub north: i64,
+}
+
+// A play half way: the record, and the sums so far.
+pub struct Progress {
+    pub next: Generator,
+    pub sums: Sums,
+}
+
+// A shot with its noise is added: first sample to distance, second to bearing.
+fn moved(s: Sums, distance: u32, bearing: u32, shot: u64, first: i16, second: i16) -> Sums
+    requires { ⌜ Spare s 1 × Steady distance bearing × (shot / 65536 ≤ mostDistance) × (natAbs first ≤ largestSample) × (natAbs second ≤ largestSample) ⌝ }
+    ensures { λ r. ⌜ (r .east ≡ s .east +ℤ product sine (noisyOf distance bearing shot first second))
+        × (r .north ≡ s .north +ℤ product cosine (noisyOf distance bearing shot first second)) ⌝ }
+{
+    let mm = noisy_distance(distance, (shot / 65536) as u32, first);
+    let step = noisy_bearing(bearing, (shot % 65536) as u32, second);
+    let turned = signed_of(step as u32);
+    Sums {
+        east: s.east + mm as i64 * turned.sine,
+        north: s.north + mm as i64 * turned.cosine,
+    }
+}
+
+// The shots with their samples, two a shot, are added.
+fn summed(start: Sums, distance: u32, bearing: u32, shots: &[u64], samples: &[i16]) -> Sums
+    requires { ⌜ Spare start (length (now shots)) × Steady distance bearing × Near (now shots) × SmallSamples (now samples) ⌝ }
+    requires { ⌜ length (now samples) ≡ 2 * length (now shots) ⌝ }
+    ensures { λ r. ⌜ (r .east ≡ start .east +ℤ total sine (noisyShots distance bearing (now (shots .entry)) (now (samples .entry))))
+        × (r .north ≡ start .north +ℤ total cosine (noisyShots distance bearing (now (shots .entry)) (now (samples .entry))))
+        × Grown start r (length (now (shots .entry))) ⌝ }
+{
+    let mut s = start;
+    let mut i = 0;
+    while i < shots.len() {
+        s = moved(
+            s,
+            distance,
+            bearing,
+            shots[i],
+            samples[2 * i],
+            samples[2 * i + 1],
+        );
+        i += 1;
+    }
+    s
+}
+
+// A block's shots: their pairs are drawn into the caller's memory.
+fn chunk(p: Progress, distance: u32, bearing: u32, shots: &[u64], samples: &mut [i16]) -> Progress
+    requires { ⌜ Spare (p .sums) (length (now shots)) × Steady distance bearing × Near (now shots) ⌝ }
+    requires { ⌜ (length (now samples) ≡ 2 * length (now shots)) × (pairsCode (p .next) (length (now shots)) ≡ 0) ⌝ }
+    ensures { λ r. ⌜ (r .next ≡ after (length (now (shots .entry))) (p .next))
+        × (r .sums .east ≡ p .sums .east +ℤ total sine (playedShots (settingOf (p .next) distance bearing) (unpackedAll (now (shots .entry)))))
+        × (r .sums .north ≡ p .sums .north +ℤ total cosine (playedShots (settingOf (p .next) distance bearing) (unpackedAll (now (shots .entry)))))
+        × Grown (p .sums) (r .sums) (length (now (shots .entry))) ⌝ }
+{
+    let g = p.next;
+    let start = p.sums;
+    let drawn = block(g, samples);
+    let next = drawn.next;
+    let sums = summed(start, distance, bearing, shots, samples);
+    Progress { next, sums }
+}
+
+// Where the block that begins at a shot of n ends.
+fn chunk_end(at: usize, n: usize) -> usize
+    requires { ⌜ at ≤ n ⌝ }
+    ensures { λ r. ⌜ r ≡ min n (at + chunkShots) ⌝ }
+{
+    if n - at < CHUNK_SHOTS {
+        n
+    } else {
+        at + CHUNK_SHOTS
+    }
+}
+
+// One play from a record, block by block.
+pub fn one_play(
+    g: Generator,
+    distance: u32,
+    bearing: u32,
+    shots: &[u64],
+    samples: &mut [i16],
+) -> Progress
+    requires { ⌜ Steady distance bearing × Near (now shots) × (length (now shots) ≤ mostShots) ⌝ }
+    requires { ⌜ (length (now samples) ≡ 2 * chunkShots) × (pairsCode g (length (now shots)) ≡ 0) ⌝ }
+    ensures { λ r. ⌜ (r .next ≡ after (length (now (shots .entry))) g)
+        × (r .sums .east ≡ total sine (playedShots (settingOf g distance bearing) (unpackedAll (now (shots .entry)))))
+        × (r .sums .north ≡ total cosine (playedShots (settingOf g distance bearing) (unpackedAll (now (shots .entry)))))
+        × Spare (r .sums) 0 ⌝ }
+{
+    let mut p = Progress {
+        next: g,
+        sums: Sums { east: 0, north: 0 },
+    };
+    let mut at = 0;
+    let n = shots.len();
+    while at < n {
+        let end = chunk_end(at, n);
+        p = chunk(
+            p,
+            distance,
+            bearing,
+            &shots[at..end],
+            &mut samples[0..2 * (end - at)],
+        );
+        at = end;
+    }
+    p
+}
