@@ -20,6 +20,7 @@ CALL(look18, (const jabulghi_record *record, int32_t *block, size_t length), (re
 CALL(take18, (jabulghi_record *record, int32_t *block, size_t length), (record, block, length))
 CALL(misclosure, (const uint8_t *text, size_t length, int64_t *sums, int64_t *millimetres, uint32_t *line), (text, length, sums, millimetres, line))
 CALL(intervals, (const uint8_t *text, size_t length, int64_t *sums, int64_t *millimetres, uint32_t *line), (text, length, sums, millimetres, line))
+CALL(play, (const uint8_t *text, size_t length, uint64_t first, int64_t (*misses)[2], size_t runs, uint32_t *line), (text, length, first, misses, runs, line))
 CALL(window_push_all_members,
      (uint32_t *size, uint32_t *held, uint32_t *place, int16_t *places, int64_t *sum, int64_t *squares, const int16_t *samples, size_t length),
      (size, held, place, places, sum, squares, samples, length))
