@@ -25,7 +25,8 @@ typedef struct { const uint8_t *text, *bytes; size_t length, number; } bad_line;
 typedef enum {
     NO_COMMAND, NO_SUCH_COMMAND, NO_SUCH_OPTION, LACKS_VALUE, TAKES_NO_VALUE, GIVEN_TWICE, ONE_FILE, NO_FILE, NEEDS, EITHER,
     NO_NUMBER, NUMBER_ABOVE, NO_BITS, NO_SEEDS, NO_SIGMA, NO_SIGMAS, NO_WHOLE_MM, NO_STEPS, TOO_FEW_STEPS, TOO_MUCH, READING, SEEDS_DRAWN,
-    NO_SHOT, STARTS_ELSEWHERE, NO_LOOP, PART_CLOSES,
+    NO_SHOT, STARTS_ELSEWHERE, NO_LOOP, PART_CLOSES, NO_RUN, NO_JOBS, NO_MISS, NO_PART, OTHER_PART, SAME_RUNS, MISSING_RUNS, NOT_MERGED, LACKS_FILE,
+    MODELLED, ALL_ALIKE, ON_A_LINE, VERDICT, NO_BLUNDER, BLUNDER_POSSIBLE, BLUNDER_LIKELY, CANDIDATES, NO_CANDIDATE,
 } saying;
 
 /* An option: its name, "--seeds" or "-n", whether it stands alone, and what was given: NULL for nothing, its own name where it stands alone. */
@@ -43,6 +44,7 @@ int misses(int count, char **words);
 int noise(int count, char **words);
 int seeds(int count, char **words);
 int job(int count, char **words);
+int tolerance(int count, char **words);
 
 /* help.c: the help on one command, or on all where there is no such command. */
 int help_on(const char *command);
@@ -55,6 +57,7 @@ int number_of(const option *given, uint64_t most, uint64_t *number);
 int seeds_of(const option *given, uint32_t numbers[6]);
 int sigma_of(const option *given, measure *sigma);
 int sigmas_of(const option *given, uint32_t sigma[2]);
+int miss_of(const option *given, double miss[2]);
 
 /* seeds.c: six numbers from the system's randomness that the library accepts as seeds, and their line in a job. */
 int draw_seeds(uint32_t numbers[6]);
@@ -64,6 +67,7 @@ int draw_seeds(uint32_t numbers[6]);
  * Says what went wrong with the words of the command line, or what is worth a note. */
 int refuse(const text *refused, subject about, size_t line, uint32_t number);
 int refuse_option(const char *name, uint32_t number);
+const char *sentence(saying what);
 int wrong(saying what, ...);
 void note(saying what, ...);
 
@@ -86,6 +90,7 @@ int read_text(const char *name, text *read);
 void write_to(const option *given);
 int put(const void *bytes, size_t length);
 int put_words(const char *format, ...);
+int put_file(const char *name, const void *bytes, size_t length);
 int finish(int status);
 int trouble(const char *what, const char *why);
 

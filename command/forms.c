@@ -107,3 +107,18 @@ int sigmas_of(const option *given, uint32_t sigma[2]) {
     sigma[0] = (uint32_t)(distance.millionths / 1000000);
     return steps_of(given, &bearing, &sigma[1]);
 }
+
+/* A decimal of either sign; the place after it, or NULL. */
+static const char *signed_decimal(const char *at, double *number) {
+    uint64_t millionths = 0;
+    bool negative = *at == '-';
+    at = decimal(at + (*at == '-' || *at == '+'), &millionths);
+    *number = (negative ? -1e-6 : 1e-6) * (double)millionths;
+    return at;
+}
+
+int miss_of(const option *given, double miss[2]) {
+    const char *at = signed_decimal(given->value, &miss[0]);
+    at = at != NULL && *at == ',' ? signed_decimal(at + 1, &miss[1]) : NULL;
+    return at != NULL && *at == '\0' ? DONE : wrong(NO_MISS, given->name, given->value);
+}

@@ -155,9 +155,9 @@ static bool add_leg(survey *s, leg l) {
     bool plumbed = l.clino == 90000000 || l.clino == -90000000;
     if (l.from == l.to) return refuse_survey(s, SAME_STATION, s->names.all[l.from].label);
     if (l.compass < 0 && !plumbed) return refuse_survey(s, BAD_COMPASS, NONE);
+    if (rounded(l.tape, 1000) > 1000000) return refuse_survey(s, LONG_TAPE, NONE);
     l.steep = l.clino != 0;
     l.plan = l.steep ? (int64_t)((double)l.tape * cosine(l.clino) / 1000 + 0.5) : rounded(l.tape, 1000);
-    if (l.plan > 1000000) return refuse_survey(s, LONG_TAPE, NONE);
     l.tape = rounded(l.tape, 1000);
     l.compass = l.compass < 0 ? 0 : rounded(l.compass, 10000) % 36000;
     l.clino = rounded(l.clino, 10000);

@@ -47,7 +47,7 @@ static const struct { subject about; uint32_t number; bool (*holds)(const bad_li
     {SURVEY, JABULGHI_NO_LEG, ends_in_crlf, CRLF},
     {SURVEY, JABULGHI_NO_LEG, lacks_line_feed, NO_LINE_FEED},
     {SURVEY, JABULGHI_NO_LEG, is_other_data_line, "data line is not '*data normal from to tape compass clino'; jabulghi level takes other orders"},
-    {SURVEY, JABULGHI_NO_LEG, is_command, "command, and legs takes the data line and legs alone; jabulghi level takes ordinary Survex"},
+    {SURVEY, JABULGHI_NO_LEG, is_command, "commands are not taken here; jabulghi level takes ordinary Survex"},
     {SURVEY, JABULGHI_NO_LEG, lacks_data_line, "leg before the data line"},
     {SURVEY, JABULGHI_NO_LEG, has_few_fields, "leg has fewer than five fields"},
     {SURVEY, JABULGHI_NO_LEG, has_many_fields, "leg has more than five fields"},
@@ -108,6 +108,24 @@ static const char *const SAYINGS[] = {
     [STARTS_ELSEWHERE] = "%s: shot %zu starts at %s, the one before ends at %s: no loop",
     [NO_LOOP] = "%s: starts at %s, ends at %s: no loop",
     [PART_CLOSES] = "%s: starts at %s, ends at %s: no loop; shots %zu to %zu are one, from %s on",
+    [NO_RUN] = "--runs: at least 1 run",
+    [NO_JOBS] = "--jobs: at least 1 job",
+    [NO_MISS] = "%s: '%s' is no miss such as -35,22 (east and north in millimetres, up to 1000000)",
+    [NO_PART] = "%s: no part that --json wrote",
+    [OTHER_PART] = "%s: a part of another loop, with other seeds or sigmas, or with another miss than %s",
+    [SAME_RUNS] = "%s: has runs that %s has too",
+    [MISSING_RUNS] = "--merge: no part has the runs %" PRIu64 " to %" PRIu64,
+    [NOT_MERGED] = "%s: not with --merge",
+    [LACKS_FILE] = "%s: names no FILE" HELP,
+    [MODELLED] = "modelled: independent Gaussian errors of each leg's distance and bearing; not modelled: calibration, stations, blunders",
+    [ALL_ALIKE] = "All runs miss alike: there is no noise to judge a miss by.",
+    [ON_A_LINE] = "All runs miss along one line: a miss beside it is beyond them all.",
+    [VERDICT] = "A sound survey of this kind misses by as much or more in %s %% of runs (by the ellipse of the runs; %s %% by distance alone).",
+    [NO_BLUNDER] = "That is no sign of a blunder.",
+    [BLUNDER_POSSIBLE] = "That is below 5 %: a blunder is possible.",
+    [BLUNDER_LIKELY] = "That is below 0.1 %: a blunder is likely.",
+    [CANDIDATES] = "One leg alone, so corrected, would bring the miss within the noise (in brackets: sound surveys that miss by as much as then remains). What could be, not what is:",
+    [NO_CANDIDATE] = "No correction of one leg alone would bring the miss within the noise.",
 };
 
 /* Whether the number that follows so many blanks is above a limit. */
@@ -153,6 +171,8 @@ int refuse_option(const char *name, uint32_t number) {
     text option = {name, &nothing, 0};
     return refuse(&option, RECORD, 0, number);
 }
+
+const char *sentence(saying what) { return SAYINGS[what]; }
 
 /* "jabulghi: " and a sentence, its places filled in. */
 static void tell(saying what, va_list values) {

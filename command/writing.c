@@ -82,3 +82,12 @@ int finish(int status) {
     if (status != DONE) system_remove(output.beside);
     return status;
 }
+
+/* Writes a file besides the output, whole or not at all. */
+int put_file(const char *name, const void *bytes, size_t length) {
+    destination elsewhere = output;
+    output = (destination){name, NULL, -1, false};
+    int status = finish(put(bytes, length));
+    output = elsewhere;
+    return status;
+}

@@ -101,6 +101,16 @@ static void tape_book(void) {
     printf("east %" PRId64 " to %" PRId64 " mm, north %" PRId64 " to %" PRId64 " mm\n", mm[0], mm[1], mm[2], mm[3]);
 }
 
+/* A loop played three times: east and north of each run's miss. Another machine would go on from run 3. */
+static void plays(void) {
+    static const char job[] = "(seeds (a 3770694558 3532774216 2901327257) (b 4093209576 2137023497 2889436789))\n(sigma 4 10)\n"
+                              "(shot A B 10000 0)\n(shot B C 10000 21845)\n(shot C A 10000 43691)\n";
+    int64_t misses[3][2];
+    uint32_t line;
+    jabulghi_play((const uint8_t *)job, strlen(job), 0, misses, 3, &line);
+    for (int run = 0; run < 3; run++) printf("run %d: east %" PRId64 " mm, north %" PRId64 " mm\n", run, misses[run][0], misses[run][1]);
+}
+
 int main(void) {
     static jabulghi_record record;
     records(&record);
@@ -109,4 +119,5 @@ int main(void) {
     again(&record);
     survey();
     tape_book();
+    plays();
 }

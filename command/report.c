@@ -1,0 +1,83 @@
+/* The figures and the verdict, for a person. */
+#include "tolerance.h"
+#include <inttypes.h>
+#include <math.h>
+#include <stdio.h>
+
+/* At most so many candidates are printed. */
+#define MOST_PRINTED 30
+
+/* Below 5 % of sound surveys a miss is worth a look, below 0.1 % it is likely a blunder. */
+enum { DOUBTFUL = 50, UNLIKELY = 1 };
+
+bool is_below(const tally *kept, unsigned thousandths) { return (double)(kept->beyond + 1) * 1000 < (double)thousandths * (double)(kept->runs + 1); }
+
+/* Two digits of a percentage that is small, whole percents of one that is not; of none, that it is less than one of all. */
+static const char *percent(char word[32], uint64_t part, uint64_t all) {
+    double share = 100.0 * (double)(part == 0 ? 1 : part) / (double)all;
+    snprintf(word, 32, share < 10 ? "%s%.2g" : "%s%.0f", part == 0 ? "less than " : "", share);
+    return word;
+}
+
+static double length_of(const traverse *t) {
+    double sum = 0;
+    for (size_t j = 0; j < t->count; j++) sum += t->shots[j].distance;
+    return sum;
+}
+
+static void describe(const task *t, const tally *kept, page *to) {
+    const uint32_t *n = t->s.seeds, *sigma = t->s.sigma;
+    add(to, "%s: %zu legs, %.3f m\n", t->s.source.name, t->shots.count, length_of(&t->shots) / 1000);
+    add(to, "sigma: %" PRIu32 " mm of distance, %" PRIu32 " steps (%.3f degrees) of bearing\n", sigma[0], sigma[1], sigma[1] * 360 / 65536.0);
+    add(to, "%s\n", sentence(MODELLED));
+    add(to, SEEDS_LINE "\n", n[0], n[1], n[2], n[3], n[4], n[5]);
+    add(to, "%" PRIu64 " runs, from run %" PRIu64 " on\n", kept->runs, kept->first);
+    add(to, "miss without noise: east %" PRId64 ", north %" PRId64 ", distance %.0f mm\n\n", t->own[0], t->own[1], hypot((double)t->own[0], (double)t->own[1]));
+}
+
+/* Each figure of the runs with the closed form's beside it. */
+static void tabulate(const task *t, const tally *kept, page *to) {
+    closed_form closed = closed_form_of(t);
+    add(to, "noise in mm            east               north            distance   (closed: the closed form)\n");
+    add(to, "              runs    closed      runs    closed      runs    closed\nrms     ");
+    for (int j = 0; j < MEASURES; j++) add(to, "%10.1f%10.1f", rms_of(kept, j), closed.rms[j]);
+    for (int row = 0; row < QUANTILES; row++) {
+        add(to, "\n%4.4g %%  ", THOUSANDTHS[row] / 10.0);
+        for (int j = 0; j < MEASURES; j++) add(to, "%10" PRIu64 "%10.1f", within_of(kept, j, THOUSANDTHS[row]), closed.within[j][row]);
+    }
+    add(to, "\n\n");
+}
+
+static void list_candidates(const task *t, const ellipse *e, page *to) {
+    static candidate found[2 * MOST_SHOTS];
+    char word[32];
+    size_t count = candidates_of(t, e, found);
+    add(to, "%s\n", sentence(count == 0 ? NO_CANDIDATE : CANDIDATES));
+    for (size_t j = 0; j < count && j < MOST_PRINTED; j++) {
+        const shot *s = &t->shots.shots[found[j].leg];
+        add(to, "  leg %zu, %s to %s: ", found[j].leg + 1, s->from, s->to);
+        add(to, found[j].bearing ? "bearing %+.1f degrees" : "distance %+.0f mm", found[j].correction);
+        add(to, " (%s %%)\n", percent(word, (uint64_t)(found[j].remains * 1e6), 1000000));
+    }
+    if (count > MOST_PRINTED) add(to, "  and %zu more\n", count - MOST_PRINTED);
+}
+
+/* What the runs say of the miss, by their ellipse. */
+static void judge(const task *t, const tally *kept, const ellipse *e, page *to) {
+    char beyond[32], farther[32];
+    double distance = hypot(t->miss.east, t->miss.north);
+    add(to, "%s: east %.10g, north %.10g, distance %.0f mm", t->given ? "the miss given" : "the miss", t->miss.east, t->miss.north, distance);
+    add(to, distance >= 0.5 ? " (1 in %.0f)\n" : "\n", length_of(&t->shots) / distance);
+    add(to, sentence(VERDICT), percent(beyond, kept->beyond, kept->runs), percent(farther, kept->farther, kept->runs));
+    add(to, "\n%s\n", sentence(is_below(kept, UNLIKELY) ? BLUNDER_LIKELY : is_below(kept, DOUBTFUL) ? BLUNDER_POSSIBLE : NO_BLUNDER));
+    if (is_below(kept, DOUBTFUL)) list_candidates(t, e, to);
+}
+
+void report(const task *t, const tally *kept, page *to) {
+    ellipse e = ellipse_of_runs(kept);
+    describe(t, kept, to);
+    tabulate(t, kept, to);
+    if (is_point(&e)) add(to, "%s\n", sentence(ALL_ALIKE));
+    else if (is_line(&e)) add(to, "%s\n", sentence(ON_A_LINE));
+    judge(t, kept, &e, to);
+}
