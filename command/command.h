@@ -109,6 +109,7 @@ int system_rename(const char *from, const char *to);
 int system_remove(const char *name);
 ssize_t system_write(int file, const void *bytes, size_t length);
 double system_seconds(void);
+uint64_t system_processors(void);
 int system_random(uint32_t numbers[6]);
 extern const char SYSTEM_END_OF_INPUT[];
 

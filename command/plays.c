@@ -4,7 +4,6 @@
 #include <pthread.h>
 #include <stdlib.h>
 #include <string.h>
-#include <unistd.h>
 
 /* Runs that a thread takes at a time. */
 #define STRETCH 4096
@@ -13,15 +12,6 @@
 
 /* What the threads share; next and number are changed while the lock is held. */
 typedef struct { task *t; pthread_mutex_t lock; uint64_t next; uint32_t number; } pool;
-
-uint64_t processors(void) {
-#ifdef _WIN32
-    int found = pthread_num_processors_np();
-#else
-    long found = sysconf(_SC_NPROCESSORS_ONLN);
-#endif
-    return found < 1 ? 1 : (uint64_t)found;
-}
 
 /* The next runs to be played, none where all are; and how far the runs are. */
 static uint64_t take_runs(pool *p, uint64_t *start) {

@@ -1,4 +1,4 @@
-/* What Linux and Windows do in different ways: writes that fail, bytes as they are, files' names, the time and randomness. */
+/* What Linux and Windows do in different ways: writes that fail, bytes as they are, files' names, the time, processors and randomness. */
 #ifdef _WIN32
 #define _CRT_RAND_S
 #endif
@@ -76,6 +76,12 @@ ssize_t system_write(int file, const void *bytes, size_t length) {
 
 double system_seconds(void) { return (double)GetTickCount64() / 1e3; }
 
+uint64_t system_processors(void) {
+    SYSTEM_INFO found;
+    GetSystemInfo(&found);
+    return found.dwNumberOfProcessors;
+}
+
 int system_random(uint32_t numbers[6]) {
     for (int j = 0; j < 6; j++) {
         unsigned number;
@@ -122,6 +128,11 @@ double system_seconds(void) {
     struct timespec now;
     clock_gettime(CLOCK_MONOTONIC, &now);
     return (double)now.tv_sec + (double)now.tv_nsec / 1e9;
+}
+
+uint64_t system_processors(void) {
+    long found = sysconf(_SC_NPROCESSORS_ONLN);
+    return found < 1 ? 1 : (uint64_t)found;
 }
 
 int system_random(uint32_t numbers[6]) {

@@ -72,7 +72,7 @@ static int run(int count, char **words, const option asked[ASKED]) {
     tally kept;
     text source;
     t.runs = asked[RUN].value == NULL ? 10000 : 1;
-    t.jobs = processors();
+    t.jobs = system_processors();
     int status = numbers_of(asked, &t);
     if (status == DONE && count > 1) status = wrong(ONE_FILE, words[1]);
     if (status == DONE) status = read_text(count == 0 ? "-" : words[0], &source);

@@ -62,7 +62,6 @@ int put_run(const task *t);
 
 /* plays.c: plays all runs, by as many threads as are asked for. */
 int play_all(task *t);
-uint64_t processors(void);
 
 /* statistics.c */
 int tally_of(const task *t, uint64_t width, tally *kept);

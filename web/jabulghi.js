@@ -155,6 +155,13 @@ class Jabulghi {
     const [sums, eastLow, eastHigh, northLow, northHigh] = this.#miss('intervals', listing, 4);
     return { east: [eastLow, eastHigh], north: [northLow, northHigh], sums };
   }
+
+  // East and north of so many plays of a job's loop, one after another, in millimetres; each is below 2^31, as 500 shots are.
+  play(job, runs, first = 0) {
+    const bytes = encode(job), misses = new BigInt64Array(2 * u32(runs)), line = new Uint32Array(1);
+    checkText(this, call(this, 'play', [bytes], bytes.length, u64(first), misses, Number(runs), line), 'JOB', line[0], bytes);
+    return Int32Array.from(misses, Number);
+  }
 }
 
 export async function load(bytes) { return new Jabulghi((await WebAssembly.instantiate(bytes)).instance.exports); }

@@ -152,4 +152,13 @@ function surveys() {
   interval(`${BETWEEN}${HEADER}END 0\n`), interval(`${HEADER}END 0\n`);
 }
 
-records(), requests(), marks(), jobs(), windows(), surveys();
+// What tests/calls.c has not: plays, for their memory and their stack.
+function plays() {
+  again();
+  const loop = text(`${SEEDS}(sigma 4 10)\n${'(shot A A 1000 5)\n'.repeat(500)}`), misses = room(BigInt64Array, 8).fill(7n), line = room(Uint32Array, 1).fill(7);
+  call('play', loop, loop.length, 5n, misses, 4, line);
+  if (line[0] !== 0 || misses.includes(7n)) say(`play: line ${line}, ${misses.join(' ')}`);
+  misses.fill(7n), call('play', loop, loop.length, MOST, misses, 4, line);
+}
+
+records(), requests(), marks(), jobs(), windows(), surveys(), plays();

@@ -159,6 +159,22 @@ function texts() {
   assert.deepEqual(sums, new BigInt64Array([0n, -1073741824n]));
 }
 
+// A play is the miss of the job with the seeds that its record has there.
+function plays() {
+  const job = `${example('loop.job')}`, shots = job.match(/^\(shot/gm).length, [seeds, ...rest] = job.split('\n'), first = 2n ** 50n, misses = jabulghi.play(job, 5, first);
+  for (let j = 0; j < 5; j++) {
+    const [a0, a1, a2, b0, b1, b2] = jabulghi.seed(...seeds.match(/\d+/g).map(Number)).skip((first + BigInt(j)) * BigInt(shots)).registers;
+    const { east, north } = jabulghi.misclosure(jabulghi.list([`(seeds (a ${a0} ${a1} ${a2}) (b ${b0} ${b1} ${b2}))`, ...rest].join('\n')));
+    assert.deepEqual([...misses.subarray(2 * j, 2 * j + 2)], [east, north]);
+  }
+  assert.deepEqual(jabulghi.play(job, 1).join(), jabulghi.play(job, 2, 0).subarray(0, 2).join());
+  assert.equal(jabulghi.play(job, 0).length, 0);
+  assert.equal(refused(CODES.COUNT_FULL, () => jabulghi.play(job, 1, MOST)).line, 0);
+  assert.equal(refused(CODES.OTHER_STATION, () => jabulghi.play(job.replace(/(\(shot \w+ )\w+/, '$1ELSEWHERE'), 1)).line, 4);
+  for (const wrong of [() => jabulghi.play(job), () => jabulghi.play(job, '1'), () => jabulghi.play(5, 1)]) assert.throws(wrong, TypeError);
+  for (const wrong of [() => jabulghi.play(job, -1), () => jabulghi.play(job, 1, 2n ** 64n), () => jabulghi.play(job, 2 ** 32)]) assert.throws(wrong, RangeError);
+}
+
 // Arguments of a wrong type or beyond what C's type holds are exceptions, no refusals, and change nothing.
 function badArguments() {
   const record = jabulghi.seed(...GOOD), window = jabulghi.window(3), marks = jabulghi.marks(), before = record.bytes.slice();
@@ -178,7 +194,7 @@ function badArguments() {
   assert.equal(jabulghi.seed(...GOOD.map(BigInt)).block(2)[0], 1877);
 }
 
-for (const part of [names, samples, requests, windowsAndMarks, nothing, texts, badArguments]) part();
+for (const part of [names, samples, requests, windowsAndMarks, nothing, texts, plays, badArguments]) part();
 // A listing longer than its buffer alone is not met: the module makes room for every listing.
 assert.deepEqual(Object.values(CODES).filter(code => code !== CODES.OK && !met.has(code)), [CODES.LISTING_TOO_LONG]);
 console.log(`jabulghi.js: 10^6 samples of each width as here, ${met.size} refusals, ${heard.size} sentences as the command's`);
