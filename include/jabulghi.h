@@ -14,8 +14,9 @@
  * compared with another implementation there. For other processors the same modules are compiled by the same compiler (make lib TARGET=list names
  * them), which the toolchain does not support; that is tested under emulators, and on no device. Where a size_t has 32 bits, functions in C of a line or
  * two, which are not proved, pass the lengths on. The lowest byte of a number comes first.
- * A guess at a square root is made in doubles, and no result depends on it. So every call that makes samples raises the inexact flag: a trap on inexact
- * would end the program, and an interrupt that makes such a call must save the registers of the floating-point unit.
+ * Where a processor works with doubles itself, a guess at a square root is made in them, and no result depends on it: there every call that makes samples
+ * raises the inexact flag, a trap on inexact would end the program, and an interrupt that makes such a call must save the registers of the floating-point
+ * unit. On thumbv6m, thumbv7m, thumbv7em, thumbv7em-hf, thumbv8m, thumbv8m-hf, riscv32imc and riscv32imac no call uses floating point.
  *
  * State and threads. The library has no data that is written. Calls on different records, windows and marks may run at once in several threads; on the
  * same one, one after another. A record has 40 bytes, a window 8,224 and a set of marks 960; all calls together are 60 to 100 KB of code and tables.
@@ -24,10 +25,9 @@
  *   on x86_64, aarch64, riscv64: memcpy, memset
  *   on x86_64-windows: memcpy, memset, ___chkstk_ms
  *   on armv7: memcpy, memset, __aeabi_uldivmod
- *   on thumbv6m: __aeabi_memcpy, __aeabi_memcpy4, __aeabi_memcpy8, __aeabi_memclr, __aeabi_memclr4, __aeabi_memclr8, __aeabi_uldivmod, __aeabi_lmul, __aeabi_llsl, __clzsi2, __aeabi_dadd, __aeabi_dsub, __aeabi_dmul, __aeabi_dcmplt
- *   on thumbv7m, thumbv7em, thumbv7em-hf, thumbv8m, thumbv8m-hf: __aeabi_memcpy, __aeabi_memcpy4, __aeabi_memcpy8, __aeabi_memclr, __aeabi_memclr4, __aeabi_memclr8, __aeabi_uldivmod, __aeabi_dadd, __aeabi_dsub, __aeabi_dmul, __aeabi_dcmplt
- *   on thumbv7em-dp: __aeabi_memcpy, __aeabi_memcpy4, __aeabi_memcpy8, __aeabi_memclr, __aeabi_memclr4, __aeabi_memclr8, __aeabi_uldivmod
- *   on riscv32imc, riscv32imac: memcpy, memset, __udivdi3, __adddf3, __subdf3, __muldf3, __ltdf2
+ *   on thumbv6m: __aeabi_memcpy, __aeabi_memcpy4, __aeabi_memcpy8, __aeabi_memclr, __aeabi_memclr4, __aeabi_memclr8, __aeabi_uldivmod, __aeabi_lmul, __aeabi_llsl, __aeabi_llsr, __clzsi2
+ *   on thumbv7m, thumbv7em, thumbv7em-hf, thumbv7em-dp, thumbv8m, thumbv8m-hf: __aeabi_memcpy, __aeabi_memcpy4, __aeabi_memcpy8, __aeabi_memclr, __aeabi_memclr4, __aeabi_memclr8, __aeabi_uldivmod
+ *   on riscv32imc, riscv32imac: memcpy, memset, __udivdi3
  *
  * Stack. At most, as measured on every processor that it is tested on, the caller's own frame left out:
  *   256 bytes: jabulghi_seed, jabulghi_ask, jabulghi_give_up, jabulghi_window_make, jabulghi_window_push, jabulghi_window_push_all
