@@ -102,7 +102,7 @@ function cloud(judged, colours) {
 }
 
 const FONT = 'font-family="sans-serif" font-size="24"';
-const onScreen = (box, inside) => `<svg viewBox="${box}" ${FONT} fill="currentColor" role="img">${inside}</svg>`;
+const onScreen = (box, inside) => `<svg viewBox="${box}" font-family="sans-serif" font-size="19" fill="currentColor" role="img">${inside}</svg>`;
 export const histogramOf = judged => onScreen('0 10 620 500', histogram(judged, SCREEN));
 export const cloudOf = judged => onScreen('590 10 560 500', cloud(judged, SCREEN));
 

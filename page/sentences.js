@@ -10,7 +10,7 @@ export const WORDS = {
   survey: 'Survey', surveyHint: 'Paste, open or drop the text of one loop with level legs: Survex, a job or a listing.',
   open: 'Open a file', example: 'Example', choose: 'choose one',
   sound: 'a sound loop of 8 legs', forty: 'a sound loop of 40 legs', blunder: 'the same with a blunder of 10° in leg 13', listing: 'a listing', job: 'a job with its own sigmas and seeds',
-  tape: 'Tape, sigma', compass: 'Compass, sigma', degrees: 'degrees', unit: 'Unit of the tape’s sigma', plays: 'Plays', seeds: 'Six seeds',
+  tape: 'Tape, sigma', compass: 'Compass, sigma', degrees: '°', unit: 'Unit of the tape’s sigma', plays: 'Plays', seeds: 'Six seeds',
   go: 'Play the loop back', stop: 'Stop', fresh: 'New seeds', progress: 'Plays done',
   plan: 'Plan', planHint: 'the survey and some plays, from the first station', cloud: 'Where the plays miss', cloudHint: 'with ellipses of 50, 95 and 99.9 %', histogram: 'How far they miss',
   figures: 'How far sound loops miss', candidates: 'Legs to look at', candidatesHint: 'Touch a row to see its leg in the plan.',
@@ -18,7 +18,7 @@ export const WORDS = {
   save: 'Save', csv: 'All plays (CSV)', svg: 'Picture (SVG)', playJob: 'Job of play', number: 'Number of the play',
   legs: 'All legs', length: 'Distance', bearing: 'Bearing', oldResults: 'These are the results of what was played before.',
   proved: 'What is proved',
-  share: 'Share of the plays', east: 'east', north: 'north', distance: 'distance', percent: 'of the length', closedDistance: 'closed form', rms: 'root mean square',
+  share: 'Share of the plays', east: 'east, mm', north: 'north, mm', distance: 'distance, mm', percent: '% of length', closedDistance: 'distance by formula, mm', rms: 'r. m. s.',
 };
 
 export const PROVED = [

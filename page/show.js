@@ -35,7 +35,7 @@ function row(first, cells) {
 function showFigures(judged) {
   const length = lengthOf(judged.loop.shots);
   $('figures').replaceChildren(...rowsOfFigures(judged).map(({ thousandths, plays, closed }) => row(thousandths === 0 ? WORDS.rms : `${thousandths / 10} %`,
-    [...plays.map(mm => `${mm.toFixed(thousandths === 0 ? 1 : 0)} mm`), length > 0 ? `${(100 * plays[2] / length).toFixed(2)} %` : '', `${closed[2].toFixed(1)} mm`])));
+    [...plays.map(mm => mm.toFixed(thousandths === 0 ? 1 : 0)), length > 0 ? (100 * plays[2] / length).toFixed(2) : '', closed[2].toFixed(1)])));
 }
 
 // A row that is touched, or has the keyboard, marks its leg in the plan.
@@ -48,7 +48,7 @@ function showCandidates({ candidates, doubtful, loop }) {
   $('candidatesSaid').textContent = say(candidates.length > 0 ? 'CANDIDATES' : 'NO_CANDIDATE');
   $('candidateTable').hidden = candidates.length === 0;
   $('candidateRows').replaceChildren(...candidates.slice(0, MOST_SHOWN).map(candidate => {
-    const made = row(legName(candidate.leg, loop.shots[candidate.leg]), [correction(candidate), `${percent(Math.floor(candidate.remains * 1e6), 1e6)} %`]);
+    const made = row(legName(candidate.leg, loop.shots[candidate.leg]), [correction(candidate), `(${percent(Math.floor(candidate.remains * 1e6), 1e6)} %)`]);
     made.tabIndex = 0;
     for (const event of ['pointerenter', 'focus', 'click']) made.addEventListener(event, () => markLeg(candidate.leg));
     return made;
@@ -77,6 +77,7 @@ export function show(jabulghi, judged, asked, seconds) {
   showFigures(judged);
   $('legRows').replaceChildren(...loop.shots.map((shot, leg) => row(legName(leg, shot), [`${(shot.distance / 1000).toFixed(3)} m`, `${(shot.bearing * 360 / 65536).toFixed(2)}°`])));
   showCandidates(judged);
+  $('playSaid').textContent = '';
   $('results').hidden = false;
 }
 
