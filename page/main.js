@@ -4,14 +4,16 @@ import { EXAMPLES } from './examples.js';
 import { load } from './jabulghi.js';
 import { judge } from './judge.js';
 import { survex } from './example.js';
+import { loadLevel } from './level.js';
+import { takeText } from './ordinary.js';
 import { atLine, doing, filledIn, lacksPlay, taken, unread } from './sentences.js';
 import { drawSeeds, sixSeeds, wholeMillimetres, wholePlays, wholeSteps } from './settings.js';
-import { $, grey, show, showWords } from './show.js';
-import { jobOf, jobOfPlay, kindOf, takeLoop } from './survey.js';
+import { $, grey, show, showLoops, showWords } from './show.js';
+import { jobOf, jobOfPlay, kindOf } from './survey.js';
 import { Player } from './worker.js';
 
-const bytes = Uint8Array.from(atob($('wasm').textContent.trim()), letter => letter.charCodeAt(0));
-let jabulghi, player, judged, name = '', turn = 0;
+const bytesOf = id => Uint8Array.from(atob($(id).textContent.trim()), letter => letter.charCodeAt(0)), bytes = bytesOf('wasm');
+let jabulghi, level, player, judged, name = '', number = 1, turn = 0;
 
 // A box of text has lines; the last one's line feed is added.
 const textOf = () => $('text').value.replace(/[^\n]$/, '$&\n');
@@ -53,7 +55,7 @@ async function playLoop() {
   grey(true);
   $('said').textContent = $('badLine').textContent = '';
   try {
-    const asked = settings(), loop = takeLoop(jabulghi, textOf(), asked);
+    const asked = settings(), taking = takeText(jabulghi, level, textOf(), asked, number), { loop } = taking;
     busy(true);
     const misses = await player.play(jobOf(loop), asked.plays, done => {
       $('progress').value = done / asked.plays;
@@ -61,6 +63,7 @@ async function playLoop() {
     });
     if (mine !== turn || misses.length === 0) return;
     judged = judge(loop, misses);
+    showLoops(jabulghi, taking, asked.plays, chosen => { number = chosen; playLoop(); });
     show(jabulghi, judged, asked.plays, (performance.now() - start) / 1000);
     grey(false);
   } catch (error) {
@@ -83,6 +86,7 @@ function fillIn(text) {
 function take(text, from = '') {
   $('text').value = text;
   name = from;
+  number = 1;
   fillIn($('text').value);
   tellTaken();
   playLoop();
@@ -112,7 +116,7 @@ function saveJob() {
 function listen() {
   const changed = () => { grey(true); tellTaken(); };
   for (const id of ['text', 'mm', 'unit', 'degrees', 'plays', 'seeds']) $(id).addEventListener('input', changed);
-  $('text').addEventListener('input', () => { name = ''; });
+  $('text').addEventListener('input', () => { name = ''; number = 1; });
   $('text').addEventListener('paste', () => setTimeout(() => take($('text').value)));
   document.addEventListener('keydown', event => { if (event.key === 'Enter' && (event.ctrlKey || event.metaKey || event.target.matches('input'))) playLoop(); });
   document.addEventListener('dragover', event => { event.preventDefault(); $('text').classList.add('over'); });
@@ -136,13 +140,13 @@ function listen() {
 }
 
 function example(which) {
-  const texts = { sound: () => EXAMPLES['loop.svx'], forty: () => survex(40, 0), blunder: () => survex(40, 10), job: () => EXAMPLES['loop.job'], listing: () => jabulghi.list(EXAMPLES['loop.job']) };
+  const texts = { sound: () => EXAMPLES['loop.svx'], forty: () => survex(40, 0), blunder: () => survex(40, 10), ordinary: () => EXAMPLES['dotted.svx'], several: () => survex(12, 0) + survex(16, 14).replace(/S(?!0 )(\d+)/g, 'T$1'), job: () => EXAMPLES['loop.job'], listing: () => jabulghi.list(EXAMPLES['loop.job']) };
   if (texts[which] !== undefined) take(texts[which]());
 }
 
 async function begin() {
   showWords();
-  jabulghi = await load(bytes);
+  [jabulghi, level] = [await load(bytes), await loadLevel(bytesOf('levelWasm'))];
   player = new Player(`${$('engine').textContent}\nworker_js.serve(self);`, bytes);
   $('seeds').value = drawSeeds(jabulghi).join(',');
   listen();

@@ -7,7 +7,7 @@ export const THE_SURVEY = 'the text';
 export const WORDS = {
   title: 'Is this loop sound?',
   lead: 'Your loop is played back many times with the noise of your instruments. If almost no sound loop misses by as much as yours does, look for a blunder. Nothing leaves this page.',
-  survey: 'Survey', surveyHint: 'Paste, open or drop the text of one loop with level legs: Survex, a job or a listing.',
+  survey: 'Survey', surveyHint: 'Paste, open or drop a Survex text, a job or a listing.',
   open: 'Open a file', example: 'Example', choose: 'choose one',
   sound: 'a sound loop of 8 legs', forty: 'a sound loop of 40 legs', blunder: 'the same with a blunder of 10° in leg 13', listing: 'a listing', job: 'a job with its own sigmas and seeds',
   tape: 'Tape, sigma', compass: 'Compass, sigma', degrees: '°', unit: 'Unit of the tape’s sigma', plays: 'Plays', seeds: 'Six seeds',
@@ -16,6 +16,7 @@ export const WORDS = {
   figures: 'How far sound loops miss', candidates: 'Legs to look at', candidatesHint: 'Touch a row to see its leg in the plan.',
   leg: 'Leg', correction: 'Correction', remains: 'Sound loops that miss by what then remains',
   save: 'Save', csv: 'All plays (CSV)', svg: 'Picture (SVG)', playJob: 'Job of play', number: 'Number of the play',
+  loops: 'Loops of this survey: choose one', notes: 'What was changed in the text', ordinary: 'ordinary Survex, as a club keeps it', several: 'a survey of several loops',
   legs: 'All legs', length: 'Distance', bearing: 'Bearing', oldResults: 'These are the results of what was played before.',
   proved: 'What is proved',
   share: 'Share of the plays', east: 'east, mm', north: 'north, mm', distance: 'distance, mm', percent: '% of length', closedDistance: 'distance by formula, mm', rms: 'r. m. s.',
@@ -24,6 +25,7 @@ export const WORDS = {
 export const PROVED = [
   'Each play is a call of jabulghi_play. Its contract, proved by machine for every text and every number of a play (docs/CONTRACTS.md of the project): play j is what jabulghi_misclosure gives for the listing of the job with the same shots and sigmas and, as seeds, the registers of its record; no two plays share a pair of samples. Save the job of a play, and the command’s list and misses give the same miss.',
   'The proof is of the source. The compiler that made WebAssembly of it, and this browser, are not proved.',
+  'Ordinary Survex is made strict by the sources of jabulghi level, which are not proved: compare what it says it did.',
   'Plain JavaScript, tested beside the command and not proved: reading the text’s kind, counting, the ellipse, the verdict, the closed form, the legs to look at and the pictures.',
   'Modelled: independent Gaussian errors of each leg’s distance and bearing. Not modelled: calibration, stations, blunders.',
 ];
@@ -56,4 +58,5 @@ export const stopped = (plays, asked) => `Stopped after ${number(plays)} of ${nu
 export const doing = (plays, asked) => `${number(plays)} of ${number(asked)} plays`;
 export const correction = ({ bearing, correction: by }) => `${by < 0 ? '−' : '+'}${Math.abs(by).toFixed(bearing ? 1 : 0)}${bearing ? '° of bearing' : ' mm of distance'}`;
 export const legName = (leg, { from, to }) => `${leg + 1}: ${from} to ${to}`;
+export const loopName = (number, words, said) => `${number}: ${words}. ${said}`;
 export const andMore = count => `and ${number(count)} more`;

@@ -1,11 +1,11 @@
 // Writes what was found into the page.
 import { cloudOf, histogramOf } from './draw.js';
-import { rowsOfFigures } from './judge.js';
+import { judge, rowsOfFigures } from './judge.js';
 import { percent } from './numbers.js';
 import { planOf } from './plan.js';
 import { say } from './sayings.js';
-import { andMore, correction, legName, played, PROVED, stopped, verdict, WORDS } from './sentences.js';
-import { lengthOf } from './survey.js';
+import { andMore, correction, loopName, legName, played, PROVED, stopped, verdict, WORDS } from './sentences.js';
+import { jobOf, lengthOf } from './survey.js';
 
 // At most so many candidates are shown.
 const MOST_SHOWN = 30;
@@ -79,6 +79,19 @@ export function show(jabulghi, judged, asked, seconds) {
   showCandidates(judged);
   $('playSaid').textContent = '';
   $('results').hidden = false;
+}
+
+// Several loops, each with its verdict by so many plays; a button chooses.
+export function showLoops(jabulghi, { loops, chosen, said }, plays, choose) {
+  $('loops').hidden = loops.length === 0;
+  $('notes').hidden = said === '';
+  $('notesSaid').textContent = said;
+  $('loopRows').replaceChildren(...loops.map(({ number, words, loop }) => {
+    const { kept, verdict: name } = judge(loop, jabulghi.play(jobOf(loop), Math.min(plays, 10000)));
+    const made = make('button', loopName(number, words, verdict(Math.hypot(...loop.miss), kept.beyond, kept.runs, name)), { type: 'button', class: LEVELS[name], 'aria-pressed': number === chosen });
+    made.addEventListener('click', () => choose(number));
+    return made;
+  }));
 }
 
 // Results that are no longer those of the text and the settings: greyed, and nothing of them can be saved.

@@ -87,7 +87,7 @@ async function saves() {
 async function refusals() {
   const wrong = [
     ['text', `${DATA}A B 5 90 0\nB A 1001 270 0\n`, 'Line 3: tape above 1000.', 'B A 1001 270 0'], ['text', `${DATA}A B 5 90 0\nC D 5 90 0\n`, 'Line 3: shot does not start at the last station.', 'C D 5 90 0'],
-    ['text', `${DATA}A B 5 90 0\nB C 5 90 0`, 'the text: starts at A, ends at C: no loop.', ''], ['text', '*begin\n', "Line 1: commands are not taken here; jabulghi level takes ordinary Survex.", '*begin'],
+    ['text', `${DATA}A B 5 90 0\nB C 5 90 0`, 'the text: starts at A, ends at C: no loop.', ''], ['text', '*begin\n', 'Line 1: *begin has no *end.', '*begin'],
     ['text', '(seeds (a 2 8 16) (b 2 8 16))\n(sigma 4 10)\n(shot A B 5 65536)\n', 'Line 3: bearing above 65535.', '(shot A B 5 65536)'], ['text', '', 'Line 1: no data line.', ''],
     ['mm', '0.05', "Tape, sigma: '0.05 cm': a sigma of distance is whole millimetres, 0 to 1000.", ''], ['degrees', '6', "Compass, sigma: '6': a sigma of bearing is whole steps, 0 to 1000, or degrees, up to 5.49.", ''],
     ['plays', '1000001', "Plays: '1000001' is no whole number from 1 to 1,000,000.", ''], ['seeds', '1,2,3,4,5,6', 'seed of stream a below its minimum of 2, 8 or 16.', ''],
@@ -105,6 +105,22 @@ async function refusals() {
   assert.equal(await text('said'), '');
   assert.equal(await isOld(), false);
   return wrong.length;
+}
+
+// Ordinary Survex, and several loops: each has its verdict, and can be chosen.
+async function ordinary() {
+  await after(() => set('example', 'ordinary'));
+  assert.match(await text('notesSaid'), /^jabulghi: level is not proved.*legs that are not level, written with their plan length: 1/s);
+  await after(() => set('example', 'several'));
+  const rows = await value("[...document.querySelectorAll('#loopRows button')].map(row => row.textContent)");
+  assert.equal(rows.length, 2);
+  assert.match(rows[0], /^1: 12 legs, .*no sign of a blunder\.$/);
+  assert.match(rows[1], /^2: 16 legs, .*look for a blunder\.$/);
+  assert.match(await text('verdict'), /no sign of a blunder\.$/);
+  await after(() => value("document.querySelectorAll('#loopRows button')[1].click()"));
+  assert.match(await text('verdict'), /look for a blunder\.$/);
+  await after(() => set('example', 'sound'));
+  assert.equal(await value("document.getElementById('loops').hidden && document.getElementById('notes').hidden"), true);
 }
 
 // Ten thousand and a million plays of 40 legs, and one that is stopped.
@@ -128,11 +144,14 @@ async function times() {
 async function looks() {
   mkdirSync(pictures, { recursive: true });
   await set('plays', '10000');
-  for (const [name, which, width, dark] of [['sound', 'forty', 1400, false], ['blunder', 'blunder', 1400, true], ['narrow', 'blunder', 360, false], ['large', 'sound', 3840, false]]) {
+  for (const [name, which, width, dark] of [['sound', 'forty', 1400, false], ['blunder', 'blunder', 1400, true], ['narrow', 'blunder', 360, false], ['several', 'several', 1000, false], ['large', 'sound', 3840, false]]) {
     await browser.look(width, 900, dark);
     await after(() => set('example', which));
     assert(await browser.picture(join(pictures, `${name}.png`)) <= width, `${name}: wider than the screen`);
   }
+  await browser.look(1200, 900, false);
+  await after(() => set('example', 'blunder'));
+  await browser.picture(join(pictures, 'light.png'), 1180, 0.75); // docs/page.png
   await browser.look(360, 900, true);
   await set('text', `${DATA}A B 5 90 0\nB A 1001 270 0\n`);
   await after(() => click('go'));
@@ -151,6 +170,7 @@ try {
   await comesIn();
   await saves();
   const refused = await refusals(), seconds = await times();
+  await ordinary();
   await labels();
   await looks();
   assert.deepEqual([...new Set(browser.requests)].filter(url => !/^(file:|data:,|blob:|about:)/.test(url)), []);

@@ -66,9 +66,9 @@ export class Chromium {
     await this.call('Emulation.setEmulatedMedia', { features: [{ name: 'prefers-color-scheme', value: dark ? 'dark' : 'light' }] });
   }
 
-  async picture(file) {
+  async picture(file, most = Infinity, scale = 1) {
     const [width, height] = await this.value('[document.documentElement.scrollWidth, document.documentElement.scrollHeight]');
-    const { data } = await this.call('Page.captureScreenshot', { captureBeyondViewport: true, clip: { x: 0, y: 0, width, height, scale: 1 } });
+    const { data } = await this.call('Page.captureScreenshot', { captureBeyondViewport: true, clip: { x: 0, y: 0, width, height: Math.min(height, most), scale } });
     writeFileSync(file, Buffer.from(data, 'base64'));
     return width;
   }
