@@ -118,7 +118,8 @@ function listen() {
   for (const id of ['text', 'mm', 'unit', 'degrees', 'plays', 'seeds']) $(id).addEventListener('input', changed);
   $('text').addEventListener('input', () => { name = ''; number = 1; });
   $('text').addEventListener('paste', () => setTimeout(() => take($('text').value)));
-  document.addEventListener('keydown', event => { if (event.key === 'Enter' && (event.ctrlKey || event.metaKey || event.target.matches('input'))) playLoop(); });
+  $('play').addEventListener('keydown', event => { if (event.key === 'Enter') saveJob(); });
+  document.querySelector('.input').addEventListener('keydown', event => { if (event.key === 'Enter' && (event.ctrlKey || event.metaKey || event.target.matches('input'))) playLoop(); });
   document.addEventListener('dragover', event => { event.preventDefault(); $('text').classList.add('over'); });
   document.addEventListener('dragleave', () => $('text').classList.remove('over'));
   document.addEventListener('drop', event => {

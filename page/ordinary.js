@@ -32,8 +32,8 @@ export function takeText(jabulghi, level, text, asked, number = 1) {
     if (second.loop === undefined) throw ofBoth(first.wrong, new Wrong(0, second.wrong.sentence)); // a line of the strict text is not the user's
     return { loop: second.loop, said, loops: [] };
   }
-  const listed = [...said.matchAll(/^ {2}--loop (\d+): (.*)$/gm)].map(([, n, words]) => ({ number: Number(n), words, ...level(text, name, Number(n)) }));
+  const listed = [...said.matchAll(/^ {2}--loop (\d+): (.*)$/gm)].map(([, n, words]) => ({ number: Number(n), words, ...level(text, name, Number(n)) })).filter(one => one.done);
   if (listed.length === 0) throw ofBoth(first.wrong, wrongOf(said, name));
   const loops = listed.map(one => ({ ...one, loop: takeLoop(jabulghi, one.strict, asked) })), chosen = loops.find(one => one.number === number) ?? loops[0];
-  return { loop: chosen.loop, said: chosen.said, loops, chosen: chosen.number };
+  return { loop: chosen.loop, said: chosen.said, loops, chosen: chosen.number, more: Number(/^ {2}and (\d+) more$/m.exec(said)?.[1] ?? 0) };
 }

@@ -82,8 +82,9 @@ export function show(jabulghi, judged, asked, seconds) {
 }
 
 // Several loops, each with its verdict by so many plays; a button chooses.
-export function showLoops(jabulghi, { loops, chosen, said }, plays, choose) {
+export function showLoops(jabulghi, { loops, chosen, said, more = 0 }, plays, choose) {
   $('loops').hidden = loops.length === 0;
+  $('loopsMore').textContent = more > 0 ? andMore(more) : '';
   $('notes').hidden = said === '';
   $('notesSaid').textContent = said;
   $('loopRows').replaceChildren(...loops.map(({ number, words, loop }) => {

@@ -149,9 +149,9 @@ async function looks() {
     await after(() => set('example', which));
     assert(await browser.picture(join(pictures, `${name}.png`)) <= width, `${name}: wider than the screen`);
   }
-  await browser.look(1200, 900, false);
+  await browser.look(1400, 900, false);
   await after(() => set('example', 'blunder'));
-  await browser.picture(join(pictures, 'light.png'), 1180, 0.75); // docs/page.png
+  await browser.picture(join(pictures, 'light.png'), 1240, 0.65); // docs/page.png
   await browser.look(360, 900, true);
   await set('text', `${DATA}A B 5 90 0\nB A 1001 270 0\n`);
   await after(() => click('go'));
