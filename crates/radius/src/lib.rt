@@ -93,16 +93,7 @@ fn about(remainder: u64, reciprocal: u64, inverse: u64) -> u64
     remainder * (reciprocal * inverse / INVERSE) / BOTH
 }
 
-// n / d, where a processor divides numbers of 64 bits. What the guess is does not matter.
-fn quotient(n: u64, d: u64, guess: u64) -> u64
-    requires { ⌜ (0 < d) × (d < 2 ^ 27) × (guess < 2 ^ 32) ⌝ }
-    ensures { λ r. ⌜ r ≡ n / d ⌝ }
-{
-    n / d
-}
-
-// The same with no division, unless the guess is far off: one that passes the test is the quotient, and so is the next number where that passes.
-// tools/target names it in place of `quotient` where a division is a call.
+// n / d with no division, unless the guess is far off: one that passes the test is the quotient, and so is the next number where that passes.
 fn guessed_quotient(n: u64, d: u64, guess: u64) -> u64
     requires { ⌜ (0 < d) × (d < 2 ^ 27) × (guess < 2 ^ 32) ⌝ }
     ensures { λ r. ⌜ r ≡ n / d ⌝ }
@@ -118,6 +109,23 @@ fn guessed_quotient(n: u64, d: u64, guess: u64) -> u64
         }
     }
     n / d
+}
+
+// Whether a quotient is by division. Nothing is promised of it, so that `quotient` is proved both ways: its other way is there so that the module
+// has `guessed_quotient`, which tools/target names in place of `quotient` for a processor where a division of 64 bits is a call.
+fn divides() -> bool {
+    true
+}
+
+// n / d. What the guess is does not matter.
+fn quotient(n: u64, d: u64, guess: u64) -> u64
+    requires { ⌜ (0 < d) × (d < 2 ^ 27) × (guess < 2 ^ 32) ⌝ }
+    ensures { λ r. ⌜ r ≡ n / d ⌝ }
+{
+    if divides() {
+        return n / d;
+    }
+    guessed_quotient(n, d, guess)
 }
 
 // The cell of a number in the logarithm tables: h, B(i) and S.
