@@ -120,10 +120,10 @@ def kept():
     rig.block(growing)
     growing.append(1)  # nothing is held after a call
     total = Generator(SEEDS)
-    threads = [threading.Thread(target=lambda: [total.block(200) for _ in range(200)]) for _ in range(4)]
+    threads = [threading.Thread(target=lambda: [total.block(20000) for _ in range(100)]) for _ in range(4)]
     [t.start() for t in threads], [t.join() for t in threads]
     after = Generator(SEEDS)
-    after.skip(4 * 200 * 100)
+    after.skip(4 * 100 * 10000)
     assert total == after
 
 
