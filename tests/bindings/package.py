@@ -102,6 +102,8 @@ def misuse():
                          (jabulghi.play, (JOB, -1)), (jabulghi.play, (JOB, 2**60)), (jabulghi.play, (JOB, 2**57)), (Generator.from_bytes, (bytes(39),)), (hash, (rig,))):
         raises((TypeError, ValueError, OverflowError, MemoryError), call, *values)
     if numpy is not None:
+        assert list(Generator(SEEDS).block(numpy.int64(4))) == list(rig.look(numpy.uint8(4))) and jabulghi.play(JOB, 0).shape == (0, 2)
+        assert Generator(SEEDS).block(numpy.zeros((3, 4), "i2")).tolist() == rig.look(12).reshape(3, 4).tolist() and jabulghi.play(JOB, 3).shape == (3, 2)
         for samples in (numpy.zeros(8, ">i2"), numpy.zeros(8, "u2"), numpy.zeros(8, "f4"), numpy.zeros(8, "i2")[::2], numpy.frombuffer(bytearray(9), "u1")[1:].view("i2"), numpy.zeros((4, 4), "i2").T,
                         numpy.broadcast_to(numpy.zeros(1, "i2"), 8), numpy.zeros(8, "i8")):
             raises((TypeError, ValueError, BufferError), rig.block, samples)

@@ -123,7 +123,7 @@ def _lent(buffer: Any, size: int) -> Any:
 
 def _room(samples: Any, size: int) -> Any:
     """The buffer given, or a new one of that many samples."""
-    if not hasattr(samples, "__index__") or hasattr(samples, "__array_interface__"):
+    if not isinstance(samples, int if numpy is None else (int, numpy.integer)):
         return samples
     length = _whole(samples, 0, 2**62)
     return numpy.zeros(length, dtype=f"i{size}") if numpy is not None else array("h" if size == 2 else "i", bytes(size * length))
@@ -370,5 +370,4 @@ def play(job: Text, runs: int, first: int = 0) -> Any:
     """How far a job's loop misses in each of so many plays: rows of east and north in millimetres."""
     text, misses, line = _bytes(job), ((ctypes.c_int64 * 2) * _whole(runs, 0, 2**58))(), _U32()
     _call("play", text, len(text), _u64(first), misses, len(misses), ctypes.byref(line), line=line)
-    rows = [(east, north) for east, north in misses]
-    return numpy.array(rows, dtype="i8").reshape(-1, 2) if numpy is not None else rows
+    return numpy.array(misses, dtype="i8").reshape(-1, 2) if numpy is not None else [(east, north) for east, north in misses]
