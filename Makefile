@@ -5,6 +5,7 @@
 # make lib TARGET=name  the library for another processor: target/name/libjabulghi.a; TARGET=list prints the names and what each serves
 # make wasm             the library for browsers and node: target/wasm32/jabulghi.wasm and jabulghi.js (docs/WEB.md)
 # make windows          the library and the command for Windows: target/x86_64-windows/jabulghi.dll, libjabulghi.a and jabulghi.exe
+# make wheel            the package for Python, with the shared library: target/wheel (bindings/python/README.md)
 # make test             everything: the gate, every proof from nothing and the comparison with another implementation
 # make lib              proves and writes target/staticlib/libjabulghi.a, for C and Rust
 # make bench            times beside plain C and other generators
@@ -26,7 +27,7 @@ TARGET ?=
 lib:
 	$(if $(TARGET),tools/target $(TARGET),tools/library)
 
-.PHONY: command wasm windows install
+.PHONY: command wasm windows wheel install
 command:
 	tools/command
 
@@ -35,6 +36,10 @@ wasm:
 
 windows:
 	tools/windows
+
+wheel:
+	tests/library
+	python3 bindings/python/wheel_of.py target/wheel
 
 PREFIX ?= /usr/local
 DESTDIR ?=
