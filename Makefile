@@ -6,6 +6,7 @@
 # make wasm             the library for browsers and node: target/wasm32/jabulghi.wasm and jabulghi.js (docs/WEB.md)
 # make page             the page for any browser, one file: target/page/jabulghi.html (docs/PAGE.md)
 # make windows          the library and the command for Windows: target/x86_64-windows/jabulghi.dll, libjabulghi.a and jabulghi.exe
+# make wheel            the package for Python, with the shared library: target/wheel (bindings/python/README.md)
 # make test             everything: the gate, every proof from nothing and the comparison with another implementation
 # make lib              proves and writes target/staticlib/libjabulghi.a, for C and Rust
 # make bench            times beside plain C and other generators
@@ -27,7 +28,7 @@ TARGET ?=
 lib:
 	$(if $(TARGET),tools/target $(TARGET),tools/library)
 
-.PHONY: command wasm page windows install
+.PHONY: command wasm page windows wheel install
 command:
 	tools/command
 
@@ -39,6 +40,10 @@ page:
 
 windows:
 	tools/windows
+
+wheel:
+	tests/library
+	python3 bindings/python/wheel_of.py target/wheel
 
 PREFIX ?= /usr/local
 DESTDIR ?=

@@ -19,7 +19,7 @@
  * unit. On thumbv6m, thumbv7m, thumbv7em, thumbv7em-hf, thumbv8m, thumbv8m-hf, riscv32imc and riscv32imac no call uses floating point.
  *
  * State and threads. The library has no data that is written. Calls on different records, windows and marks may run at once in several threads; on the
- * same one, one after another. A record has 40 bytes, a window 8,224 and a set of marks 960; all calls together are 60 to 100 KB of code and tables.
+ * same one, one after another. A record has 40 bytes, a window 8,224 and a set of marks 960; all calls together are 84 to 150 KB of code and tables.
  *
  * What it needs at most of a C library and of the compiler's own library (libgcc or compiler-rt):
  *   on x86_64, aarch64, riscv64: memcpy, memset

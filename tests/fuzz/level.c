@@ -1,19 +1,9 @@
-/* A libFuzzer target for `jabulghi level`, run by hand, from the repository's folder (Debian: clang, libclang-rt-dev):
- *
- *     clang -std=c99 -g -O1 -fsanitize=fuzzer,address,undefined -Iinclude -Icommand tests/fuzz/level.c command/level*.c command/writing.c \
- *         target/staticlib/libjabulghi.a -o target/fuzz_level
- *     target/fuzz_level -max_total_time=600 -max_len=2000 target/corpus tests/level/cases
+/* `jabulghi level` on any bytes (tests/fuzz/run).
  *
  * Each text is read without a choice of its loop and with one. What is written is a text that the library's call takes; a refusal writes nothing and says at least a line. */
 #include "level.h"
 #include <stdlib.h>
 #include <string.h>
-
-/* What level.c calls for the words of a command line, of which there are none here. */
-int read_options(int *count, char **words, option *options, size_t size) { return (void)count, (void)words, (void)options, (void)size, TROUBLE; }
-int number_of(const option *given, uint64_t most, uint64_t *number) { return (void)given, (void)most, (void)number, TROUBLE; }
-int read_text(const char *name, text *read) { return (void)name, (void)read, TROUBLE; }
-int wrong(saying what, ...) { return (void)what, TROUBLE; }
 
 static void hold(bool fact) {
     if (!fact) abort();

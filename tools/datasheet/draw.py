@@ -273,6 +273,23 @@ def stacks():
     return '; '.join(f'{", ".join(names)} {plain(taken)}' for taken, names in groups.items())
 
 
+def processors():
+    """Some columns and rows of the tables that tools/datasheet/processors wrote into docs/PROCESSORS.md."""
+    with open('docs/PROCESSORS.md', encoding='utf-8') as file:
+        rows = [[cell.strip() for cell in line.strip('| \n').split('|')] for line in file if line.startswith('|')]
+    instructions = next(place for place, row in enumerate(rows) if row[0] == 'Instructions')
+    flash = next(place for place, row in enumerate(rows) if row[0].startswith('Flash'))
+    columns = [rows[instructions].index(name) for name in ('thumbv6m', 'thumbv7em-hf', 'thumbv7em-dp', 'riscv32imc')]
+    yield '| | Cortex-M0+ | M4F | M7 with doubles | RISC-V of 32 bits |'
+    yield '|---|---:|---:|---:|---:|'
+    for what, first, names in (('instructions', instructions, ('pair', 'block of 64, a sample')), ('bytes of flash', flash, ('seed pair', 'seed block', 'all calls'))):
+        for row in rows[first:]:
+            if row[0] in names:
+                yield f'| {what}, {row[0]} | ' + ' | '.join(plain(int(row[column])) for column in columns) + ' |'
+                if row[0] == names[-1]:
+                    break
+
+
 def worst():
     yield '| samples | swept | worst first sample, units | at k, v | worst second sample | at k, v | proved below |'
     yield '|---|---|---:|---|---:|---|---:|'
@@ -298,7 +315,7 @@ def words():
     return {
         'other-rows': other_rows, 'variance': variance('bounds'), 'variance18': variance('bounds18'), 'inputs6': between(rows[6]), 'inputs8': between(rows[8]),
         **{f'least{x}': at_most(rows[x][2]) for x in rows}, 'above': at_most(max(row[3] for row in proved(0).values())),
-        'tails': tails, 'moments': moments, 'neighbours': neighbours, 'tests': tests, 'speeds': speeds, 'worst': worst,
+        'tails': tails, 'moments': moments, 'neighbours': neighbours, 'tests': tests, 'speeds': speeds, 'processors': processors, 'worst': worst,
         'firsts': firsts, 'compared': plain(sum(numbers['errors']['16'][sweep]['samples'] for sweep in 'vk')),
         'short5': f'{short[5] * 1e6:.1f}', 'short6': f'{short[6] * 1e6:.1f}', 'short7': f'{short[7] * 1e6:.0f}', 'short7.5': f'{short[7.5] * 100:.3f} %',
         'short8': f'{short[8] * 100:.1f} %',

@@ -1,7 +1,6 @@
--- The laws of the steps and of the normal form, and how far F is from the exact radius.
+-- The laws of the steps, and how far F is from the exact radius.
 pub mod StepLaws
-mod FloatBits
-pub mod NormalForm
+mod MantissaLaws
 mod Cells
 pub mod Ranges
 mod LastCell

@@ -1,3 +1,3 @@
--- The whole-number steps from k to the radius, and the normal form of k.
+-- The whole-number steps from k to the radius.
 pub mod Steps
-pub mod NormalForm
+pub mod Private

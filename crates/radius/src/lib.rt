@@ -5,7 +5,7 @@ ghost use Prim.Native.Nat.{_+_, _-_, _*_, _/_, _%_, _^_, _≤_, _<_};
 ghost use Rattle.tables.specs.Tables.{logFine, entryOf};
 ghost use Rattle.radius.specs.Steps.{numberBits, width, numerator, topBit, mantissa, coarseIndex, fineIndex, correction};
 ghost use Rattle.radius.specs.Steps.{underRoot};
-ghost use Rattle.radius.specs.NormalForm.{normalOf, logarithmOf, underNormal};
+ghost use Rattle.radius.specs.Private.{logarithmOf};
 
 // The bits of k and the first number beyond them; the width of the numerator 2k + 1, and the powers of 2 in steps 2, 3 and 4.
 const NUMBER_BITS: u32 = 48;
@@ -29,19 +29,6 @@ const RECIPROCAL: u64 = 1 << 39;
 const INVERSE: u64 = 1 << 32;
 
 const BOTH: u64 = 1 << 39;
-
-// The bits of the float 2^52, and what the exponent of a float counts in its bits.
-const BITS: u64 = 0x4330_0000_0000_0000;
-
-const EXPONENT: u64 = 1 << 52;
-
-// What M counts in the bits of the float 2k + 1, and its top bit, which they do not have.
-const PLACE: u64 = 1 << (53 - WIDTH);
-
-const TOP_BIT: u64 = 1 << TOP;
-
-// 1072 and 4096, so that any exponent can be taken from it: 1023 + e leaves 49 - e mod 64.
-const EXPONENTS: u64 = 1072 + 4096;
 
 // The number under the logarithm.
 fn numerator(k: u64) -> u64
@@ -69,22 +56,6 @@ fn mantissa(k: u64) -> u64
     numerator(k) << (TOP - top_bit(k))
 }
 
-// The normal form of k mod 2^48, which is the bits of the float 2k + 1: of the float that has 2k + 1 in its last bits, less 2^52. No zeros are
-// counted, so that the compiler makes several at a time.
-pub fn normal(k: u64) -> u64
-    ensures { λ r. ⌜ r ≡ normalOf (k % 2 ^ numberBits) ⌝ }
-{
-    f64::to_bits(f64::from_bits(BITS + numerator(k % LIMIT)) - 4503599627370496.0)
-}
-
-// The same in whole numbers.
-pub fn normal_whole(k: u64) -> u64
-    ensures { λ r. ⌜ r ≡ normalOf (k % 2 ^ numberBits) ⌝ }
-{
-    let exponent = (1022 + top_bit(k % LIMIT)) as u64;
-    exponent * EXPONENT + mantissa(k % LIMIT) * PLACE
-}
-
 // About r × 2^16 / (h (65536 + i)), from below, by the reciprocal of h and the inverse of 65536 + i. The contract is a bound alone.
 fn about(remainder: u64, reciprocal: u64, inverse: u64) -> u64
     requires { ⌜ (remainder < 2 ^ 33) × (reciprocal ≤ 2 ^ 31) × (inverse < 2 ^ 32) ⌝ }
@@ -93,16 +64,7 @@ fn about(remainder: u64, reciprocal: u64, inverse: u64) -> u64
     remainder * (reciprocal * inverse / INVERSE) / BOTH
 }
 
-// n / d, where a processor divides numbers of 64 bits. What the guess is does not matter.
-fn quotient(n: u64, d: u64, guess: u64) -> u64
-    requires { ⌜ (0 < d) × (d < 2 ^ 27) × (guess < 2 ^ 32) ⌝ }
-    ensures { λ r. ⌜ r ≡ n / d ⌝ }
-{
-    n / d
-}
-
-// The same with no division, unless the guess is far off: one that passes the test is the quotient, and so is the next number where that passes.
-// tools/target names it in place of `quotient` where a division is a call.
+// n / d with no division, unless the guess is far off: one that passes the test is the quotient, and so is the next number where that passes.
 fn guessed_quotient(n: u64, d: u64, guess: u64) -> u64
     requires { ⌜ (0 < d) × (d < 2 ^ 27) × (guess < 2 ^ 32) ⌝ }
     ensures { λ r. ⌜ r ≡ n / d ⌝ }
@@ -118,6 +80,23 @@ fn guessed_quotient(n: u64, d: u64, guess: u64) -> u64
         }
     }
     n / d
+}
+
+// Whether a quotient is by division. Nothing is promised of it, so that `quotient` is proved both ways: its other way is there so that the module
+// has `guessed_quotient`, which tools/target names in place of `quotient` for a processor where a division of 64 bits is a call.
+fn divides() -> bool {
+    true
+}
+
+// n / d. What the guess is does not matter.
+fn quotient(n: u64, d: u64, guess: u64) -> u64
+    requires { ⌜ (0 < d) × (d < 2 ^ 27) × (guess < 2 ^ 32) ⌝ }
+    ensures { λ r. ⌜ r ≡ n / d ⌝ }
+{
+    if divides() {
+        return n / d;
+    }
+    guessed_quotient(n, d, guess)
 }
 
 // The cell of a number in the logarithm tables: h, B(i) and S.
@@ -175,12 +154,4 @@ pub fn under_root(k: u64) -> u64
 {
     let doublings = (WIDTH - top_bit(k % LIMIT)) as u64;
     2 * logarithm(doublings, mantissa(k % LIMIT))
-}
-
-// The same of a normal form.
-pub fn under_normal(n: u64) -> u64
-    ensures { λ r. ⌜ r ≡ underNormal n ⌝ }
-{
-    let doublings = (EXPONENTS - n / EXPONENT) % 64;
-    2 * logarithm(doublings, n / PLACE % TOP_BIT + TOP_BIT)
 }

@@ -6,7 +6,7 @@ use native.Mathlib.Omega.{arith}
 use borrow.Author.Needs.{needs}
 use Rattle.tables.specs.Tables.{entryOf, logFine}
 use Rattle.radius.specs.Steps.{coarseIndex, rest, fineIndex, remainder, correction}
-use Rattle.radius.proofs.NormalForm.{mantissa-again}
+use Rattle.radius.proofs.MantissaLaws.{mantissa-again}
 use Rattle.radius.proofs.Cells.{Parts, reciprocal-small, product-fits, sum-fits, divisor-fits, parts, shifted-fits, fine-is, correction-is}
 use Rattle.radius.proofs.cell_of.Statement.{statement}
 use Rattle.radius.proofs.cell_of.Tie as tie

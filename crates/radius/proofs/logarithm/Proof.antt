@@ -6,7 +6,7 @@ use native.Mathlib.Omega.{arith}
 use Rattle.tables.specs.Tables.{entryOf, logCoarse, logFine, lnTwo}
 use Rattle.tables.proofs.Bounds.{bounds}
 use Rattle.radius.specs.Steps.{width}
-use Rattle.radius.specs.NormalForm.{logarithmOf}
+use Rattle.radius.specs.Private.{logarithmOf}
 use Rattle.radius.proofs.StepLaws.{correction-range}
 use borrow.Author.Needs.{needs}
 use Rattle.radius.proofs.logarithm.Statement.{statement}

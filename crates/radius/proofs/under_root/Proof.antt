@@ -5,7 +5,7 @@ use native.Mathlib.Omega.{arith}
 use borrow.Author.Needs.{needs}
 use Rattle.radius.specs.Steps.{numerator, underRoot}
 use Rattle.radius.proofs.StepLaws.{top-at, mantissa-at}
-use Rattle.radius.proofs.NormalForm.{logarithm-of}
+use Rattle.radius.proofs.MantissaLaws.{logarithm-of}
 use Rattle.radius.proofs.under_root.Statement.{statement}
 use Rattle.radius.proofs.under_root.Tie as tie
 

@@ -38,14 +38,14 @@ use Rattle.read_back.specs.ReadBack.{Following}
 use Rattle.loop_reader.specs.Loop as loop
 use Rattle.loop_reader.proofs.Shots.{Shots, later-shots, few-lines, shots-count, setting-kept, by-heads}
 use Rattle.loop_reader.proofs.Theorems.{Within, Ready, ready, says, linked-follow, same-loop, not-accepted, refused-code}
 use Rattle.play.specs.Play.{ahead, playedShots, sumAt, missAt, missesFrom, roomFor, playOf, answerOf, missesAfter}
 use Rattle.play.specs.Private.{settingOf, unpackedAll, noisyShots}
-use Rattle.play.specs.Theorems.{reseeded, IsMisclosure, codeOf, leaves, Theorems}
+use Rattle.play_back.specs.Theorems.{reseeded, IsMisclosure, codeOf, leaves, Theorems}
 use Rattle.play.proofs.Answered.{unpacked-are}
 use Rattle.play.proofs.Blocks.{played-are}
 use Rattle.play.proofs.Runs.{misses-joined}
-use Rattle.play.proofs.Rows.{noisyRows, rows-printed, rows-linked, rows-played, rows-count}
-use Rattle.play.proofs.Texts.{after-first, text-short}
+use Rattle.play_back.proofs.Rows.{noisyRows, rows-printed, rows-linked, rows-played, rows-count}
+use Rattle.play_back.proofs.Texts.{after-first, text-short}
 
 -- ---- No sample depends on the count
 
