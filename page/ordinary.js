@@ -1,5 +1,5 @@
 // A text as it comes: strict where it is, else made so by level, which may find several loops.
-import { THE_SURVEY } from './sentences.js';
+import { loopWords, THE_SURVEY } from './sentences.js';
 import { kindOf, takeLoop, Wrong } from './survey.js';
 
 // What level says of a refusal: "NAME:LINE: sentence", or without a line.
@@ -21,7 +21,10 @@ function attempt(take) {
 // Of what is wrong with a text, and with it as level takes it, the one that helps: level's where the command's sentence leads there.
 const ofBoth = (first, second) => (first.sentence.includes('jabulghi level') ? second : first);
 
-// The loop that is played, what level says of it, and all loops where there are several: each with its number and level's words.
+// The most loops that are shown, each with its verdict. Level lists the first ten in its own words.
+const MOST_LOOPS = 100;
+
+// The loop that is played, what level says of it, and all loops where there are several.
 export function takeText(jabulghi, level, text, asked, number = 1) {
   const name = asked.name || THE_SURVEY, first = attempt(() => takeLoop(jabulghi, text, asked));
   if (first.loop !== undefined) return { loop: first.loop, said: '', loops: [] };
@@ -32,8 +35,11 @@ export function takeText(jabulghi, level, text, asked, number = 1) {
     if (second.loop === undefined) throw ofBoth(first.wrong, new Wrong(0, second.wrong.sentence)); // a line of the strict text is not the user's
     return { loop: second.loop, said, loops: [] };
   }
-  const listed = [...said.matchAll(/^ {2}--loop (\d+): (.*)$/gm)].map(([, n, words]) => ({ number: Number(n), words, ...level(text, name, Number(n)) })).filter(one => one.done);
-  if (listed.length === 0) throw ofBoth(first.wrong, wrongOf(said, name));
-  const loops = listed.map(one => ({ ...one, loop: takeLoop(jabulghi, one.strict, asked) })), chosen = loops.find(one => one.number === number) ?? loops[0];
-  return { loop: chosen.loop, said: chosen.said, loops, chosen: chosen.number, more: Number(/^ {2}and (\d+) more$/m.exec(said)?.[1] ?? 0) };
+  const words = new Map([...said.matchAll(/^ {2}--loop (\d+): (.*)$/gm)].map(([, n, its]) => [Number(n), its]));
+  const unlisted = Number(/^ {2}and (\d+) more$/m.exec(said)?.[1] ?? 0), all = Math.max(0, ...words.keys()) + unlisted;
+  const tried = Array.from({ length: Math.min(all, MOST_LOOPS) }, (_, j) => ({ number: j + 1, ...level(text, name, j + 1) })).filter(one => one.done);
+  if (tried.length === 0) throw ofBoth(first.wrong, wrongOf(said, name));
+  const loops = tried.map(one => ({ ...one, loop: takeLoop(jabulghi, one.strict, asked) })).map(one => ({ ...one, words: words.get(one.number) ?? loopWords(one.loop.shots) }));
+  const chosen = loops.find(one => one.number === number) ?? loops[0];
+  return { loop: chosen.loop, said: chosen.said, loops, chosen: chosen.number, more: Math.max(0, all - MOST_LOOPS) };
 }

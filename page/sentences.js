@@ -58,5 +58,6 @@ export const stopped = (plays, asked) => `Stopped after ${number(plays)} of ${nu
 export const doing = (plays, asked) => `${number(plays)} of ${number(asked)} plays`;
 export const correction = ({ bearing, correction: by }) => `${by < 0 ? '−' : '+'}${Math.abs(by).toFixed(bearing ? 1 : 0)}${bearing ? '° of bearing' : ' mm of distance'}`;
 export const legName = (leg, { from, to }) => `${leg + 1}: ${from} to ${to}`;
+export const loopWords = shots => `${shots.length} legs, ${(shots.reduce((sum, { distance }) => sum + distance, 0) / 1000).toFixed(3)} m`;
 export const loopName = (number, words, said) => `${number}: ${words}. ${said}`;
 export const andMore = count => `and ${number(count)} more`;

@@ -88,7 +88,7 @@ export function showLoops(jabulghi, { loops, chosen, said, more = 0 }, plays, ch
   $('notes').hidden = said === '';
   $('notesSaid').textContent = said;
   $('loopRows').replaceChildren(...loops.map(({ number, words, loop }) => {
-    const { kept, verdict: name } = judge(loop, jabulghi.play(jobOf(loop), Math.min(plays, 10000)));
+    const { kept, verdict: name } = judge(loop, jabulghi.play(jobOf(loop), Math.min(plays, loops.length > 10 ? 1000 : 10000)));
     const made = make('button', loopName(number, words, verdict(Math.hypot(...loop.miss), kept.beyond, kept.runs, name)), { type: 'button', class: LEVELS[name], 'aria-pressed': number === chosen });
     made.addEventListener('click', () => choose(number));
     return made;

@@ -119,6 +119,13 @@ async function ordinary() {
   assert.match(await text('verdict'), /no sign of a blunder\.$/);
   await after(() => value("document.querySelectorAll('#loopRows button')[1].click()"));
   assert.match(await text('verdict'), /look for a blunder\.$/);
+  await set('text', Array.from({ length: 12 }, (_, j) => `a${j} b${j} ${10 + j} 0 0\nb${j} c${j} ${10 + j} 120 0\nc${j} a${j} ${10 + j} 240 0\n`).join('')); // more than level lists
+  await after(() => click('go'));
+  const many = await value("[...document.querySelectorAll('#loopRows button')].map(row => row.textContent)");
+  assert.equal(many.length, 12);
+  assert.match(many[11], /^12: 3 legs, 63\.000 m\. .*no sign of a blunder\.$/);
+  await after(() => value("document.querySelectorAll('#loopRows button')[11].click()"));
+  assert.match(await text('played'), /^3 legs, 63\.000 m/);
   await after(() => set('example', 'sound'));
   assert.equal(await value("document.getElementById('loops').hidden && document.getElementById('notes').hidden"), true);
 }
