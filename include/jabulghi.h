@@ -8,7 +8,7 @@
  *
  * Seeds are best six unrelated large numbers, as the command `jabulghi seeds` draws them, all six anew for each record. Every fit six are accepted; small
  * ones, 2 8 16 and the like, give some dozens of samples at the start that look unlike noise, and records with the same stream b turn by the same angles
- * for ever, whatever their stream a. Several rigs can share one stream by jabulghi_skip.
+ * for ever, with any stream a. Several rigs can share one stream by jabulghi_skip.
  *
  * Processors. What is proved is the code, before it is compiled. The toolchain compiles it for x86-64 under Linux, any such processor; every call is
  * compared with another implementation there. For other processors the same modules are compiled by the same compiler (make lib TARGET=list names
@@ -72,7 +72,7 @@ enum {
     JABULGHI_NUMBER_TOO_LARGE = 7,  /* number beyond its range */
     JABULGHI_WRONG_PLACE = 8,       /* form in the wrong place, or text ends before line 2 */
     JABULGHI_TOO_MANY_SHOTS = 9,    /* 501st shot */
-    JABULGHI_LISTING_TOO_LONG = 10, /* listing or shot lines longer than the buffer lent */
+    JABULGHI_LISTING_TOO_LONG = 10, /* listing or shot lines longer than the buffer */
     JABULGHI_UNFIT_STREAM_A = 11,   /* a register of stream a below its minimum */
     JABULGHI_UNFIT_STREAM_B = 12,   /* a register of stream b below its minimum, stream a being fit */
     JABULGHI_COUNT_FULL = 13,       /* the count would pass 2^64 - 1 */
@@ -221,7 +221,7 @@ static inline uint32_t jabulghi_marks_drop(jabulghi_marks *marks, const char *na
 }
 
 /* The shot lines of a Survex text's level legs, one a leg in order, as a job has them after its first two lines. The text may have any length; its
- * first line that is left once comments, blanks and empty lines are passed over is "*data normal from to tape compass clino". Accepted, line is 0 and
+ * first line that is left once comments, blanks and empty lines are skipped is "*data normal from to tape compass clino". Accepted, line is 0 and
  * the first length bytes of shots are the shot lines; the bytes beyond them keep their contents. Refused (21, 22, 10), length is 0, line is the
  * bad line, or 0 for 10, and shots stays. */
 uint32_t jabulghi_legs(const uint8_t *text, size_t text_length, uint8_t *shots, size_t shots_length, size_t *line, size_t *length);

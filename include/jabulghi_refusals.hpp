@@ -16,7 +16,7 @@ inline const char *words(unsigned number) noexcept {
     case 7: return "number beyond its range";
     case 8: return "form in the wrong place, or text ends before line 2";
     case 9: return "501st shot";
-    case 10: return "listing or shot lines longer than the buffer lent";
+    case 10: return "listing or shot lines longer than the buffer";
     case 11: return "a register of stream a below its minimum";
     case 12: return "a register of stream b below its minimum, stream a being fit";
     case 13: return "the count would pass 2^64 - 1";

@@ -44,7 +44,7 @@ WORDS = {
     7: "number beyond its range",
     8: "form in the wrong place, or text ends before line 2",
     9: "501st shot",
-    10: "listing or shot lines longer than the buffer lent",
+    10: "listing or shot lines longer than the buffer",
     11: "a register of stream a below its minimum",
     12: "a register of stream b below its minimum, stream a being fit",
     13: "the count would pass 2^64 - 1",

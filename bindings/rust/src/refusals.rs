@@ -12,7 +12,7 @@ refusals! {
     NumberTooLarge = 7, "number beyond its range";
     WrongPlace = 8, "form in the wrong place, or text ends before line 2";
     TooManyShots = 9, "501st shot";
-    ListingTooLong = 10, "listing or shot lines longer than the buffer lent";
+    ListingTooLong = 10, "listing or shot lines longer than the buffer";
     UnfitStreamA = 11, "a register of stream a below its minimum";
     UnfitStreamB = 12, "a register of stream b below its minimum, stream a being fit";
     CountFull = 13, "the count would pass 2^64 - 1";
