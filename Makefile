@@ -4,6 +4,7 @@
 # make install          the command, the library, its header and the manual pages, below PREFIX=folder (a packager's DESTDIR=folder stands before it)
 # make lib TARGET=name  the library for another processor: target/name/libjabulghi.a; TARGET=list prints the names and what each serves
 # make wasm             the library for browsers and node: target/wasm32/jabulghi.wasm and jabulghi.js (docs/WEB.md)
+# make page             the page for any browser, one file: target/page/jabulghi.html (docs/PAGE.md)
 # make windows          the library and the command for Windows: target/x86_64-windows/jabulghi.dll, libjabulghi.a and jabulghi.exe
 # make wheel            the package for Python, with the shared library: target/wheel (bindings/python/README.md)
 # make test             everything: the gate, every proof from nothing and the comparison with another implementation
@@ -27,12 +28,15 @@ TARGET ?=
 lib:
 	$(if $(TARGET),tools/target $(TARGET),tools/library)
 
-.PHONY: command wasm windows wheel install
+.PHONY: command wasm page windows wheel install
 command:
 	tools/command
 
 wasm:
 	tools/wasm
+
+page:
+	tools/page
 
 windows:
 	tools/windows

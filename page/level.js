@@ -1,0 +1,24 @@
+// Ordinary Survex made the strict text, by the command's own sources in level.wasm (page/level.c).
+
+export async function loadLevel(bytes) {
+  const { exports } = (await WebAssembly.instantiate(bytes)).instance;
+
+  function put(given) {
+    const at = exports.level_room(given.length + 1);
+    new Uint8Array(exports.memory.buffer).set(given, at);
+    new Uint8Array(exports.memory.buffer)[at + given.length] = 0;
+    return at;
+  }
+  function read(at) {
+    const all = new Uint8Array(exports.memory.buffer);
+    return new TextDecoder().decode(all.slice(at, all.indexOf(0, at)));
+  }
+
+  // One loop of a text, by its number, or its only one for 0: whether it is taken, the strict text, and what the command says of it.
+  return (text, name, loop = 0) => {
+    exports.level_begin();
+    const given = typeof text === 'string' ? new TextEncoder().encode(text) : text, called = put(new TextEncoder().encode(name));
+    const done = exports.level_run(called, put(given), given.length, loop) === 0;
+    return { done, strict: done ? read(exports.level_strict()) : '', said: read(exports.level_said()) };
+  };
+}
