@@ -18,6 +18,8 @@ place() {
     esac
 }
 
+# quoted TEXT: as sed takes it; escaped TEXT: as pkg-config takes it, and then sed.
+escaped() { quoted "$(printf %s "$1" | sed 's/[^A-Za-z0-9/._+,:@%-]/\\&/g')"; }
 quoted() { printf %s "$1" | sed 's/[\\|&]/\\&/g'; }
 
 # put FILE TO: copies a file; what names folders gets the names of these.
@@ -25,7 +27,7 @@ put() {
     mkdir -p "$(dirname "$2")"
     rm -f "$2"
     case $1 in
-    *.pc) sed "s|^prefix=.*|prefix=$(quoted "$prefix")|; s|^libdir=.*|libdir=$(quoted "$libdir")|" "$1" >"$2" ;;
+    *.pc) sed "s|^prefix=.*|prefix=$(escaped "$prefix")|; s|^libdir=.*|libdir=$(escaped "$libdir")|" "$1" >"$2" ;;
     */jabulghiConfig.cmake) sed "s|^set(_jabulghi_prefix .*|set(_jabulghi_prefix \"$(quoted "$prefix")\")|" "$1" >"$2" ;;
     *) cp -P "$1" "$2" ;;
     esac
