@@ -6,20 +6,21 @@
  * A sample s is s / 2048 standard deviations: with a sigma in millimetres the noise is sigma * s / 2048 mm. A listing rounds that to the nearest, halves
  * away from zero: (sigma * |s| + 1024) / 2048 in whole numbers, with the sign of s. Samples of 18 bits are over 8192.
  *
- * Seeds are best six unrelated large numbers, as the command `jabulghi seeds` draws them, all six anew for each record. Every fit six are accepted; small
- * ones, 2 8 16 and the like, give some dozens of samples at the start that look unlike noise, and records with the same stream b turn by the same angles
- * for ever, with any stream a. Several rigs can share one stream by jabulghi_skip.
+ * Seeds are best six unrelated large numbers, as the command `jabulghi seeds` draws them, all six anew for each record. Every fit six are accepted; of
+ * small ones, 2 8 16 and the like, the samples of about ten pairs are too large, and some are off up to the 500th pair; records with the same stream b
+ * turn by the same angles for ever, with any stream a. Several rigs can share one stream by jabulghi_skip.
  *
  * Processors. What is proved is the code, before it is compiled. The toolchain compiles it for x86-64 under Linux, any such processor; every call is
  * compared with another implementation there. For other processors the same modules are compiled by the same compiler (make lib TARGET=list names
  * them), which the toolchain does not support; that is tested under emulators, and on no device. Where a size_t has 32 bits, functions in C of a line or
  * two, which are not proved, pass the lengths on. The lowest byte of a number comes first.
- * Where a processor works with doubles itself, a guess at a square root is made in them, and no result depends on it: there every call that makes samples
- * raises the inexact flag, a trap on inexact would end the program, and an interrupt that makes such a call must save the registers of the floating-point
- * unit. On thumbv6m, thumbv7m, thumbv7em, thumbv7em-hf, thumbv8m, thumbv8m-hf, riscv32imc and riscv32imac no call uses floating point.
+ * Where a processor works with doubles itself, a call that makes more than four pairs guesses at their square roots in doubles, and no result depends on the
+ * guess: it may raise the inexact flag, a trap on inexact would end the program, and an interrupt that makes calls must save the registers of the
+ * floating-point unit. On thumbv6m, thumbv7m, thumbv7em, thumbv7em-hf, thumbv8m, thumbv8m-hf, riscv32imc and riscv32imac no call uses floating point.
  *
  * State and threads. The library has no data that is written. Calls on different records, windows and marks may run at once in several threads; on the
- * same one, one after another. A record has 40 bytes, a window 8,224 and a set of marks 960; all calls together are 84 to 150 KB of code and tables.
+ * same one, one after another. A record has 40 bytes, a window 8,224 and a set of marks 960. All calls together are 86 KB of code and tables on x86-64, and
+ * 119 to 152 KB on the processors without a system.
  *
  * What it needs at most of a C library and of the compiler's own library (libgcc or compiler-rt):
  *   on x86_64, aarch64, riscv64: memcpy, memset
@@ -29,7 +30,8 @@
  *   on thumbv7m, thumbv7em, thumbv7em-hf, thumbv7em-dp, thumbv8m, thumbv8m-hf: __aeabi_memcpy, __aeabi_memcpy4, __aeabi_memcpy8, __aeabi_memclr, __aeabi_memclr4, __aeabi_memclr8, __aeabi_uldivmod
  *   on riscv32imc, riscv32imac: memcpy, memset, __udivdi3
  *
- * Stack. At most, as measured on every processor that it is tested on, the caller's own frame left out:
+ * Stack. A call takes at most so much, the caller's own frame left out, as measured with the longest texts and blocks of 4096 on these processors and in
+ * WebAssembly; under Windows it was not measured:
  *   256 bytes: jabulghi_seed, jabulghi_ask, jabulghi_give_up, jabulghi_window_make, jabulghi_window_push, jabulghi_window_push_all
  *   1,024 bytes: jabulghi_sample, jabulghi_pair, jabulghi_sample18, jabulghi_pair18, jabulghi_legs, jabulghi_misclosure, jabulghi_intervals
  *   1,536 bytes: jabulghi_block18, jabulghi_look18, jabulghi_take18
@@ -60,15 +62,15 @@ extern "C" {
 #endif
 
 /* Every call returns one of these numbers. Order: 2 before 3; 11, 12, 15, 14, 16, 4, 13; for a job 5, then the first bad line, within it 6, 8, 9, 7, 11, 12;
- * last 10; for a Survex text the first bad line, within it 21, 22; last 10; for a listing the first bad line,
- * within it 6, 24, 25, 23. */
+ * last 10, or for plays 23, 13; for a Survex text the first bad line, within it 21, 22; last 10; for a listing the first bad line,
+ * within it 6, 24, 25, 23; for a mark 11, 12, 14, 18, 19, 20. */
 enum {
     JABULGHI_OK = 0,
     JABULGHI_K_TOO_LARGE = 2,       /* k of 2^48 or more */
     JABULGHI_V_TOO_LARGE = 3,       /* v above 65535 */
     JABULGHI_ODD_LENGTH = 4,        /* block of odd length */
     JABULGHI_JOB_TOO_LONG = 5,      /* job over 60,000 bytes */
-    JABULGHI_NO_FORM = 6,           /* line is none of the three forms, or lacks its line feed; in a listing: unlike its lines, or missing */
+    JABULGHI_NO_FORM = 6,           /* line is none of the three forms, or lacks its line feed; in a listing: unlike its lines, missing, or a false count */
     JABULGHI_NUMBER_TOO_LARGE = 7,  /* number beyond its range */
     JABULGHI_WRONG_PLACE = 8,       /* form in the wrong place, or text ends before line 2 */
     JABULGHI_TOO_MANY_SHOTS = 9,    /* 501st shot */
@@ -83,7 +85,7 @@ enum {
     JABULGHI_BAD_NAME = 18,         /* a mark's name is not 1 to 12 letters or digits */
     JABULGHI_NAME_NOT_HELD = 19,    /* no mark has that name */
     JABULGHI_MARKS_FULL = 20,       /* all 16 places are used, and the name is new */
-    JABULGHI_NO_LEG = 21,           /* Survex: line is no data line or leg, a name or number has not its form, or no line feed */
+    JABULGHI_NO_LEG = 21,           /* Survex: no data line, or line is no leg, a name or number has not its form, or no line feed */
     JABULGHI_LEG_OUT_OF_RANGE = 22, /* Survex: tape above 1000 m, compass above 360 degrees, or clino not the single digit 0 */
     JABULGHI_OTHER_STATION = 23,    /* a shot that does not start where the one before ended */
     JABULGHI_SHOT_TOO_LARGE = 24,   /* a listing's 501st shot, distance above 1,008,242 mm or step above 65535 */
@@ -130,14 +132,16 @@ uint32_t jabulghi_skip(jabulghi_record *record, uint64_t n);
  * too. Refused: 11, 12, 14 (one is open), 16, 13 (no room for n). */
 uint32_t jabulghi_ask(jabulghi_record *record, uint32_t n);
 
-/* Fills a block of just two samples for each pair that was asked for, as jabulghi_block would have, and clears the note. Refused: 11, 12, 15, 16, 13. */
+/* Fills a block of just two samples for each pair that was asked for, as jabulghi_block would have, and clears the note. Refused (11, 12, 15, 16, 13),
+ * block and record stay. */
 uint32_t jabulghi_take(jabulghi_record *record, int16_t *block, size_t length);
 
 /* Clears the note and moves nothing. Refused: 11, 12, 15. */
 uint32_t jabulghi_give_up(jabulghi_record *record);
+
 /* Samples of 18 bits, 5 integer bits and 13 fraction bits, for converters that take them: each call is the one of the same name without the 18, with
  * samples in units of 2^-13 of a standard deviation. It returns the same number and leaves the same record; one jabulghi_ask serves jabulghi_take and
- * jabulghi_take18. A sample is less than three quarters of 2^-13 from its member of the exact pair, and no size is above 67517. */
+ * jabulghi_take18. A sample is less than three quarters of a unit from its member of the exact pair, and no size is above 67517. */
 uint32_t jabulghi_sample18(uint64_t k, uint32_t v, int32_t *samples);
 uint32_t jabulghi_pair18(jabulghi_record *record, int32_t *samples);
 uint32_t jabulghi_block18(jabulghi_record *record, int32_t *block, size_t length);
@@ -146,7 +150,7 @@ uint32_t jabulghi_take18(jabulghi_record *record, int32_t *block, size_t length)
 
 /* The listing of a job's text, its line and its length. Accepted, line is 0 and the first length bytes of listing are the listing;
  * the bytes beyond it keep their contents. Refused (5 to 12), length is 0, line is the bad line, or 0 for 5 and 10, and listing
- * stays. A listing has at most 20,024 bytes; with less room than JABULGHI_LISTING_ROOM it is measured first, which takes 1.4 times as long. */
+ * stays. A listing has at most 20,024 bytes; with less room than JABULGHI_LISTING_ROOM it is measured first, which on x86-64 took 1.3 to 1.4 times as long. */
 uint32_t jabulghi_list(const uint8_t *text, size_t text_length, uint8_t *listing, size_t listing_length, uint32_t *line, size_t *length);
 
 /* A window that the caller keeps, for a drift display: the sum and the sum of squares of the latest N samples. size is N, from 1 to 4096, held how many
@@ -223,25 +227,25 @@ static inline uint32_t jabulghi_marks_drop(jabulghi_marks *marks, const char *na
 /* The shot lines of a Survex text's level legs, one a leg in order, as a job has them after its first two lines. The text may have any length; its
  * first line that is left once comments, blanks and empty lines are skipped is "*data normal from to tape compass clino". Accepted, line is 0 and
  * the first length bytes of shots are the shot lines; the bytes beyond them keep their contents. Refused (21, 22, 10), length is 0, line is the
- * bad line, or 0 for 10, and shots stays. */
+ * bad line, the one after the last where no line is left, or 0 for 10, and shots stays. */
 uint32_t jabulghi_legs(const uint8_t *text, size_t text_length, uint8_t *shots, size_t shots_length, size_t *line, size_t *length);
 
 /* How far the loop of a listing misses: the sums of distance times sine (east) and times cosine (north) of its shots, each of which
  * starts where the one before ended. sums has them at 2^30, millimetres each rounded once, halves away from zero, and less than 3 from
- * the exact sum. Accepted, line is 0. Refused (6, 24, 23), line is the bad line, or the next one where a line is missing, and all sums are 0.
- * A text may have any length. sums and millimetres: 2 elements each, east and north. */
+ * the exact sum. Accepted, line is 0. Refused (6, 24, 23), line is the bad line, or the next one where a line is missing, and sums and
+ * millimetres are 0. A text may have any length. sums and millimetres: 2 elements each, east and north. */
 uint32_t jabulghi_misclosure(const uint8_t *text, size_t text_length, int64_t *sums, int64_t *millimetres, uint32_t *line);
 
 /* The same where distances are known only between two readings: a listing headed "FROM TO LOW HIGH STEP", its rows alike. The lowest and the highest
  * sums that any choice of whole distances between low and high can give; each is the sum of some choice, and each of millimetres is less than 3 from
  * that choice's exact sum. Where low equals high throughout, both ends are the sums of jabulghi_misclosure for the listing with that distance.
- * Refused: 6, 24, 25 (low above high), 23; each of the two calls refuses the other's header with 6 and line 1. sums and millimetres: 4 elements
+ * Refused as there (6, 24, 25 for low above high, 23); each of the two calls refuses the other's header with 6 and line 1. sums and millimetres: 4 elements
  * each, east low, east high, north low, north high. */
 uint32_t jabulghi_intervals(const uint8_t *text, size_t text_length, int64_t *sums, int64_t *millimetres, uint32_t *line);
 
 /* How far a loop misses in each of many plays. The text is a job as jabulghi_list takes it, its shots a loop. misses[i] is east and north of play
- * first + i, in millimetres as jabulghi_misclosure rounds them. Play j starts j times the shots pairs on from the job's seeds, so that plays share no
- * pair, and any stretch of plays can run alone; nothing is kept after the call. Play j is what jabulghi_misclosure gives for the listing of the job with
+ * first + i, in millimetres as jabulghi_misclosure rounds them. Play j starts j times the shots pairs on from the job's seeds: each play starts
+ * where the one before ended, and any stretch of plays can run alone. Play j is what jabulghi_misclosure gives for the listing of the job with
  * the same lines and, as seeds, the registers of its record. Accepted, line is 0. Refused as the job is (5, 6, 8, 9, 7, 11, 12, line as there); then 23
  * with the line of the first shot that does not start where the one before ended; then 13 with line 0 where the pairs of all plays up to first + runs
  * would pass 2^64 - 1. Refused, misses stays. 0 runs and a job without shots are accepted; without shots each miss is 0, 0. That the last shot ends

@@ -12,7 +12,7 @@ inline const char *words(unsigned number) noexcept {
     case 3: return "v above 65535";
     case 4: return "block of odd length";
     case 5: return "job over 60,000 bytes";
-    case 6: return "line is none of the three forms, or lacks its line feed; in a listing: unlike its lines, or missing";
+    case 6: return "line is none of the three forms, or lacks its line feed; in a listing: unlike its lines, missing, or a false count";
     case 7: return "number beyond its range";
     case 8: return "form in the wrong place, or text ends before line 2";
     case 9: return "501st shot";
@@ -27,7 +27,7 @@ inline const char *words(unsigned number) noexcept {
     case 18: return "a mark's name is not 1 to 12 letters or digits";
     case 19: return "no mark has that name";
     case 20: return "all 16 places are used, and the name is new";
-    case 21: return "Survex: line is no data line or leg, a name or number has not its form, or no line feed";
+    case 21: return "Survex: no data line, or line is no leg, a name or number has not its form, or no line feed";
     case 22: return "Survex: tape above 1000 m, compass above 360 degrees, or clino not the single digit 0";
     case 23: return "a shot that does not start where the one before ended";
     case 24: return "a listing's 501st shot, distance above 1,008,242 mm or step above 65535";

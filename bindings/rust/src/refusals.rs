@@ -8,7 +8,7 @@ refusals! {
     VTooLarge = 3, "v above 65535";
     OddLength = 4, "block of odd length";
     JobTooLong = 5, "job over 60,000 bytes";
-    NoForm = 6, "line is none of the three forms, or lacks its line feed; in a listing: unlike its lines, or missing";
+    NoForm = 6, "line is none of the three forms, or lacks its line feed; in a listing: unlike its lines, missing, or a false count";
     NumberTooLarge = 7, "number beyond its range";
     WrongPlace = 8, "form in the wrong place, or text ends before line 2";
     TooManyShots = 9, "501st shot";
@@ -23,7 +23,7 @@ refusals! {
     BadName = 18, "a mark's name is not 1 to 12 letters or digits";
     NameNotHeld = 19, "no mark has that name";
     MarksFull = 20, "all 16 places are used, and the name is new";
-    NoLeg = 21, "Survex: line is no data line or leg, a name or number has not its form, or no line feed";
+    NoLeg = 21, "Survex: no data line, or line is no leg, a name or number has not its form, or no line feed";
     LegOutOfRange = 22, "Survex: tape above 1000 m, compass above 360 degrees, or clino not the single digit 0";
     OtherStation = 23, "a shot that does not start where the one before ended";
     ShotTooLarge = 24, "a listing's 501st shot, distance above 1,008,242 mm or step above 65535";
