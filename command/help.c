@@ -42,10 +42,11 @@ static const struct { const char *command, *text; } HELP[] = {
      "       jabulghi tolerance [FILE] --sigma SIGMAS --seeds SEEDS --run N [-o FILE]\n"
      "       jabulghi tolerance --merge FILE.. [--json] [--svg FILE] [-o FILE]\n"
      "\n"
-     "Plays the loop of a Survex survey, a job or a listing many times with noise, and says how far the runs miss and whether the survey's\n"
-     "own miss is one of them. The same seeds give the same runs, by any number of jobs.\n"
+     "Plays the loop of a Survex survey, a job or a listing many times with noise, and says how far the runs miss and in how many of them a\n"
+     "sound survey misses by as much as this one. The same seeds give the same runs, by any number of threads.\n"
      "  --sigma SIGMAS  of distance and bearing: 4mm,0.5deg or 4,91 (millimetres, steps); for a job its own, where not given\n"
-     "  --seeds SEEDS   as `jabulghi seeds` prints them; for a job its own, where not given; else some are drawn, and printed\n"
+     "  --seeds SEEDS   as `jabulghi seeds` prints them, or six numbers with commas between; for a job its own, where not given;\n"
+     "                  else some are drawn, and printed\n"
      "  --runs N        how many, 1 to 10000000; 10000, where not given\n"
      "  --first N       the number of the first run; 0, where not given\n"
      "  --miss E,N      judge this miss, east and north in millimetres, and not the survey's own\n"
@@ -54,7 +55,7 @@ static const struct { const char *command, *text; } HELP[] = {
      "  --json          the figures for a program, and what --merge needs\n"
      "  --svg FILE      a picture besides\n"
      "  --run N         print the job of run N, for `jabulghi list`\n"
-     "  --merge FILE..  add up parts that --json wrote, each with a --first of its own\n"},
+     "  --merge FILE..  add up parts that --json wrote of one job, whose runs follow each other\n"},
     {"noise",
      "usage: jabulghi noise -n N [--seeds SEEDS] [--skip M] [--bits 16|18] [--sigma SIGMA] [--text|--raw] [-o FILE]\n"
      "\n"
@@ -63,7 +64,7 @@ static const struct { const char *command, *text; } HELP[] = {
      "                 not given, some are drawn, and standard error says which\n"
      "  --skip M       leave out the first M pairs\n"
      "  --bits 16|18   samples in units of 1/2048 (16, as if not given) or of 1/8192 of a standard deviation (18)\n"
-     "  --sigma SIGMA  times a standard deviation: 4mm, 0.5deg or 91steps; printed in that unit\n"
+     "  --sigma SIGMA  times a standard deviation: 4mm, 0.5deg or 91steps; printed in that unit, not with --raw\n"
      "  --text         a sample a line, in decimal (as if not given)\n"
      "  --raw          16 bits a sample, or 32 for --bits 18, signed, the lowest byte first\n"},
     {"seeds", "usage: jabulghi seeds [-o FILE]\n\nPrints a job's line of seeds, drawn from the system's randomness.\n"},
