@@ -1,4 +1,4 @@
-/* Every call of include/jabulghi.h from C: one that is accepted and one for each refusal. */
+/* Every call of include/jabulghi.h from C but those for 18 bits and jabulghi_play: one that is accepted and one for each refusal but 9. */
 #include "jabulghi.h"
 #include <inttypes.h>
 #include <stdio.h>
