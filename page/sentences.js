@@ -40,7 +40,7 @@ export const unread = name => `${name}: the file could not be read`;
 
 // The share of sound loops in words.
 function shareInWords(part, all) {
-  if (part === 0) return `Fewer than 1 in ${number(all)} sound loops miss`;
+  if (part === 0) return `None of ${number(all)} plays misses`;
   const share = part / all;
   if (share >= 0.995) return 'Almost every sound loop misses';
   return share >= 0.1 ? `About ${Math.round(100 * share)} in 100 sound loops miss` : `About 1 in ${number(Math.round(1 / share))} sound loops misses`;
