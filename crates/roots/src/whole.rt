@@ -1,18 +1,20 @@
-// A pass of guesses in whole numbers.
-use crate::lesser;
+// Roots by guesses in whole numbers.
 use crate::near;
-ghost use lib.ListN.{length};
-ghost use Rattle.roots.specs.Root.{Guessed};
+use crate::root;
+ghost use mathlib.Core.Path.{_≡_};
+ghost use Rattle.roots.specs.Root.{rootsHold};
 
-// A guess at the root of each x that has a place in g, of the same type as `guesses`, so that either may stand for the other: of a few x it
-// is faster, and on processors without floating point always.
-pub fn nears(x: &[u64], g: &mut [u64])
-    ensures { λ _. ⌜ Guessed (length (now (x .entry))) (now (g .entry)) (now (g .exit)) ⌝ }
+// The root of each x, of the same type and contract as `float_roots`, so that either may stand for the other: of a few x it is faster, and on
+// processors without floating point always.
+pub fn whole_roots(x: &[u64], g: &mut [u64])
+    ensures { λ _. ⌜ now (g .exit) ≡ rootsHold (now (x .entry)) (now (g .entry)) ⌝ }
 {
-    let n = lesser(x.len(), g.len());
+    if g.len() != x.len() {
+        return;
+    }
     let mut i = 0;
-    while i < n {
-        g[i] = near(x[i]);
+    while i < g.len() {
+        g[i] = root(x[i], near(x[i]));
         i += 1;
     }
 }

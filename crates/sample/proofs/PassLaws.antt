@@ -1,12 +1,13 @@
 -- The last pass over a chunk. What holds between two of its turns, over f and so for either width, and the radius that a turn takes.
-use mathlib.Core.Path.{_≡_, refl, _∙_}
+use mathlib.Core.Path.{_≡_, refl, sym, ap, _∙_}
 use mathlib.Core.List.{List, [], _∷_, map}
 use Prim.Native.Nat.{ℕ, zero, suc, _/_, _≤_, _<_}
 use native.Mathlib.Nat.{le-of-suc-le-suc}
 use native.Mathlib.Omega.{arith}
 use lib.IntN.{ℤ}
-use lib.ListN.{length, take, getD}
-use Rattle.roots.specs.Root.{wholeRoot}
+use lib.ListN.{length, length-map, take, getD}
+use Rattle.roots.specs.Root.{wholeRoot, rootsHold}
+use Rattle.roots.proofs.RootLaws.{roots-held}
 use Rattle.radius.specs.Steps.{radiusOf}
 use Rattle.sample.specs.Private.{underRootAt}
 use Rattle.sample.proofs.ChunkLaws.{filled}
@@ -17,11 +18,17 @@ pub record Reached (f : ℕ) (z : List ℕ) (out₀ out : List ℤ) (i : ℕ) : 
   pub done : out ≡ filled f (take i z) out₀
 
 -- the root of a z's 2Q is its F
-mapped-at : (zs : List ℕ) (i : ℕ) → i < length zs → getD (map underRootAt zs) i 0 ≡ underRootAt (getD zs i 0)
-mapped-at [] i h = absurd (omega arith)
-mapped-at (z ∷ zs) zero h = refl
-mapped-at (z ∷ zs) (suc i) h = mapped-at zs i (le-of-suc-le-suc h)
+mapped-at : (f : ℕ → ℕ) (l : List ℕ) (i : ℕ) → i < length l → getD (map f l) i 0 ≡ f (getD l i 0)
+mapped-at f [] i h = absurd (omega arith)
+mapped-at f (x ∷ l) zero h = refl
+mapped-at f (x ∷ l) (suc i) h = mapped-at f l i (le-of-suc-le-suc h)
 
-pub radius-is : (zs xs : List ℕ) (i f : ℕ) → xs ≡ map underRootAt zs → i < length zs → f ≡ wholeRoot (getD xs i 0) → f ≡ radiusOf (getD zs i 0 / 65536)
+pub radius-is : (zs fs : List ℕ) (i : ℕ) → fs ≡ map wholeRoot (map underRootAt zs) → i < length zs → getD fs i 0 ≡ radiusOf (getD zs i 0 / 65536)
 unfolding radiusOf
-radius-is zs xs i f e h root = root ∙ rw (e, mapped-at zs i h)
+radius-is zs fs i e h =
+    let inside : i < length (map underRootAt zs) = rw (length-map zs underRootAt) h in
+    rw (e, mapped-at wholeRoot (map underRootAt zs) i inside, mapped-at underRootAt zs i h)
+
+-- the roots of all 2Q
+pub radii : (z x f old : List ℕ) → x ≡ map underRootAt z → length old ≡ length z → f ≡ rootsHold x old → f ≡ map wholeRoot (map underRootAt z)
+radii z x f old e same r = r ∙ sym (roots-held x old (map wholeRoot x) (same ∙ sym (ap length e ∙ length-map z underRootAt)) refl) ∙ ap (map wholeRoot) e

@@ -15,7 +15,7 @@ ghost use Rattle.angle.specs.Steps.{signedOf};
 ghost use Rattle.box_muller.specs.Steps.{fractionBits, bitsOf, size, rounded};
 ghost use Rattle.box_muller.specs.Sample.{samplesOf, as18, nineSixteenths};
 ghost use Rattle.box_muller.specs.DataSheet.{thirtyThreeSixtyFourths};
-ghost use Rattle.roots.specs.Root.{Guessed};
+ghost use Rattle.roots.specs.Root.{wholeRoot, rootsHold};
 ghost use Rattle.sample.specs.Chunk.{chunkHolds, samplesAt};
 ghost use Rattle.sample.specs.Private.{scaleOf, underRootAt};
 
@@ -89,15 +89,14 @@ fn under_roots(z: &[u64], x: &mut [u64])
     }
 }
 
-// The samples of each z, from its 2Q and any guess at the root of that.
-fn sample_each(in18: bool, z: &[u64], x: &[u64], g: &[u64], out: &mut [i32])
-    requires { ⌜ (now x ≡ map underRootAt (now z)) × (length (now g) ≡ length (now z)) × (length (now out) ≡ 2 * length (now z)) ⌝ }
+// The samples of each z, from its radius F.
+fn sample_each(in18: bool, z: &[u64], f: &[u64], out: &mut [i32])
+    requires { ⌜ (now f ≡ map wholeRoot (map underRootAt (now z))) × (length (now out) ≡ 2 * length (now z)) ⌝ }
     ensures { λ r. ⌜ now (out .exit) ≡ samplesAt (bitsOf in18) (now (z .entry)) ⌝ }
 {
     let mut i = 0;
     while 2 * i + 1 < out.len() {
-        let f = roots::root(x[i], g[i]);
-        let pair = pair_of(in18, f, z[i] % 65536);
+        let pair = pair_of(in18, f[i], z[i] % 65536);
         let first = pair.first;
         let second = pair.second;
         out[2 * i] = first;
@@ -109,28 +108,27 @@ fn sample_each(in18: bool, z: &[u64], x: &[u64], g: &[u64], out: &mut [i32])
 // The most pairs whose roots are guessed in whole numbers.
 const FEW: usize = 4;
 
-// A guess at the root of each x: in whole numbers of a few, in floating point, several at a time, of more.
-fn guess_each(x: &[u64], g: &mut [u64])
-    ensures { λ _. ⌜ Guessed (length (now (x .entry))) (now (g .entry)) (now (g .exit)) ⌝ }
+// The root of each x, where f has as many elements: of a few by guesses in whole numbers, of more by guesses in floating point, several at a time.
+fn root_each(x: &[u64], f: &mut [u64])
+    ensures { λ _. ⌜ now (f .exit) ≡ rootsHold (now (x .entry)) (now (f .entry)) ⌝ }
 {
     if x.len() <= FEW {
-        roots::nears(x, g);
+        roots::whole_roots(x, f);
         return;
     }
-    roots::guesses(x, g)
+    roots::float_roots(x, f)
 }
 
-// The samples of each z, by passes over them all: 2Q of each, a guess at the root of each, and the samples. What x and g hold does not
-// matter. A single pair goes this way too: nothing else calls the passes, so that the compiler puts them into one function. (z is lent
+// The samples of each z, by passes over them all: 2Q of each, the root of that, and the samples. What x and f hold does not matter. A single pair goes this way too: nothing else calls the passes, so that the compiler puts them into one function. (z is lent
 // on as a part, the whole of it: the compiler then reads its place once.)
-fn by_passes(in18: bool, z: &[u64], x: &mut [u64], g: &mut [u64], out: &mut [i32])
-    requires { ⌜ (length (now x) ≡ length (now z)) × (length (now g) ≡ length (now z)) × (length (now out) ≡ 2 * length (now z)) ⌝ }
+fn by_passes(in18: bool, z: &[u64], x: &mut [u64], f: &mut [u64], out: &mut [i32])
+    requires { ⌜ (length (now x) ≡ length (now z)) × (length (now f) ≡ length (now z)) × (length (now out) ≡ 2 * length (now z)) ⌝ }
     ensures { λ r. ⌜ now (out .exit) ≡ samplesAt (bitsOf in18) (now (z .entry)) ⌝ }
 {
     let n = z.len();
     under_roots(&z[0..n], x);
-    guess_each(x, g);
-    sample_each(in18, &z[0..n], x, g, out)
+    root_each(x, f);
+    sample_each(in18, &z[0..n], f, out)
 }
 
 // The most pairs in a chunk.
@@ -142,7 +140,7 @@ pub fn chunk(in18: bool, z: &[u64], out: &mut [i32])
     ensures { λ r. ⌜ now (out .exit) ≡ chunkHolds (bitsOf in18) (now (z .entry)) (now (out .entry)) ⌝ }
 {
     let mut x = [0u64; CHUNK];
-    let mut g = [0u64; CHUNK];
+    let mut f = [0u64; CHUNK];
     let n = z.len();
     if CHUNK < n {
         return;
@@ -150,7 +148,7 @@ pub fn chunk(in18: bool, z: &[u64], out: &mut [i32])
     if out.len() != 2 * n {
         return;
     }
-    by_passes(in18, z, &mut x[0..n], &mut g[0..n], out)
+    by_passes(in18, z, &mut x[0..n], &mut f[0..n], out)
 }
 
 // The answer for k and v.
@@ -173,9 +171,9 @@ fn answer(in18: bool, k: u64, v: u32) -> Samples18
     }
     let z = [k * 65536 + v as u64];
     let mut x = [0u64];
-    let mut g = [0u64];
+    let mut f = [0u64];
     let mut pair = [0i32; 2];
-    by_passes(in18, &z, &mut x, &mut g, &mut pair);
+    by_passes(in18, &z, &mut x, &mut f, &mut pair);
     Samples18 {
         code: 0,
         first: pair[0],

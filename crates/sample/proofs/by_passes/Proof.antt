@@ -8,6 +8,7 @@ use lib.Seq.{take-all}
 use borrow.Author.Needs.{needs}
 use Rattle.box_muller.specs.Steps.{bitsOf}
 use Rattle.sample.specs.Chunk.{samplesAt}
+use Rattle.sample.proofs.PassLaws.{radii}
 use Rattle.sample.proofs.by_passes.Statement.{statement}
 use Rattle.sample.proofs.by_passes.Tie as tie
 
@@ -26,8 +27,8 @@ part-under-roots-end c = search needs
 under-roots-requires : tie.Need-under-roots-requires
 under-roots-requires c κs = search needs
 
-guess-each-requires : tie.Need-guess-each-requires
-guess-each-requires c κs = search needs
+root-each-requires : tie.Need-root-each-requires
+root-each-requires c κs = search needs
 
 sub-sample-each : tie.Need-sub-sample-each
 sub-sample-each c = search needs
@@ -40,10 +41,12 @@ part-sample-each-end c = search needs
 
 sample-each-requires : tie.Need-sample-each-requires
 sample-each-requires c κs =
-    let start = c .before .before .before .before .before .before .before .before .before .before .before .before .before .before .before .before .before in
-    let size = ap length (whole (start .args .z .now)) in
-    let guessed = c .before .before .before .before .before .before .guess-each .ensures .size in
-    (c .before .before .before .before .before .before .before .before .before .before .before .under-roots .ensures, omega (arith, size, guessed, start .pre), omega (arith, size, start .pre))
+    let start = c .before .before .before .before .before .before .before .before .before .before .before .before .before .before .before .before in
+    let z = start .args .z .now in
+    let size = ap length (whole z) in
+    let under = c .before .before .before .before .before .before .before .before .before .before .under-roots .ensures in
+    let roots = c .before .before .before .before .before .root-each .ensures in
+    (radii (take (length z - 0) z) _ _ (start .args .f .now) under (omega (arith, size, start .pre)) roots, omega (arith, size, start .pre))
 
 same-length : tie.Need-same-length
 same-length c = search needs
@@ -56,7 +59,7 @@ same-length-3 c = search needs
 
 returns : tie.Need-returns
 returns c =
-    let start = c .before .before .before .before .before .before .before .before .before .before .before .before .before .before .before .before .before .before .before in
+    let start = c .before .before .before .before .before .before .before .before .before .before .before .before .before .before .before .before .before .before in
     c .before .sample-each .ensures ∙ ap (samplesAt (bitsOf (start .args .in18))) (whole (start .args .z .now))
 
 pub by-passes-spec : {M : Type 1} → statement M
@@ -67,7 +70,7 @@ by-passes-spec =
     part-under-roots-start
     part-under-roots-end
     under-roots-requires
-    guess-each-requires
+    root-each-requires
     sub-sample-each
     part-sample-each-start
     part-sample-each-end

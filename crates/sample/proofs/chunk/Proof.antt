@@ -26,11 +26,11 @@ part-x-end c = search needs
 sub-by-passes-2 : tie.Need-sub-by-passes-2
 sub-by-passes-2 c = search needs
 
-part-g-start : tie.Need-part-g-start
-part-g-start c = search needs
+part-f-start : tie.Need-part-f-start
+part-f-start c = search needs
 
-part-g-end : tie.Need-part-g-end
-part-g-end c = search needs
+part-f-end : tie.Need-part-f-end
+part-f-end c = search needs
 
 by-passes-requires : tie.Need-by-passes-requires
 by-passes-requires c κs = search needs
@@ -53,8 +53,8 @@ chunk-spec =
     part-x-start
     part-x-end
     sub-by-passes-2
-    part-g-start
-    part-g-end
+    part-f-start
+    part-f-end
     by-passes-requires
     same-length
     returns-3)

@@ -1,0 +1,80 @@
+-- `roots::settle` is a pass of roots: any guess gives the root.
+use Prim.Native.Nat.{_-_, _≤_}
+use native.Mathlib.Omega.{arith}
+use lib.ListN.{length}
+use borrow.Author.Needs.{needs}
+use Rattle.roots.specs.Root.{wholeRoot}
+use Rattle.roots.proofs.PassLaws.{Passed, begun, again, ended}
+use Rattle.roots.proofs.settle.Statement.{statement}
+use Rattle.roots.proofs.settle.Tie as tie
+
+abbrev Inv-loop : tie.InvT-loop
+Inv-loop x g₀ i₀ g i = Passed (0 ≤ 0) wholeRoot x g₀ g i
+
+abbrev μ-loop : tie.MeasureT-loop
+μ-loop x g₀ i₀ g i = length x - i
+
+loop-holds : tie.Need-loop-holds Inv-loop μ-loop
+loop-holds c = begun _ _
+
+mul-root : tie.Need-mul-root Inv-loop μ-loop
+mul-root c = search needs
+
+shared-slice-read-root : tie.Need-shared-slice-read-root Inv-loop μ-loop
+shared-slice-read-root c = search needs
+
+mul-root-2 : tie.Need-mul-root-2 Inv-loop μ-loop
+mul-root-2 c = search needs
+
+slice-read-root : tie.Need-slice-read-root Inv-loop μ-loop
+slice-read-root c = search needs
+
+root-requires : tie.Need-root-requires Inv-loop μ-loop
+root-requires c κs = search needs
+
+mul-g : tie.Need-mul-g Inv-loop μ-loop
+mul-g c = search needs
+
+slice-write-g : tie.Need-slice-write-g Inv-loop μ-loop
+slice-write-g c = search needs
+
+add-i : tie.Need-add-i Inv-loop μ-loop
+add-i c = search needs
+
+loop-less : tie.Need-loop-less Inv-loop μ-loop
+loop-less c = search needs
+
+loop-again : tie.Need-loop-again Inv-loop μ-loop
+loop-again c =
+    let turn = c .before .before .before in
+    let head = turn .before in
+    let start = head .before .before .before in
+    again (start .pre) (head .loop .inv) (omega (arith, turn .loop-test .taken, head .loop .inv .kept, start .pre)) (λ s. s) (λ _. c .root .ensures)
+
+same-length : tie.Need-same-length Inv-loop μ-loop
+same-length c = search needs
+
+returns : tie.Need-returns Inv-loop μ-loop
+returns c =
+    let start = c .before .before .before .before in
+    ended (start .pre) (c .before .loop .inv) (omega (arith, c .loop-test .left, c .before .loop .inv .kept, start .pre)) (omega arith)
+
+pub settle-spec : {M : Type 1} → statement M
+settle-spec =
+    tie.close
+    (tie.spec
+    Inv-loop
+    μ-loop
+    loop-holds
+    mul-root
+    shared-slice-read-root
+    mul-root-2
+    slice-read-root
+    root-requires
+    mul-g
+    slice-write-g
+    add-i
+    loop-less
+    loop-again
+    same-length
+    returns)
