@@ -20,9 +20,6 @@ typedef enum {
     OTHER_CASE, FEW_EQUATES, MORE_WORDS, OTHER_COMMAND, NO_LEG, MANY_LEGS, NO_SUCH_LOOP, SEVERAL_LOOPS,
 } reason;
 
-/* Text that grows. Once memory has run out `lacks` holds, and nothing is added. */
-typedef struct { char *bytes; size_t length, room; bool lacks; } growing;
-
 /* Bytes of the survey. */
 typedef struct { const uint8_t *bytes; size_t length; } part;
 
@@ -99,9 +96,5 @@ bool find_loop(survey *s, uint64_t n, walk *w);
 /* level_notes.c: what is said. */
 void say_refusal(survey *s, growing *said);
 void say_notes(survey *s, const walk *w, const stations *named, growing *said);
-
-/* level_memory.c: room for one more element of an array; words added to a text. */
-bool room_for_one(void *array, size_t count, size_t *room, size_t size);
-void put_in(growing *to, const char *format, ...);
 
 #endif

@@ -52,7 +52,7 @@ static bool room_for_slot(tree *t) {
 /* The name of a label below another, a new one where there was none. */
 static size_t name_below(survey *s, size_t above, part label, letters as) {
     tree *t = &s->names;
-    if (!room_for_slot(t) || !room_for_one(&t->all, t->count, &t->room, sizeof *t->all)) return refuse_survey(s, NO_MEMORY, label), NO_NAME;
+    if (!room_for_slot(t) || !room_for(1, &t->all, t->count, &t->room, sizeof *t->all)) return refuse_survey(s, NO_MEMORY, label), NO_NAME;
     size_t at = slot_of(t, above, label, as);
     if (t->slots[at] != 0) return t->slots[at];
     size_t length = t->all[above].length + (above != 0) + label.length;
