@@ -59,7 +59,7 @@ static void add_figures(const task *t, const tally *kept, growing *to) {
 static void add_candidates(const task *t, const tally *kept, growing *to) {
     static candidate found[2 * MOST_SHOTS];
     ellipse e = ellipse_of_runs(kept);
-    size_t count = is_below(kept, 50) ? candidates_of(t, &e, found) : 0;
+    size_t count = is_below(kept, DOUBTFUL) ? candidates_of(t, &e, found) : 0;
     add(to, "  \"candidates\": [");
     for (size_t j = 0; j < count; j++) {
         add(to, "%s\n    {\"leg\": %zu, \"%s\": %.3f, \"remains\": %.4f}", j == 0 ? "" : ",", found[j].leg + 1, found[j].bearing ? "bearing_degrees" : "distance_mm", found[j].correction, found[j].remains);

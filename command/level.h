@@ -5,12 +5,10 @@
 #include "command.h"
 
 enum {
-    MOST_LEVEL_LEGS = 500, /* the shots that a job takes */
-    MOST_LISTED = 10,      /* lines, loops or names that a note lists */
-    MOST_SCOPES = 1000,    /* *begin inside each other */
-    MOST_NAME = 1000,      /* bytes of a station's name with its scopes and points */
-    MOST_FIELDS = 16,      /* of a data line */
-    NEW_NAME = 13,         /* room for a name of a job, its end included */
+    MOST_LISTED = 10,   /* lines, loops or names that a note lists */
+    MOST_SCOPES = 1000, /* *begin inside each other */
+    MOST_NAME = 1000,   /* bytes of a station's name with its scopes and points */
+    MOST_FIELDS = 16,   /* of a data line */
 };
 
 /* Why a survey is refused; level_notes.c has a sentence for each. */
@@ -62,7 +60,7 @@ typedef struct {
 typedef struct { step *steps; size_t count; bool is_loop; } walk;
 
 /* The stations of a walk in order, each the first of its names, and their new names. */
-typedef struct { size_t name; char new_name[NEW_NAME]; } station;
+typedef struct { size_t name; char new_name[NAME_ROOM]; } station;
 typedef struct { station *all; size_t count, *place; } stations;
 
 /* level.c: the strict text, and what is said about it; a refusal says one sentence and leaves the text empty. */

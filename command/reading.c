@@ -36,3 +36,5 @@ int read_text(const char *name, text *all) {
     close(from);
     return status;
 }
+
+int read_named(int count, char **words, text *all) { return count > 1 ? wrong(ONE_FILE, words[1]) : read_text(count == 0 ? "-" : words[0], all); }

@@ -7,9 +7,6 @@
 /* At most so many candidates are printed. */
 #define MOST_PRINTED 30
 
-/* Below 5 % of sound surveys a miss is worth a look, below 0.1 % it is likely a blunder. */
-enum { DOUBTFUL = 50, UNLIKELY = 1 };
-
 bool is_below(const tally *kept, unsigned thousandths) { return (double)(kept->beyond + 1) * 1000 < (double)thousandths * (double)(kept->runs + 1); }
 
 /* Two digits of a percentage that is small, whole percents of one that is not; of none, that it is less than one of all. */

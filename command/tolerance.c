@@ -86,8 +86,7 @@ static int run(int count, char **words, const option asked[ASKED]) {
     t.runs = asked[RUN].value == NULL ? 10000 : 1;
     t.jobs = system_processors();
     int status = numbers_of(asked, &t);
-    if (status == DONE && count > 1) status = wrong(ONE_FILE, words[1]);
-    if (status == DONE) status = read_text(count == 0 ? "-" : words[0], &source);
+    if (status == DONE) status = read_named(count, words, &source);
     if (status == DONE) status = take_survey(source, &t.s);
     if (status == DONE) status = settings_of(&asked[SEEDS], &asked[SIGMA], "tolerance", &t.s);
     if (status == DONE) status = prepare(&t, asked[RUN].value == NULL ? "--first" : "--run");

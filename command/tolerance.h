@@ -81,6 +81,9 @@ uint64_t width_for(const closed_form *closed);
 /* candidates.c: the best first; the count of them. */
 size_t candidates_of(const task *t, const ellipse *e, candidate found[2 * MOST_SHOTS]);
 
+/* Below 5 % of sound surveys a miss is worth a look, below 0.1 % it is likely a blunder. */
+enum { DOUBTFUL = 50, UNLIKELY = 1 };
+
 /* report.c: for a person; and whether a share of the runs is below a limit in thousandths, the judged miss being counted as one run more. */
 void report(const task *t, const tally *kept, growing *to);
 bool is_below(const tally *kept, unsigned thousandths);
