@@ -84,8 +84,8 @@ static void add_points(const task *t, const panel *p, growing *to) {
     uint64_t every = t->runs / MOST_POINTS + 1;
     add(to, "<g fill=\"#33557a\" fill-opacity=\"0.5\">\n");
     for (uint64_t run = 0; t->misses != NULL && run < t->runs; run += every) {
-        double east = (double)(t->misses[run][0] - t->own[0]), north = (double)(t->misses[run][1] - t->own[1]);
-        if (fabs(east) < p->x1 && fabs(north) < p->y1) add(to, "<circle cx=\"%.1f\" cy=\"%.1f\" r=\"2.2\"/>\n", across(p, east), down(p, north));
+        vector noise = noise_of(t, run);
+        if (fabs(noise.east) < p->x1 && fabs(noise.north) < p->y1) add(to, "<circle cx=\"%.1f\" cy=\"%.1f\" r=\"2.2\"/>\n", across(p, noise.east), down(p, noise.north));
     }
     add(to, "</g>\n");
 }

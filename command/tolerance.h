@@ -60,7 +60,8 @@ int put_run(const task *t);
 /* plays.c: plays all runs, by as many threads as are asked for. */
 int play_all(task *t);
 
-/* statistics.c */
+/* statistics.c: the noise of a run, its miss less the miss without noise; what is kept of all runs, and figures of it. */
+vector noise_of(const task *t, uint64_t run);
 int tally_of(const task *t, uint64_t width, tally *kept);
 vector mean_of(const tally *kept);
 covariance covariance_of(const tally *kept);
