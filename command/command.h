@@ -12,8 +12,14 @@
  * reads the output any more, and the command ends as if it were done. */
 enum { DONE = 0, REFUSED = 1, TROUBLE = 2, ENOUGH = 3 };
 
+/* The shots that a job takes, and room for a name of it, its end included. */
+enum { MOST_SHOTS = 500, NAME_ROOM = 13 };
+
 /* A text as it was read, under the name that messages give it. */
 typedef struct { const char *name; uint8_t *bytes; size_t length; } text;
+
+/* A text that grows. Once memory has run out it has failed, and nothing is added. */
+typedef struct { char *bytes; size_t length, room; bool failed; } growing;
 
 /* What a refusal is about: each has sentences of its own. */
 typedef enum { JOB, SURVEY, LISTING, RECORD } subject;
@@ -83,8 +89,13 @@ bool has_bad_tape(const bad_line *line);
 bool has_long_tape(const bad_line *line);
 bool has_large_compass(const bad_line *line);
 
-/* reading.c: reads a whole file, or standard input where the name is "-". */
+/* growing.c: room for so many more elements of an array that has a count of them; words added to a text, as printf would print them. */
+bool room_for(size_t more, void *array, size_t count, size_t *room, size_t size);
+void add(growing *to, const char *format, ...);
+
+/* reading.c: reads a whole file, or standard input where the name is "-"; or the one file that the words name, none being standard input. */
 int read_text(const char *name, text *read);
+int read_named(int count, char **words, text *read);
 
 /* writing.c: writes to standard output, or to the file that was named; says on standard error what went wrong. */
 void write_to(const option *given);

@@ -58,8 +58,7 @@ int job(int count, char **words) {
     text source;
     survey s;
     int status = read_options(&count, words, options, 3);
-    if (status == DONE && count > 1) status = wrong(ONE_FILE, words[1]);
-    if (status == DONE) status = read_text(count == 0 ? "-" : words[0], &source);
+    if (status == DONE) status = read_named(count, words, &source);
     if (status == DONE) status = take_survey(source, &s);
     if (status == DONE) status = settings_of(&options[1], &options[0], "job", &s);
     if (status != DONE) return status;

@@ -3,7 +3,7 @@
 #include <inttypes.h>
 
 /* A name between quotation marks. */
-static void add_string(page *to, const char *name) {
+static void add_string(growing *to, const char *name) {
     add(to, "\"");
     for (; *name != '\0'; name++) {
         if (*name == '"' || *name == '\\') add(to, "\\%c", *name);
@@ -14,7 +14,7 @@ static void add_string(page *to, const char *name) {
 }
 
 /* The job that every run plays, a line a string. */
-static void add_job(const task *t, page *to) {
+static void add_job(const task *t, growing *to) {
     add(to, "  \"job\": [\n    \"");
     for (size_t at = 0; at + 1 < t->length; at++) {
         if (t->job[at] == '\n') add(to, "\",\n    \"");
@@ -24,14 +24,14 @@ static void add_job(const task *t, page *to) {
 }
 
 /* How many runs lie in each step: [end of the step, runs], .. */
-static void add_steps(const char *name, const histogram *h, const char *after, page *to) {
+static void add_steps(const char *name, const histogram *h, const char *after, growing *to) {
     add(to, "  \"%s\": [", name);
     for (size_t j = 0; j < h->size; j++) add(to, "%s[%" PRIu64 ", %" PRIu64 "]", j == 0 ? "" : ", ", h->bars[j].at, h->bars[j].count);
     add(to, "]%s\n", after);
 }
 
 /* What can be added up. */
-static void add_part(const task *t, const tally *kept, page *to) {
+static void add_part(const task *t, const tally *kept, growing *to) {
     add_job(t, to);
     add(to, "  \"first\": %" PRIu64 ",\n  \"runs\": %" PRIu64 ",\n", kept->first, kept->runs);
     add(to, "  \"miss\": [%.17g, %.17g],\n", t->miss.east, t->miss.north);
@@ -43,7 +43,7 @@ static void add_part(const task *t, const tally *kept, page *to) {
     add_steps("steps_distance", &kept->of[DISTANCE], "", to);
 }
 
-static void add_figures(const task *t, const tally *kept, page *to) {
+static void add_figures(const task *t, const tally *kept, growing *to) {
     closed_form closed = closed_form_of(t);
     add(to, "  \"miss_without_noise\": [%" PRId64 ", %" PRId64 "],\n", t->own[0], t->own[1]);
     add(to, "  \"rms\": [%.3f, %.3f, %.3f],\n", rms_of(kept, EAST), rms_of(kept, NORTH), rms_of(kept, DISTANCE));
@@ -56,10 +56,10 @@ static void add_figures(const task *t, const tally *kept, page *to) {
     add(to, "  \"share_beyond\": %.9g,\n  \"share_farther\": %.9g,\n", (double)kept->beyond / (double)kept->runs, (double)kept->farther / (double)kept->runs);
 }
 
-static void add_candidates(const task *t, const tally *kept, page *to) {
+static void add_candidates(const task *t, const tally *kept, growing *to) {
     static candidate found[2 * MOST_SHOTS];
     ellipse e = ellipse_of_runs(kept);
-    size_t count = is_below(kept, 50) ? candidates_of(t, &e, found) : 0;
+    size_t count = is_below(kept, DOUBTFUL) ? candidates_of(t, &e, found) : 0;
     add(to, "  \"candidates\": [");
     for (size_t j = 0; j < count; j++) {
         add(to, "%s\n    {\"leg\": %zu, \"%s\": %.3f, \"remains\": %.4f}", j == 0 ? "" : ",", found[j].leg + 1, found[j].bearing ? "bearing_degrees" : "distance_mm", found[j].correction, found[j].remains);
@@ -67,7 +67,7 @@ static void add_candidates(const task *t, const tally *kept, page *to) {
     add(to, count == 0 ? "],\n" : "\n  ],\n");
 }
 
-void report_json(const task *t, const tally *kept, page *to) {
+void report_json(const task *t, const tally *kept, growing *to) {
     add(to, "{\n  \"jabulghi\": \"%s\",\n  \"file\": ", JABULGHI_VERSION);
     add_string(to, t->s.source.name);
     add(to, ",\n  \"legs\": %zu,\n", t->shots.count);

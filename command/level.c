@@ -11,18 +11,18 @@ static void put_leg(survey *s, const stations *named, step at, growing *strict) 
     size_t ends[2];
     for (int j = 0; j < 2; j++) ends[j] = named->place[station_of(&s->names, (j == 0) != at.backwards ? l->from : l->to)] - 1;
     int64_t compass = (l->compass + (at.backwards ? 18000 : 0)) % 36000;
-    put_in(strict, "%s %s %" PRId64 ".%03" PRId64, named->all[ends[0]].new_name, named->all[ends[1]].new_name, l->plan / 1000, l->plan % 1000);
-    put_in(strict, " %" PRId64 ".%02" PRId64 " 0 ; line %zu%s", compass / 100, compass % 100, l->line, at.backwards ? ", turned" : "");
+    add(strict, "%s %s %" PRId64 ".%03" PRId64, named->all[ends[0]].new_name, named->all[ends[1]].new_name, l->plan / 1000, l->plan % 1000);
+    add(strict, " %" PRId64 ".%02" PRId64 " 0 ; line %zu%s", compass / 100, compass % 100, l->line, at.backwards ? ", turned" : "");
     if (l->steep) {
         int64_t clino = l->clino < 0 ? -l->clino : l->clino;
-        put_in(strict, ", tape %" PRId64 ".%03" PRId64, l->tape / 1000, l->tape % 1000);
-        put_in(strict, ", clino %s%" PRId64 ".%02" PRId64, l->clino < 0 ? "-" : "", clino / 100, clino % 100);
+        add(strict, ", tape %" PRId64 ".%03" PRId64, l->tape / 1000, l->tape % 1000);
+        add(strict, ", clino %s%" PRId64 ".%02" PRId64, l->clino < 0 ? "-" : "", clino / 100, clino % 100);
     }
-    put_in(strict, "\n");
+    add(strict, "\n");
 }
 
 static void put_legs(survey *s, const walk *w, const stations *named, growing *strict) {
-    put_in(strict, "; made by jabulghi level, which is not proved\n*data normal from to tape compass clino\n");
+    add(strict, "; made by jabulghi level, which is not proved\n*data normal from to tape compass clino\n");
     for (size_t j = 0; j < w->count; j++) put_leg(s, named, w->steps[j], strict);
 }
 
@@ -44,7 +44,7 @@ int level_text(const text *from, uint64_t loop, growing *strict, growing *said) 
     if (!done) say_refusal(&s, said);
     free(w.steps), free(named.all), free(named.place);
     free(s.legs), free(s.scopes), free(s.passed), free(s.names.all), free(s.names.slots);
-    if (strict->lacks || said->lacks || (!done && s.why == NO_MEMORY)) return trouble(from->name, strerror(ENOMEM));
+    if (strict->failed || said->failed || (!done && s.why == NO_MEMORY)) return trouble(from->name, strerror(ENOMEM));
     return done ? DONE : REFUSED;
 }
 

@@ -5,12 +5,10 @@
 #include "command.h"
 
 enum {
-    MOST_LEVEL_LEGS = 500, /* the shots that a job takes */
-    MOST_LISTED = 10,      /* lines, loops or names that a note lists */
-    MOST_SCOPES = 1000,    /* *begin inside each other */
-    MOST_NAME = 1000,      /* bytes of a station's name with its scopes and points */
-    MOST_FIELDS = 16,      /* of a data line */
-    NEW_NAME = 13,         /* room for a name of a job, its end included */
+    MOST_LISTED = 10,   /* lines, loops or names that a note lists */
+    MOST_SCOPES = 1000, /* *begin inside each other */
+    MOST_NAME = 1000,   /* bytes of a station's name with its scopes and points */
+    MOST_FIELDS = 16,   /* of a data line */
 };
 
 /* Why a survey is refused; level_notes.c has a sentence for each. */
@@ -19,9 +17,6 @@ typedef enum {
     FEW_FIELDS, MANY_FIELDS, SPLAY, SAME_STATION, BAD_TAPE, LONG_TAPE, BAD_COMPASS, BAD_CLINO, OTHER_UNITS, CORRECTION, SECOND_FIX, OTHER_FILE,
     OTHER_CASE, FEW_EQUATES, MORE_WORDS, OTHER_COMMAND, NO_LEG, MANY_LEGS, NO_SUCH_LOOP, SEVERAL_LOOPS,
 } reason;
-
-/* Text that grows. Once memory has run out `lacks` holds, and nothing is added. */
-typedef struct { char *bytes; size_t length, room; bool lacks; } growing;
 
 /* Bytes of the survey. */
 typedef struct { const uint8_t *bytes; size_t length; } part;
@@ -65,7 +60,7 @@ typedef struct {
 typedef struct { step *steps; size_t count; bool is_loop; } walk;
 
 /* The stations of a walk in order, each the first of its names, and their new names. */
-typedef struct { size_t name; char new_name[NEW_NAME]; } station;
+typedef struct { size_t name; char new_name[NAME_ROOM]; } station;
 typedef struct { station *all; size_t count, *place; } stations;
 
 /* level.c: the strict text, and what is said about it; a refusal says one sentence and leaves the text empty. */
@@ -99,9 +94,5 @@ bool find_loop(survey *s, uint64_t n, walk *w);
 /* level_notes.c: what is said. */
 void say_refusal(survey *s, growing *said);
 void say_notes(survey *s, const walk *w, const stations *named, growing *said);
-
-/* level_memory.c: room for one more element of an array; words added to a text. */
-bool room_for_one(void *array, size_t count, size_t *room, size_t size);
-void put_in(growing *to, const char *format, ...);
 
 #endif

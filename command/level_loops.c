@@ -133,5 +133,5 @@ bool find_walk(survey *s, uint64_t loop, walk *w) {
     if (loop != ANY_LOOP && (loop == 0 || loop > s->loop_count)) return refuse_survey(s, NO_SUCH_LOOP, (part){NULL, 0});
     if (loop == ANY_LOOP && s->loop_count > 1) return refuse_survey(s, SEVERAL_LOOPS, (part){NULL, 0});
     bool found = s->loop_count == 0 ? walk_all(s, w) : find_loop(s, loop == ANY_LOOP ? 1 : loop, w);
-    return found && (w->count <= MOST_LEVEL_LEGS || refuse_survey(s, MANY_LEGS, (part){NULL, 0}));
+    return found && (w->count <= MOST_SHOTS || refuse_survey(s, MANY_LEGS, (part){NULL, 0}));
 }

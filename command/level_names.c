@@ -52,7 +52,7 @@ static bool room_for_slot(tree *t) {
 /* The name of a label below another, a new one where there was none. */
 static size_t name_below(survey *s, size_t above, part label, letters as) {
     tree *t = &s->names;
-    if (!room_for_slot(t) || !room_for_one(&t->all, t->count, &t->room, sizeof *t->all)) return refuse_survey(s, NO_MEMORY, label), NO_NAME;
+    if (!room_for_slot(t) || !room_for(1, &t->all, t->count, &t->room, sizeof *t->all)) return refuse_survey(s, NO_MEMORY, label), NO_NAME;
     size_t at = slot_of(t, above, label, as);
     if (t->slots[at] != 0) return t->slots[at];
     size_t length = t->all[above].length + (above != 0) + label.length;
@@ -93,11 +93,11 @@ void make_same(tree *names, size_t one, size_t other) {
 
 /* The letters and digits of a label put before a name; false where they do not fit. */
 static bool put_before(char *new_name, part label) {
-    char kept[NEW_NAME];
+    char kept[NAME_ROOM];
     size_t count = 0, length = strlen(new_name);
     for (size_t j = 0; j < label.length; j++) {
         if (!is_letter_or_digit(label.bytes[j])) continue;
-        if (count + length + 1 == NEW_NAME) return false;
+        if (count + length + 1 == NAME_ROOM) return false;
         kept[count++] = (char)label.bytes[j];
     }
     memmove(new_name + count, new_name, length + 1);
@@ -124,10 +124,10 @@ static bool is_taken(const stations *named, size_t count, const char *new_name) 
 
 /* S1, S2 and so on: the next that no station has. */
 static void number_station(stations *named, station *unnamed, unsigned *last) {
-    char numbered[NEW_NAME];
-    do snprintf(numbered, NEW_NAME, "S%u", ++*last);
+    char numbered[NAME_ROOM];
+    do snprintf(numbered, NAME_ROOM, "S%u", ++*last);
     while (is_taken(named, named->count, numbered));
-    memcpy(unnamed->new_name, numbered, NEW_NAME);
+    memcpy(unnamed->new_name, numbered, NAME_ROOM);
 }
 
 static void add_station(survey *s, stations *named, size_t one) {

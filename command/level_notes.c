@@ -46,7 +46,7 @@ static void put_word(growing *to, part word) {
     size_t count = word.length < 40 ? word.length : 40;
     for (size_t j = 0; j < count; j++) shown[j] = word.bytes[j] > 32 && word.bytes[j] < 127 ? (char)word.bytes[j] : '?';
     shown[count] = '\0';
-    if (count > 0) put_in(to, " (%s%s)", shown, word.length > 40 ? ".." : "");
+    if (count > 0) add(to, " (%s%s)", shown, word.length > 40 ? ".." : "");
 }
 
 /* The labels from the root on, with points between. */
@@ -58,7 +58,7 @@ static void put_full_name(growing *to, const tree *names, size_t name) {
         at -= names->all[name].label.length;
         memcpy(at, names->all[name].label.bytes, names->all[name].label.length);
     }
-    put_in(to, "%s", at);
+    add(to, "%s", at);
 }
 
 /* ---- Refusals */
@@ -74,28 +74,28 @@ static void list_loop(survey *s, uint64_t n, growing *said) {
     size_t last = 0;
     while (!s->legs[w.steps[last].leg].closes) last++;
     const leg *closing = &s->legs[w.steps[last].leg];
-    put_in(said, "  --loop %" PRIu64 ": %zu legs, %" PRId64 ".%03" PRId64 " m, closed on line %zu, ", n, w.count, length / 1000, length % 1000, closing->line);
+    add(said, "  --loop %" PRIu64 ": %zu legs, %" PRId64 ".%03" PRId64 " m, closed on line %zu, ", n, w.count, length / 1000, length % 1000, closing->line);
     put_full_name(said, &s->names, closing->from);
-    put_in(said, " to ");
+    add(said, " to ");
     put_full_name(said, &s->names, closing->to);
-    put_in(said, "\n");
+    add(said, "\n");
     free(w.steps);
 }
 
 static void list_loops(survey *s, growing *said) {
     size_t count = s->loop_count < MOST_LISTED ? s->loop_count : MOST_LISTED;
     for (size_t n = 1; n <= count; n++) list_loop(s, n, said);
-    if (s->loop_count > count) put_in(said, "  and %zu more\n", s->loop_count - count);
+    if (s->loop_count > count) add(said, "  and %zu more\n", s->loop_count - count);
 }
 
 /* "FILE:LINE: sentence (WORD)", without a line where the whole text is meant. */
 void say_refusal(survey *s, growing *said) {
-    put_in(said, "%s", s->from->name);
-    if (s->bad_line > 0) put_in(said, ":%zu", s->bad_line);
-    put_in(said, ": %s", SENTENCES[s->why]);
+    add(said, "%s", s->from->name);
+    if (s->bad_line > 0) add(said, ":%zu", s->bad_line);
+    add(said, ": %s", SENTENCES[s->why]);
     put_word(said, s->bad_word);
-    if (s->why == NO_SUCH_LOOP) put_in(said, ": it has %zu", s->loop_count);
-    put_in(said, "\n");
+    if (s->why == NO_SUCH_LOOP) add(said, ": it has %zu", s->loop_count);
+    add(said, "\n");
     if (s->why == SEVERAL_LOOPS) list_loops(s, said);
 }
 
@@ -110,14 +110,14 @@ static size_t count_passed(const survey *s) {
 static void say_passed(const survey *s, growing *said) {
     const char *between = "";
     if (count_passed(s) == 0) return;
-    put_in(said, "%s: passed over:", s->from->name);
+    add(said, "%s: passed over:", s->from->name);
     for (size_t j = 0; PASSED_OVER[j] != NULL; j++) {
         if (s->passed[j] == 0) continue;
-        put_in(said, "%s %zu *%s", between, s->passed[j], PASSED_OVER[j]);
+        add(said, "%s %zu *%s", between, s->passed[j], PASSED_OVER[j]);
         between = ",";
     }
-    if (s->readings > 0) put_in(said, "%s %zu lines of passage data", between, s->readings);
-    put_in(said, "\n");
+    if (s->readings > 0) add(said, "%s %zu lines of passage data", between, s->readings);
+    add(said, "\n");
 }
 
 /* How many legs of the walk are steep, or walked backwards. */
@@ -127,8 +127,8 @@ static void say_changed(const survey *s, const walk *w, growing *said) {
         steep += s->legs[w->steps[j].leg].steep;
         backwards += w->steps[j].backwards;
     }
-    if (steep > 0) put_in(said, "%s: legs that are not level, written with their plan length: %zu\n", s->from->name, steep);
-    if (backwards > 0) put_in(said, "%s: legs walked backwards, turned by half a circle: %zu\n", s->from->name, backwards);
+    if (steep > 0) add(said, "%s: legs that are not level, written with their plan length: %zu\n", s->from->name, steep);
+    if (backwards > 0) add(said, "%s: legs walked backwards, turned by half a circle: %zu\n", s->from->name, backwards);
 }
 
 /* The lines of the legs that are on no step, as many as are listed. */
@@ -136,16 +136,16 @@ static void say_left_out(const survey *s, const walk *w, growing *said) {
     size_t count = 0, all = s->leg_count - w->count;
     bool *on = calloc(s->leg_count, sizeof *on);
     if (all == 0 || on == NULL) {
-        said->lacks = said->lacks || on == NULL;
+        said->failed = said->failed || on == NULL;
         free(on);
         return;
     }
     for (size_t j = 0; j < w->count; j++) on[w->steps[j].leg] = true;
-    put_in(said, "%s: legs not on the loop, left out: %zu (line", s->from->name, all);
+    add(said, "%s: legs not on the loop, left out: %zu (line", s->from->name, all);
     for (size_t j = 0; j < s->leg_count && count < MOST_LISTED; j++) {
-        if (!on[j]) put_in(said, "%s %zu", count++ > 0 ? "," : "", s->legs[j].line);
+        if (!on[j]) add(said, "%s %zu", count++ > 0 ? "," : "", s->legs[j].line);
     }
-    put_in(said, "%s)\n", all > count ? " .." : "");
+    add(said, "%s)\n", all > count ? " .." : "");
     free(on);
 }
 
@@ -159,11 +159,11 @@ static void say_station(const survey *s, const station *one, const size_t *next,
     bool is_new = row.bytes != NULL && strcmp(row.bytes, one->new_name) != 0;
     for (at = next[at]; at != 0; at = next[at]) {
         if (++count >= MOST_LISTED) continue;
-        put_in(&row, " = ");
+        add(&row, " = ");
         put_full_name(&row, &s->names, at);
     }
-    if (row.lacks) said->lacks = true;
-    else if (is_new || count > 0) put_in(said, "  %-12s %s%s\n", one->new_name, row.bytes, count >= MOST_LISTED ? " .." : "");
+    if (row.failed) said->failed = true;
+    else if (is_new || count > 0) add(said, "  %-12s %s%s\n", one->new_name, row.bytes, count >= MOST_LISTED ? " .." : "");
     free(row.bytes);
 }
 
@@ -184,17 +184,17 @@ static void say_names(survey *s, const stations *named, growing *said) {
     growing rows = {NULL, 0, 0, false};
     size_t *next = list_names(s);
     for (size_t j = 0; next != NULL && j < named->count; j++) say_station(s, &named->all[j], next, &rows);
-    if (next == NULL || rows.lacks) said->lacks = true;
-    else if (rows.length > 0) put_in(said, "%s: names:\n%s", s->from->name, rows.bytes);
+    if (next == NULL || rows.failed) said->failed = true;
+    else if (rows.length > 0) add(said, "%s: names:\n%s", s->from->name, rows.bytes);
     free(rows.bytes);
     free(next);
 }
 
 void say_notes(survey *s, const walk *w, const stations *named, growing *said) {
-    put_in(said, "jabulghi: level is not proved: compare what it writes with your survey\n");
+    add(said, "jabulghi: level is not proved: compare what it writes with your survey\n");
     say_passed(s, said);
     say_changed(s, w, said);
     say_left_out(s, w, said);
-    if (!w->is_loop) put_in(said, "%s: no loop: all legs are written as they stand\n", s->from->name);
+    if (!w->is_loop) add(said, "%s: no loop: all legs are written as they stand\n", s->from->name);
     say_names(s, named, said);
 }

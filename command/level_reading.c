@@ -24,7 +24,7 @@ static bool ends_here(survey *s) {
 static bool take_begin(survey *s) {
     part label;
     if (s->depth == MOST_SCOPES) return refuse_survey(s, DEEP_SCOPES, NONE);
-    if (!room_for_one(&s->scopes, s->depth + 1, &s->scope_room, sizeof *s->scopes)) return refuse_survey(s, NO_MEMORY, NONE);
+    if (!room_for(1, &s->scopes, s->depth + 1, &s->scope_room, sizeof *s->scopes)) return refuse_survey(s, NO_MEMORY, NONE);
     settings inside = *now(s);
     if (next_word(&s->lines, &label)) inside.scope = name_of(s, inside.scope, label, inside.as);
     inside.line = s->lines.number;
@@ -162,7 +162,7 @@ static bool add_leg(survey *s, leg l) {
     l.compass = l.compass < 0 ? 0 : rounded(l.compass, 10000) % 36000;
     l.clino = rounded(l.clino, 10000);
     l.line = s->lines.number;
-    if (!room_for_one(&s->legs, s->leg_count, &s->leg_room, sizeof *s->legs)) return refuse_survey(s, NO_MEMORY, NONE);
+    if (!room_for(1, &s->legs, s->leg_count, &s->leg_room, sizeof *s->legs)) return refuse_survey(s, NO_MEMORY, NONE);
     s->legs[s->leg_count++] = l;
     return true;
 }
@@ -278,8 +278,8 @@ static bool has_no_zero(survey *s) {
 static bool set_up(survey *s) {
     s->lines = read_lines(s->from);
     s->passed = calloc(sizeof PASSED_OVER / sizeof PASSED_OVER[0], sizeof *s->passed);
-    bool has_room = s->passed != NULL && room_for_one(&s->scopes, 0, &s->scope_room, sizeof *s->scopes);
-    if (!has_room || !room_for_one(&s->names.all, 0, &s->names.room, sizeof *s->names.all)) return refuse_survey(s, NO_MEMORY, NONE);
+    bool has_room = s->passed != NULL && room_for(1, &s->scopes, 0, &s->scope_room, sizeof *s->scopes);
+    if (!has_room || !room_for(1, &s->names.all, 0, &s->names.room, sizeof *s->names.all)) return refuse_survey(s, NO_MEMORY, NONE);
     s->names.all[s->names.count++] = (name){0, 0, 0, NONE, AS_LOWER};
     s->scopes[0] = (settings){0, 0, NONE, AS_LOWER, false, 0, {0}};
     default_order(&s->scopes[0]);

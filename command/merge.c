@@ -9,7 +9,7 @@ static int by_first(const void *a, const void *b) {
     return (one->runs.first > other->runs.first) - (one->runs.first < other->runs.first);
 }
 
-static int read_named(const char *name, part *read) {
+static int read_file(const char *name, part *read) {
     text source;
     int status = read_text(name, &source);
     if (status != DONE) return status;
@@ -80,7 +80,7 @@ int merge(int count, char **names, task *t, tally *all) {
     int status = DONE;
     part *parts = calloc((size_t)count, sizeof parts[0]);
     if (parts == NULL) return trouble("--merge", strerror(ENOMEM));
-    for (int j = 0; status == DONE && j < count; j++) status = read_named(names[j], &parts[j]);
+    for (int j = 0; status == DONE && j < count; j++) status = read_file(names[j], &parts[j]);
     if (status != DONE) return status;
     qsort(parts, (size_t)count, sizeof parts[0], by_first);
     *all = parts[0].runs;

@@ -7,9 +7,6 @@
 /* At most so many candidates are printed. */
 #define MOST_PRINTED 30
 
-/* Below 5 % of sound surveys a miss is worth a look, below 0.1 % it is likely a blunder. */
-enum { DOUBTFUL = 50, UNLIKELY = 1 };
-
 bool is_below(const tally *kept, unsigned thousandths) { return (double)(kept->beyond + 1) * 1000 < (double)thousandths * (double)(kept->runs + 1); }
 
 /* Two digits of a percentage that is small, whole percents of one that is not; of none, that it is less than one of all. */
@@ -25,7 +22,7 @@ static double length_of(const traverse *t) {
     return sum;
 }
 
-static void describe(const task *t, const tally *kept, page *to) {
+static void describe(const task *t, const tally *kept, growing *to) {
     const uint32_t *n = t->s.seeds, *sigma = t->s.sigma;
     add(to, "%s: %zu legs, %.3f m\n", t->s.source.name, t->shots.count, length_of(&t->shots) / 1000);
     add(to, "sigma: %" PRIu32 " mm of distance, %" PRIu32 " steps (%.3f degrees) of bearing\n", sigma[0], sigma[1], sigma[1] * 360 / 65536.0);
@@ -36,7 +33,7 @@ static void describe(const task *t, const tally *kept, page *to) {
 }
 
 /* Each figure of the runs with the closed form's beside it. */
-static void tabulate(const task *t, const tally *kept, page *to) {
+static void tabulate(const task *t, const tally *kept, growing *to) {
     closed_form closed = closed_form_of(t);
     add(to, "noise in mm            east               north            distance   (closed: the closed form)\n");
     add(to, "              runs    closed      runs    closed      runs    closed\nrms     ");
@@ -48,7 +45,7 @@ static void tabulate(const task *t, const tally *kept, page *to) {
     add(to, "\n\n");
 }
 
-static void list_candidates(const task *t, const ellipse *e, page *to) {
+static void list_candidates(const task *t, const ellipse *e, growing *to) {
     static candidate found[2 * MOST_SHOTS];
     char word[32];
     size_t count = candidates_of(t, e, found);
@@ -63,7 +60,7 @@ static void list_candidates(const task *t, const ellipse *e, page *to) {
 }
 
 /* What the runs say of the miss, by their ellipse. */
-static void judge(const task *t, const tally *kept, const ellipse *e, page *to) {
+static void judge(const task *t, const tally *kept, const ellipse *e, growing *to) {
     char beyond[32], farther[32];
     double distance = hypot(t->miss.east, t->miss.north);
     add(to, "%s: east %.10g, north %.10g, distance %.0f mm", t->given ? "the miss given" : "the miss", t->miss.east, t->miss.north, distance);
@@ -73,7 +70,7 @@ static void judge(const task *t, const tally *kept, const ellipse *e, page *to) 
     if (is_below(kept, DOUBTFUL)) list_candidates(t, e, to);
 }
 
-void report(const task *t, const tally *kept, page *to) {
+void report(const task *t, const tally *kept, growing *to) {
     ellipse e = ellipse_of_runs(kept);
     describe(t, kept, to);
     tabulate(t, kept, to);

@@ -5,14 +5,11 @@
 #include <stdlib.h>
 #include <string.h>
 
-/* The noise of a run: its miss less the miss without noise. */
-static void noise_of(const task *t, uint64_t run, int64_t noise[2]) {
-    for (int j = 0; j < 2; j++) noise[j] = t->misses[run][j] - t->own[j];
-}
+vector noise_of(const task *t, uint64_t run) { return (vector){(double)(t->misses[run][0] - t->own[0]), (double)(t->misses[run][1] - t->own[1])}; }
 
 /* The step that a measure of a run falls into: the smallest whose end it does not pass. */
-static uint64_t step_of(const int64_t noise[2], int measure, uint64_t width) {
-    uint64_t east = (uint64_t)llabs(noise[EAST]), north = (uint64_t)llabs(noise[NORTH]), square = east * east + north * north;
+static uint64_t step_of(vector noise, int measure, uint64_t width) {
+    uint64_t east = (uint64_t)fabs(noise.east), north = (uint64_t)fabs(noise.north), square = east * east + north * north;
     if (measure != DISTANCE) return ((measure == EAST ? east : north) + width - 1) / width;
     uint64_t step = (uint64_t)(sqrt((double)square) / (double)width);
     while (step > 0 && (step - 1) * width * (step - 1) * width >= square) step--;
@@ -31,18 +28,13 @@ static bool keep(histogram *h, const uint64_t *counts, size_t size) {
 }
 
 static bool count_steps(const task *t, int measure, uint64_t width, histogram *h) {
-    int64_t noise[2];
     uint64_t most = 0;
     for (uint64_t run = 0; run < t->runs; run++) {
-        noise_of(t, run, noise);
-        uint64_t step = step_of(noise, measure, width);
+        uint64_t step = step_of(noise_of(t, run), measure, width);
         if (step > most) most = step;
     }
     uint64_t *counts = calloc((size_t)most + 1, sizeof counts[0]);
-    for (uint64_t run = 0; counts != NULL && run < t->runs; run++) {
-        noise_of(t, run, noise);
-        counts[step_of(noise, measure, width)]++;
-    }
+    for (uint64_t run = 0; counts != NULL && run < t->runs; run++) counts[step_of(noise_of(t, run), measure, width)]++;
     bool kept = counts != NULL && keep(h, counts, (size_t)most + 1);
     free(counts);
     return kept;
@@ -50,14 +42,12 @@ static bool count_steps(const task *t, int measure, uint64_t width, histogram *h
 
 static void add_up(const task *t, tally *kept) {
     for (uint64_t run = 0; run < t->runs; run++) {
-        int64_t noise[2];
-        noise_of(t, run, noise);
-        double east = (double)noise[EAST], north = (double)noise[NORTH];
-        kept->sum.east += east;
-        kept->sum.north += north;
-        kept->squares.east += east * east;
-        kept->squares.north += north * north;
-        kept->product += east * north;
+        vector noise = noise_of(t, run);
+        kept->sum.east += noise.east;
+        kept->sum.north += noise.north;
+        kept->squares.east += noise.east * noise.east;
+        kept->squares.north += noise.north * noise.north;
+        kept->product += noise.east * noise.north;
     }
 }
 
@@ -66,11 +56,9 @@ static void count_beyond(const task *t, tally *kept) {
     ellipse e = ellipse_of_runs(kept);
     double limit = reach(&e, t->miss) * (1 - 1e-12), distance = (t->miss.east * t->miss.east + t->miss.north * t->miss.north) * (1 - 1e-12);
     for (uint64_t run = 0; run < t->runs; run++) {
-        int64_t noise[2];
-        noise_of(t, run, noise);
-        double east = (double)noise[EAST], north = (double)noise[NORTH];
-        kept->beyond += reach(&e, (vector){east, north}) >= limit;
-        kept->farther += east * east + north * north >= distance;
+        vector noise = noise_of(t, run);
+        kept->beyond += reach(&e, noise) >= limit;
+        kept->farther += noise.east * noise.east + noise.north * noise.north >= distance;
     }
 }
 

@@ -37,18 +37,23 @@ static int take_job(survey *s) {
     return DONE;
 }
 
+int shots_of(const text *from, uint8_t **shots, size_t *length) {
+    size_t line, room = 3 * from->length + 1; /* a leg of 10 bytes gives a shot line of at most 21, and a longer one at most as many bytes more */
+    *shots = malloc(room);
+    if (*shots == NULL) return trouble(from->name, strerror(ENOMEM));
+    uint32_t number = jabulghi_legs(from->bytes, from->length, *shots, room, &line, length);
+    return number == JABULGHI_OK ? DONE : refuse(from, SURVEY, line, number);
+}
+
 /* A survey's legs; of more than a job may have, one more than those, so that the library refuses it. */
 static int take_legs(survey *s) {
-    size_t line, room = 3 * s->source.length + 1, shots = 0;
-    s->shots = malloc(room);
-    if (s->shots == NULL) return trouble(s->source.name, strerror(ENOMEM));
-    uint32_t number = jabulghi_legs(s->source.bytes, s->source.length, s->shots, room, &line, &s->length);
-    if (number != JABULGHI_OK) return refuse(&s->source, SURVEY, line, number);
-    for (size_t at = 0; at < s->length; at++) {
+    size_t shots = 0;
+    int status = shots_of(&s->source, &s->shots, &s->length);
+    for (size_t at = 0; status == DONE && at < s->length; at++) {
         shots += s->shots[at] == '\n';
         if (shots > MOST_SHOTS) s->length = at + 1;
     }
-    return DONE;
+    return status;
 }
 
 /* A listing's rows as shot lines. */

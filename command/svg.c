@@ -18,10 +18,10 @@ static double round_step(double range) {
     return (ratio < 1.5 ? 1 : ratio < 3.5 ? 2 : ratio < 7.5 ? 5 : 10) * power;
 }
 
-static void add_line(page *to, double x1, double y1, double x2, double y2, const char *style) { add(to, "<line x1=\"%.1f\" y1=\"%.1f\" x2=\"%.1f\" y2=\"%.1f\" %s/>\n", x1, y1, x2, y2, style); }
+static void add_line(growing *to, double x1, double y1, double x2, double y2, const char *style) { add(to, "<line x1=\"%.1f\" y1=\"%.1f\" x2=\"%.1f\" y2=\"%.1f\" %s/>\n", x1, y1, x2, y2, style); }
 
 /* The frame, its ticks below and on the left, and the names of both axes. */
-static void add_axes(page *to, const panel *p, const char *below, const char *beside) {
+static void add_axes(growing *to, const panel *p, const char *below, const char *beside) {
     double step = round_step(p->x1 - p->x0), rise = round_step(p->y1 - p->y0);
     add(to, "<rect x=\"%.1f\" y=\"%.1f\" width=\"%.1f\" height=\"%.1f\" fill=\"none\" stroke=\"black\"/>\n", p->left, p->top, p->right - p->left, p->bottom - p->top);
     for (double x = ceil(p->x0 / step) * step; x <= p->x1 + step / 1e6; x += step) {
@@ -47,12 +47,12 @@ static void count_columns(const tally *kept, double end, double columns[COLUMNS]
 }
 
 /* The name of a distance of the histogram, readable on any ground. */
-static void add_name(page *to, const panel *p, double at, int row, const char *name, const char *colour) {
+static void add_name(growing *to, const panel *p, double at, int row, const char *name, const char *colour) {
     add(to, "<text x=\"%.1f\" y=\"%.1f\" fill=\"%s\" stroke=\"white\" stroke-width=\"6\" paint-order=\"stroke\">%s</text>\n", across(p, at) + 6, p->top + 26.0 + 26 * row, colour, name);
 }
 
 /* The quantiles and the miss; one that is far off is named at the right edge. */
-static void add_marks(const tally *kept, const panel *p, double miss, bool far_off, page *to) {
+static void add_marks(const tally *kept, const panel *p, double miss, bool far_off, growing *to) {
     static const struct { unsigned thousandths; const char *name; } MARKS[] = {{500, "50 %"}, {950, "95 %"}, {999, "99.9 %"}};
     for (size_t j = 0; j < 3; j++) {
         double x = across(p, (double)within_of(kept, DISTANCE, MARKS[j].thousandths));
@@ -64,7 +64,7 @@ static void add_marks(const tally *kept, const panel *p, double miss, bool far_o
     else add(to, "<text x=\"%.1f\" y=\"%.1f\" text-anchor=\"end\" fill=\"#c03020\">the miss: %.0f mm &#8594;</text>\n", p->right - 8, p->top + 130, miss);
 }
 
-static void draw_histogram(const task *t, const tally *kept, page *to) {
+static void draw_histogram(const task *t, const tally *kept, growing *to) {
     double columns[COLUMNS], top = 1e-9, miss = hypot(t->miss.east, t->miss.north), end = fmax(1, 1.3 * (double)within_of(kept, DISTANCE, 999));
     bool far_off = miss > 2 * end;
     if (!far_off) end = fmax(end, 1.25 * miss);
@@ -80,17 +80,17 @@ static void draw_histogram(const task *t, const tally *kept, page *to) {
 }
 
 /* Where the runs are known one by one, some of them, evenly chosen. */
-static void add_points(const task *t, const panel *p, page *to) {
+static void add_points(const task *t, const panel *p, growing *to) {
     uint64_t every = t->runs / MOST_POINTS + 1;
     add(to, "<g fill=\"#33557a\" fill-opacity=\"0.5\">\n");
     for (uint64_t run = 0; t->misses != NULL && run < t->runs; run += every) {
-        double east = (double)(t->misses[run][0] - t->own[0]), north = (double)(t->misses[run][1] - t->own[1]);
-        if (fabs(east) < p->x1 && fabs(north) < p->y1) add(to, "<circle cx=\"%.1f\" cy=\"%.1f\" r=\"2.2\"/>\n", across(p, east), down(p, north));
+        vector noise = noise_of(t, run);
+        if (fabs(noise.east) < p->x1 && fabs(noise.north) < p->y1) add(to, "<circle cx=\"%.1f\" cy=\"%.1f\" r=\"2.2\"/>\n", across(p, noise.east), down(p, noise.north));
     }
     add(to, "</g>\n");
 }
 
-static void add_ellipses(const ellipse *e, const panel *p, page *to) {
+static void add_ellipses(const ellipse *e, const panel *p, growing *to) {
     static const double OUTSIDE[] = {0.5, 0.05, 0.001};
     double scale = (p->right - p->left) / (p->x1 - p->x0);
     for (size_t j = 0; j < sizeof OUTSIDE / sizeof OUTSIDE[0]; j++) {
@@ -100,7 +100,7 @@ static void add_ellipses(const ellipse *e, const panel *p, page *to) {
     }
 }
 
-static void draw_cloud(const task *t, const tally *kept, page *to) {
+static void draw_cloud(const task *t, const tally *kept, growing *to) {
     ellipse e = ellipse_of_runs(kept);
     double miss = fmax(fabs(t->miss.east), fabs(t->miss.north)), end = fmax(1, 4.2 * sqrt(e.longer));
     bool far_off = miss > 2 * end;
@@ -119,7 +119,7 @@ static void draw_cloud(const task *t, const tally *kept, page *to) {
     add_axes(to, &p, "east, mm; ellipses of 50, 95 and 99.9 %", "north, mm");
 }
 
-void draw(const task *t, const tally *kept, page *to) {
+void draw(const task *t, const tally *kept, growing *to) {
     add(to, "<svg xmlns=\"http://www.w3.org/2000/svg\" viewBox=\"0 0 1200 520\" font-family=\"sans-serif\" font-size=\"24\">\n<rect width=\"1200\" height=\"520\" fill=\"white\"/>\n");
     draw_histogram(t, kept, to);
     draw_cloud(t, kept, to);

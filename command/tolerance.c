@@ -1,6 +1,9 @@
 /* jabulghi tolerance: plays a loop many times and says how its miss compares. */
 #include "tolerance.h"
+#include <errno.h>
 #include <inttypes.h>
+#include <stdlib.h>
+#include <string.h>
 
 /* What the words of the command line may ask for, in this order. */
 enum { SIGMA, SEEDS, RUNS, FIRST, RUN, MISS, THREADS, CSV, JSON, SVG, MERGE, INTO, ASKED };
@@ -38,18 +41,27 @@ static int numbers_of(const option asked[ASKED], task *t) {
     return status;
 }
 
+int put_grown(const char *name, growing *written) {
+    int status;
+    if (written->failed) status = trouble("tolerance", strerror(ENOMEM));
+    else status = name == NULL ? put(written->bytes, written->length) : put_file(name, written->bytes, written->length);
+    free(written->bytes);
+    *written = (growing){NULL, 0, 0, false};
+    return status;
+}
+
 static int write_all(const option asked[ASKED], const task *t, const tally *kept) {
-    page written = {NULL, 0, 0, false};
+    growing written = {NULL, 0, 0, false};
     int status = DONE;
     if (asked[SVG].value != NULL) {
         draw(t, kept, &written);
-        status = put_page_into(asked[SVG].value, &written);
+        status = put_grown(asked[SVG].value, &written);
     }
     if (status != DONE) return status;
     if (asked[CSV].value != NULL) return put_csv(t);
     if (asked[JSON].value != NULL) report_json(t, kept, &written);
     else report(t, kept, &written);
-    return put_page(&written);
+    return put_grown(NULL, &written);
 }
 
 static int run_merged(int count, char **words, const option asked[ASKED]) {
@@ -74,8 +86,7 @@ static int run(int count, char **words, const option asked[ASKED]) {
     t.runs = asked[RUN].value == NULL ? 10000 : 1;
     t.jobs = system_processors();
     int status = numbers_of(asked, &t);
-    if (status == DONE && count > 1) status = wrong(ONE_FILE, words[1]);
-    if (status == DONE) status = read_text(count == 0 ? "-" : words[0], &source);
+    if (status == DONE) status = read_named(count, words, &source);
     if (status == DONE) status = take_survey(source, &t.s);
     if (status == DONE) status = settings_of(&asked[SEEDS], &asked[SIGMA], "tolerance", &t.s);
     if (status == DONE) status = prepare(&t, asked[RUN].value == NULL ? "--first" : "--run");

@@ -49,11 +49,8 @@ typedef struct { covariance spread; double rms[MEASURES], within[MEASURES][QUANT
 /* One leg whose correction would bring the miss within the noise; remains is the share of sound surveys that would then miss by as much. */
 typedef struct { size_t leg; bool bearing; double correction, remains; } candidate;
 
-/* A text that grows; where memory ran out it is marked as failed. */
-typedef struct { char *bytes; size_t length, room; bool failed; } page;
-void add(page *to, const char *format, ...);
-int put_page(page *written);
-int put_page_into(const char *name, page *written);
+/* tolerance.c: writes a text to a file of that name, or to the output for NULL, and empties it. */
+int put_grown(const char *name, growing *written);
 
 /* prepare.c: makes the job that is played and its miss without noise; whatever is refused is refused here, too large a number of a run by the name of
  * the option that gave it. Prints the job of one run. */
@@ -63,7 +60,8 @@ int put_run(const task *t);
 /* plays.c: plays all runs, by as many threads as are asked for. */
 int play_all(task *t);
 
-/* statistics.c */
+/* statistics.c: the noise of a run, its miss less the miss without noise; what is kept of all runs, and figures of it. */
+vector noise_of(const task *t, uint64_t run);
 int tally_of(const task *t, uint64_t width, tally *kept);
 vector mean_of(const tally *kept);
 covariance covariance_of(const tally *kept);
@@ -84,14 +82,17 @@ uint64_t width_for(const closed_form *closed);
 /* candidates.c: the best first; the count of them. */
 size_t candidates_of(const task *t, const ellipse *e, candidate found[2 * MOST_SHOTS]);
 
+/* Below 5 % of sound surveys a miss is worth a look, below 0.1 % it is likely a blunder. */
+enum { DOUBTFUL = 50, UNLIKELY = 1 };
+
 /* report.c: for a person; and whether a share of the runs is below a limit in thousandths, the judged miss being counted as one run more. */
-void report(const task *t, const tally *kept, page *to);
+void report(const task *t, const tally *kept, growing *to);
 bool is_below(const tally *kept, unsigned thousandths);
 
 /* json.c: the figures, and what merge.c reads again; csv.c: each run's miss; svg.c: a picture. */
-void report_json(const task *t, const tally *kept, page *to);
+void report_json(const task *t, const tally *kept, growing *to);
 int put_csv(const task *t);
-void draw(const task *t, const tally *kept, page *to);
+void draw(const task *t, const tally *kept, growing *to);
 
 /* parts.c: reads a part that report_json wrote, which a NUL ends. merge.c: adds parts up; the loop that they play. */
 typedef struct { text job; vector miss; tally runs; } part;

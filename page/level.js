@@ -1,4 +1,5 @@
 // Ordinary Survex made the strict text, by the command's own sources in level.wasm (page/level.c).
+import { stringAt } from './jabulghi.js';
 
 export async function loadLevel(bytes) {
   const { exports } = (await WebAssembly.instantiate(bytes)).instance;
@@ -9,10 +10,7 @@ export async function loadLevel(bytes) {
     new Uint8Array(exports.memory.buffer)[at + given.length] = 0;
     return at;
   }
-  function read(at) {
-    const all = new Uint8Array(exports.memory.buffer);
-    return new TextDecoder().decode(all.slice(at, all.indexOf(0, at)));
-  }
+  const read = at => stringAt(exports.memory, at);
 
   // One loop of a text, by its number, or its only one for 0: whether it is taken, the strict text, and what the command says of it.
   return (text, name, loop = 0) => {

@@ -1,5 +1,5 @@
 // Takes a text for what it is, a job, a listing or a Survex survey, and makes a job's shot lines of it, as command/survey.c does.
-import { SUBJECTS } from './constants.js';
+import { sentenceOf } from './jabulghi.js';
 import { say } from './sayings.js';
 import { THE_SURVEY } from './sentences.js';
 
@@ -11,15 +11,6 @@ export class Wrong extends Error {
     super(sentence);
     Object.assign(this, { name: 'Wrong', line, sentence, code });
   }
-}
-
-// The command's sentence for a refusal of a text; what lies from jabulghi.start on is free between two calls.
-function sentenceOf({ exports, start }, about, code, line, text) {
-  const bytes = new TextEncoder().encode(text), memory = exports.memory, lacks = start + bytes.length - memory.buffer.byteLength;
-  if (lacks > 0) memory.grow(Math.ceil(lacks / 65536));
-  new Uint8Array(memory.buffer).set(bytes, start);
-  const at = exports.jabulghi_sentence(SUBJECTS.indexOf(about), code, line, start, bytes.length), said = new Uint8Array(memory.buffer, at);
-  return new TextDecoder().decode(said.slice(0, said.indexOf(0)));
 }
 
 // A call of the library; of a refusal, what is wrong with the source.

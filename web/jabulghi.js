@@ -52,14 +52,25 @@ function call({ exports, start }, name, ...values) {
   return code;
 }
 
+// A string of C in a memory.
+export function stringAt(memory, at) {
+  const bytes = new Uint8Array(memory.buffer, at);
+  return decode(bytes.slice(0, bytes.indexOf(0)));
+}
+
+// The command's sentence for a refusal of a text, "refused" where it has none.
+export function sentenceOf(library, subject, code, line, text) {
+  const bytes = encode(text);
+  return stringAt(library.exports.memory, call(library, 'sentence', SUBJECTS.indexOf(subject), code, line, [bytes], bytes.length));
+}
+
 // Throws a Refusal where a call returned another number than 0, with the header's words.
 function check(code) { if (code !== CODES.OK) throw new Refusal(code, 0, WORDS[code]); }
 
 // The same for a text: with the command's sentence, or the header's words where it has none.
 function checkText(library, code, subject, line, text) {
   if (code === CODES.OK) return;
-  const at = call(library, 'sentence', SUBJECTS.indexOf(subject), code, line, [text], text.length), bytes = new Uint8Array(library.exports.memory.buffer, at);
-  const sentence = decode(bytes.slice(0, bytes.indexOf(0)));
+  const sentence = sentenceOf(library, subject, code, line, text);
   throw new Refusal(code, line, sentence === 'refused' ? WORDS[code] : sentence);
 }
 

@@ -37,7 +37,7 @@ static void as_word(const uint8_t *bytes, size_t length) {
 static void as_loop(const uint8_t *bytes, size_t length, const char *name) {
     static task t;
     tally kept;
-    page written = {NULL, 0, 0, false};
+    growing written = {NULL, 0, 0, false};
     uint8_t *copy = malloc(length + 1);
     memcpy(copy, bytes, length);
     memset(&t, 0, sizeof t);

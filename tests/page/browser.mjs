@@ -4,7 +4,7 @@ import assert from 'node:assert/strict';
 import { spawnSync } from 'node:child_process';
 import { existsSync, mkdirSync, readFileSync, writeFileSync } from 'node:fs';
 import { join, resolve } from 'node:path';
-import { Chromium } from './chromium.mjs';
+import { Chromium, wait } from './chromium.mjs';
 
 const [page, command, pictures] = process.argv.slice(2).map(word => resolve(word)), SEEDS = '3770694558,3532774216,2901327257,4093209576,2137023497,2889436789';
 const root = new URL('../../', import.meta.url), example = name => readFileSync(new URL(`examples/${name}`, root), 'utf8');
@@ -54,8 +54,8 @@ async function comesIn() {
 async function saved(id, name) {
   const file = join(browser.folder, name);
   await click(id);
-  for (let left = 200; !existsSync(file) && left > 0; left--) await new Promise(done => { setTimeout(done, 25); });
-  await new Promise(done => { setTimeout(done, 200); });
+  for (let left = 200; !existsSync(file) && left > 0; left--) await wait(25);
+  await wait(200);
   return readFileSync(file, 'utf8');
 }
 

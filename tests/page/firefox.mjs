@@ -4,6 +4,7 @@ import { spawn } from 'node:child_process';
 import { mkdtempSync, rmSync } from 'node:fs';
 import { tmpdir } from 'node:os';
 import { join, resolve } from 'node:path';
+import { wait } from './chromium.mjs';
 
 const page = resolve(process.argv[2]), folder = mkdtempSync(join(tmpdir(), 'jabulghi-firefox-')), waiting = new Map(), errors = [];
 const firefox = spawn('firefox-esr', ['--headless', '--no-remote', '--profile', folder, '--remote-debugging-port', '0', 'about:blank'], { stdio: ['ignore', 'ignore', 'pipe'] });
@@ -33,7 +34,7 @@ try {
   const { contexts: [{ context }] } = await call('browsingContext.getTree', {});
   const value = async expression => (await call('script.evaluate', { expression, target: { context }, awaitPromise: true })).result?.value;
   const until = async (expression, wanted) => {
-    for (const end = Date.now() + 60000; Date.now() < end; await new Promise(done => { setTimeout(done, 50); })) if (wanted.test(await value(expression) ?? '')) return;
+    for (const end = Date.now() + 60000; Date.now() < end; await wait(50)) if (wanted.test(await value(expression) ?? '')) return;
     assert.match(await value(expression), wanted);
   };
   const choose = which => value(`(() => { const it = document.getElementById('example'); it.value = '${which}'; it.dispatchEvent(new Event('change')); })()`);
@@ -54,7 +55,7 @@ try {
   await until("document.getElementById('said').textContent", /^Line 2: tape above 1000\.$/);
   assert.deepEqual(errors, []);
 } finally {
-  await Promise.race([call('browser.close', {}).catch(() => {}), new Promise(done => { setTimeout(done, 3000); })]);
+  await Promise.race([call('browser.close', {}).catch(() => {}), wait(3000)]);
   firefox.removeAllListeners('exit');
   firefox.kill('SIGKILL');
   rmSync(folder, { recursive: true, force: true, maxRetries: 5, retryDelay: 200 });

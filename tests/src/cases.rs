@@ -1,6 +1,8 @@
 //! What is compared: a case, both sides' answers to it, and the cases that are smaller.
+use crate::inputs;
 use crate::jump;
 use crate::library::{self, lent, Answer, Lent, Sampled, Seeded};
+use crate::random::Random;
 use crate::sample::Tables;
 use crate::stream::{self, draw_of, fresh, Record, Registers};
 use std::fmt;
@@ -28,6 +30,20 @@ pub fn same<C: Case>(tables: &Tables, case: &C) -> C::Answer {
     println!("  library:              {:?}", least.library());
     println!("  other implementation: {:?}", least.other(tables));
     std::process::exit(1);
+}
+
+/// The same for calls from k and v: each v with the least k and with one of the last, and so many others. Gives how many calls, and how many were refused.
+pub fn same_samples<T, C: Case<Answer = (u32, T)>>(tables: &Tables, random: &mut Random, count: u32, call: fn(u64, u32) -> C) -> (u32, u32) {
+    let mut refused = 0;
+    for v in 0..65536 {
+        same(tables, &call(0, v));
+        same(tables, &call((1 << 48) - 1 - u64::from(v), v));
+    }
+    for _ in 0..count {
+        let (k, v) = (inputs::k(random), inputs::v(random));
+        refused += u32::from(same(tables, &call(k, v)).0 != 0);
+    }
+    (count + 2 * 65536, refused)
 }
 
 #[derive(Clone, Debug)]
@@ -125,6 +141,21 @@ pub fn below(n: u64) -> Vec<u64> {
     out
 }
 
+/// k and v with one of them smaller.
+pub fn below_both(k: u64, v: u32) -> impl Iterator<Item = (u64, u32)> {
+    below(k).into_iter().map(move |k| (k, v)).chain(below(v.into()).into_iter().map(move |v| (k, v as u32)))
+}
+
+/// All but one, the first left out first.
+pub fn without_one<T: Clone>(all: &[T]) -> impl DoubleEndedIterator<Item = Vec<T>> + '_ {
+    (0..all.len()).map(|at| [&all[..at], &all[at + 1..]].concat())
+}
+
+/// The lines of a text, each with its line feed.
+pub fn lines(text: &[u8]) -> Vec<&[u8]> {
+    text.split_inclusive(|&b| b == b'\n').collect()
+}
+
 /// Registers with one smaller, an accepted one's own minimum first.
 pub fn lower(registers: &Registers) -> Vec<Registers> {
     let mut out = Vec::new();
@@ -199,8 +230,7 @@ impl Case for Sample {
         (number, Lent::holding(&[first, second]))
     }
     fn smaller(&self) -> Vec<Sample> {
-        let lower_k = below(self.0).into_iter().map(|k| Sample(k, self.1));
-        lower_k.chain(below(self.1.into()).into_iter().map(|v| Sample(self.0, v as u32))).collect()
+        below_both(self.0, self.1).map(|(k, v)| Sample(k, v)).collect()
     }
 }
 

@@ -74,6 +74,11 @@ fn sample(tables: &Tables, random: &mut Random) -> Written {
     Written::new("sample", number, &[k, v.into()]).lent(&Lent::marked(2), &samples)
 }
 
+/// One of less than 4000 bytes.
+pub fn short<T>(make: impl FnMut() -> T, length: impl Fn(&T) -> usize) -> T {
+    std::iter::repeat_with(make).find(|made| length(made) < 4000).unwrap()
+}
+
 /// A record for a call that takes a request, or for one that waits until none is open; one in three is of any kind.
 pub fn record(random: &mut Random, takes: bool) -> Record {
     let any = inputs::noted(random, 20);

@@ -1,75 +1,48 @@
 //! Listings of distances between two readings, whole and damaged, through the call and the program that tell how far their loop misses at least and at most.
 use crate::cases::{same, Case};
-use crate::elsewhere::Written;
-use crate::library::Lent;
-use crate::misclosure::{interval, Interval, BETWEEN, FARTHEST, HEADER, SHOTS};
+use crate::elsewhere::{self, Written};
+use crate::misclosure::{interval, Interval, Miss, BETWEEN, FARTHEST, HEADER, SHOTS};
 use crate::misses;
 use crate::program::{run, writes};
 use crate::random::Random;
 use crate::sample::Tables;
-use crate::texts;
-use std::fmt;
+use crate::sums::{self, headed};
 use std::time::Duration;
 
 extern "C" {
     fn jabulghi_intervals(text: *const u8, length: usize, sums: *mut i64, millimetres: *mut i64, line: *mut u32) -> u32;
 }
 
-/// Elements on either side of what is lent, and what it holds before the call.
-const MARK: i64 = 0x5AA5_5AA5_5AA5_5AA5;
-
-#[derive(Clone)]
-struct Listing(Vec<u8>);
-
-impl fmt::Debug for Listing {
-    fn fmt(&self, f: &mut fmt::Formatter) -> fmt::Result {
-        write!(f, "\"{}\"", self.0.escape_ascii())
-    }
-}
+type Listing = sums::Listing<4>;
 
 impl Case for Listing {
     type Answer = Interval;
-
     fn library(&self) -> Interval {
-        let (mut sums, mut rounded, mut line) = ([MARK; 6], [MARK; 6], [7u32; 3]);
-        let number = unsafe {
-            jabulghi_intervals(self.0.as_ptr(), self.0.len(), sums[..].as_mut_ptr().add(1), rounded[..].as_mut_ptr().add(1), line[..].as_mut_ptr().add(1))
-        };
-        let kept = [sums[0], sums[5], rounded[0], rounded[5]] == [MARK; 4] && [line[0], line[2]] == [7; 2];
-        assert!(kept, "memory beside what is lent was written for {self:?}");
-        let four = |lent: [i64; 6]| [lent[1], lent[2], lent[3], lent[4]];
-        (number, line[1], four(sums), four(rounded))
+        self.through(jabulghi_intervals)
     }
-
     fn other(&self, tables: &Tables) -> Interval {
-        interval(tables, &self.0)
+        interval(tables, &self.text)
     }
-
     fn smaller(&self) -> Vec<Listing> {
-        misses::smaller(&self.0).into_iter().map(Listing).collect()
+        self.shorter()
     }
 }
 
 type Row = (u64, u64, u64);
 
-/// A listing of rows with the count at the end.
-fn headed(header: &str, rows: &[String]) -> String {
-    format!("{header}{}END {}\n", rows.concat(), rows.len())
-}
-
 /// Shots that follow each other: low, high and step.
 fn chain(rows: &[Row]) -> Vec<String> {
-    rows.iter().enumerate().map(|(j, (low, high, step))| format!("S{j} S{} {low} {high} {step}\n", j + 1)).collect()
+    sums::chain(rows.iter().map(|(low, high, step)| format!("{low} {high} {step}")))
 }
 
-fn between(rows: &[Row]) -> Vec<u8> {
-    headed(BETWEEN, &chain(rows)).into_bytes()
+fn between(rows: &[Row]) -> Listing {
+    Listing { text: headed(BETWEEN, &chain(rows)).into_bytes() }
 }
 
-/// Job 13's listing of the same shots with one distance each.
-fn chosen(rows: &[Row], distances: &[u64]) -> Vec<u8> {
-    let rows: Vec<_> = rows.iter().zip(distances).enumerate().map(|(j, (row, mm))| format!("S{j} S{} {mm} {}\n", j + 1, row.2)).collect();
-    headed(HEADER, &rows).into_bytes()
+/// The miss of Job 13's listing of the same shots with one distance each.
+fn chosen(rows: &[Row], distances: &[u64]) -> Miss {
+    let numbers: Vec<_> = rows.iter().zip(distances).map(|(row, &mm)| (mm, row.2)).collect();
+    misses::of(&numbers).library()
 }
 
 /// Every cause with its line, two causes on one line, the other kind's header and rows in each place, and ends.
@@ -140,31 +113,13 @@ fn row(random: &mut Random, loose: bool) -> Row {
     (low, high, step)
 }
 
-/// A listing as it should be, from another station here and there, with a false count, with a header of the other kind, or with some bytes changed.
+/// Some have a header of the other kind.
 fn text(random: &mut Random) -> Vec<u8> {
-    let count = match random.below(40) {
-        0 => *random.of(&[SHOTS - 1, SHOTS, SHOTS + 1]),
-        1 | 2 => random.below(SHOTS + 1),
-        _ => random.below(12),
+    let shown = |random: &mut Random, loose| {
+        let (low, high, step) = row(random, loose);
+        format!("{low} {high} {step}")
     };
-    let (loose, astray) = (random.one_in(6), random.one_in(6));
-    let mut station = texts::name(random);
-    let mut out = if random.one_in(20) { HEADER } else { BETWEEN }.to_string();
-    for _ in 0..count {
-        let (next, (low, high, step)) = (texts::name(random), row(random, loose));
-        if astray && random.one_in(4) {
-            station = if random.one_in(2) { station.to_lowercase() } else { texts::name(random) };
-        }
-        out += &format!("{station} {next} {low} {high} {step}\n");
-        station = next;
-    }
-    let told = if random.one_in(10) { random.below(SHOTS + 2) } else { count };
-    out += &format!("END {told}\n");
-    let mut out = out.into_bytes();
-    if random.one_in(3) {
-        texts::damage(random, &mut out);
-    }
-    out
+    sums::text(random, (6, 3), |random| if random.one_in(20) { HEADER } else { BETWEEN }, shown)
 }
 
 /// A distance between the readings of each shot, the ends among them.
@@ -180,10 +135,10 @@ fn choice(random: &mut Random, rows: &[Row]) -> Vec<u64> {
 fn choices(tables: &Tables, random: &mut Random, runs: usize) {
     for _ in 0..runs {
         let rows: Vec<Row> = (0..random.below(30)).map(|_| row(random, false)).collect();
-        let (number, _, ends, whole) = Listing(between(&rows)).library();
+        let (number, _, ends, whole) = between(&rows).library();
         assert_eq!(number, 0, "{rows:?}");
         for _ in 0..6 {
-            let (number, _, sums, mm) = misses::library(&chosen(&rows, &choice(random, &rows)));
+            let (number, _, sums, mm) = chosen(&rows, &choice(random, &rows));
             assert_eq!(number, 0, "{rows:?}");
             for j in 0..2 {
                 let within = ends[2 * j] <= sums[j] && sums[j] <= ends[2 * j + 1] && whole[2 * j] <= mm[j] && mm[j] <= whole[2 * j + 1];
@@ -195,38 +150,35 @@ fn choices(tables: &Tables, random: &mut Random, runs: usize) {
                 let (sine, cosine) = tables.rotation(step as u32);
                 if ([sine, cosine][end / 2] < 0) == (end % 2 == 0) { high } else { low }
             };
-            let (_, _, sums, mm) = misses::library(&chosen(&rows, &rows.iter().map(least).collect::<Vec<_>>()));
+            let (_, _, sums, mm) = chosen(&rows, &rows.iter().map(least).collect::<Vec<_>>());
             assert_eq!((sums[end / 2], mm[end / 2]), (ends[end], whole[end]), "{rows:?}: end {end} is met");
         }
         let level: Vec<Row> = rows.iter().map(|&(low, _, step)| (low, low, step)).collect();
         let lows: Vec<u64> = rows.iter().map(|row| row.0).collect();
-        let (_, _, [e, n], [x, y]) = misses::library(&chosen(&rows, &lows));
-        assert_eq!(Listing(between(&level)).library(), (0, 0, [e, e, n, n], [x, x, y, y]), "{rows:?}: level");
+        let (_, _, [e, n], [x, y]) = chosen(&rows, &lows);
+        assert_eq!(between(&level).library(), (0, 0, [e, e, n, n], [x, x, y, y]), "{rows:?}: level");
     }
 }
 
 pub fn given(tables: &Tables) -> String {
     let texts = written();
     for text in &texts {
-        same(tables, &Listing(text.clone()));
-        misses::both(tables, text);
+        same(tables, &Listing { text: text.clone() });
+        same(tables, &misses::Listing { text: text.clone() });
     }
     format!("{} listings of two readings written out, through both calls", texts.len())
 }
 
 /// One call, for other processors.
 pub fn elsewhere(tables: &Tables, random: &mut Random) -> Written {
-    let text = std::iter::repeat_with(|| text(random)).find(|text| text.len() < 4000).unwrap();
-    let (number, line, sums, millimetres) = interval(tables, &text);
-    let written = Written::new("intervals", number, &[text.len() as u64]).lent(&Lent::holding(&text), &Lent::holding(&text));
-    let written = written.lent(&Lent::marked(4), &Lent::holding(&sums)).lent(&Lent::marked(4), &Lent::holding(&millimetres));
-    written.lent(&Lent::marked(1), &Lent::holding(&[line]))
+    let text = elsewhere::short(|| text(random), Vec::len);
+    sums::elsewhere("intervals", &text, interval(tables, &text))
 }
 
 pub fn listings(tables: &Tables, random: &mut Random) -> String {
     let (count, mut accepted) = (40_000, 0);
     for _ in 0..count {
-        accepted += u32::from(same(tables, &Listing(text(random))).0 == 0);
+        accepted += u32::from(same(tables, &Listing { text: text(random) }).0 == 0);
     }
     assert!(accepted > 8_000 && accepted < 35_000, "{accepted} of {count} accepted");
     let runs = 2000;

@@ -1,5 +1,5 @@
 //! Level legs from Survex: the library's call and the built program beside the other implementation, and the real peer, Survex's `cavern`.
-use crate::cases::{same, Case};
+use crate::cases::{lines, same, without_one, Case};
 use crate::elsewhere::Written;
 use crate::job::{self, ROOM, SHOTS};
 use crate::library::Lent;
@@ -52,16 +52,13 @@ impl Case for Legs {
     }
     fn other(&self, _: &Tables) -> Answer {
         let (number, line, bytes) = survex::legs(&self.0, self.1);
-        let mut shots = Lent::marked(self.1);
-        shots.elements_mut()[..bytes.len()].copy_from_slice(&bytes);
-        (number, Lent::holding(&self.0), shots, Lent::holding(&[line]), Lent::holding(&[bytes.len()]))
+        (number, Lent::holding(&self.0), Lent::starting(&bytes, self.1), Lent::holding(&[line]), Lent::holding(&[bytes.len()]))
     }
     fn smaller(&self) -> Vec<Legs> {
         let Legs(text, room) = self;
-        let lines: Vec<&[u8]> = text.split_inclusive(|&b| b == b'\n').collect();
-        let mut texts: Vec<Vec<u8>> = (0..lines.len()).map(|at| [&lines[..at], &lines[at + 1..]].concat().concat()).collect();
+        let mut texts: Vec<Vec<u8>> = without_one(&lines(text)).map(|lines| lines.concat()).collect();
         if text.len() < 400 {
-            texts.extend((0..text.len()).map(|at| [&text[..at], &text[at + 1..]].concat()));
+            texts.extend(without_one(text));
         }
         texts.into_iter().map(|text| Legs(text, *room)).collect()
     }

@@ -65,6 +65,18 @@ impl<T: Mark> Lent<T> {
         &self.0[MARGIN..self.0.len() - MARGIN]
     }
 
+    /// So much memory that starts with these elements, and else is as a call finds it.
+    pub fn starting(elements: &[T], length: usize) -> Lent<T> {
+        let mut out = Lent::marked(length);
+        out.elements_mut()[..elements.len()].copy_from_slice(elements);
+        out
+    }
+
+    /// Whether the margins are as they were.
+    pub fn is_kept(&self) -> bool {
+        *self == Lent::holding(self.elements())
+    }
+
     pub fn bytes(&self) -> Vec<u8> {
         self.elements().iter().flat_map(|element| element.bytes()).collect()
     }
@@ -82,7 +94,7 @@ impl<T: Mark> Lent<T> {
 
 impl<T: Mark> fmt::Debug for Lent<T> {
     fn fmt(&self, f: &mut fmt::Formatter) -> fmt::Result {
-        if *self != Lent::holding(self.elements()) {
+        if !self.is_kept() {
             write!(f, "(MARGINS OVERWRITTEN) ")?;
         }
         write!(f, "{}", T::show(self.elements()))
@@ -124,45 +136,37 @@ pub fn sample(k: u64, v: u32) -> Sampled {
     (number, samples)
 }
 
-pub fn pair(record: &Record) -> Answer {
-    let (mut record, mut samples) = (lent(record), Lent::marked(2));
-    let number = unsafe { jabulghi_pair(record.pointer(), samples.pointer()) };
+/// A call on a record, with so many samples.
+fn called(record: &Record, length: usize, call: impl FnOnce(*mut u32, *mut i16) -> u32) -> Answer {
+    let (mut record, mut samples) = (lent(record), Lent::marked(length));
+    let number = call(record.pointer(), samples.pointer());
     (number, record, samples)
 }
 
+pub fn pair(record: &Record) -> Answer {
+    called(record, 2, |words, samples| unsafe { jabulghi_pair(words, samples) })
+}
+
 pub fn block(record: &Record, length: usize) -> Answer {
-    let (mut record, mut block) = (lent(record), Lent::marked(length));
-    let number = unsafe { jabulghi_block(record.pointer(), block.pointer(), length) };
-    (number, record, block)
+    called(record, length, |words, samples| unsafe { jabulghi_block(words, samples, length) })
 }
 
 pub fn look(record: &Record, length: usize) -> Answer {
-    let (mut record, mut block) = (lent(record), Lent::marked(length));
-    let number = unsafe { jabulghi_look(record.pointer(), block.pointer(), length) };
-    (number, record, block)
+    called(record, length, |words, samples| unsafe { jabulghi_look(words, samples, length) })
 }
 
 pub fn take(record: &Record, length: usize) -> Answer {
-    let (mut record, mut block) = (lent(record), Lent::marked(length));
-    let number = unsafe { jabulghi_take(record.pointer(), block.pointer(), length) };
-    (number, record, block)
-}
-
-/// A call that has no samples.
-fn without_samples(record: &Record, call: impl FnOnce(*mut u32) -> u32) -> Answer {
-    let mut record = lent(record);
-    let number = call(record.pointer());
-    (number, record, Lent::holding(&[]))
+    called(record, length, |words, samples| unsafe { jabulghi_take(words, samples, length) })
 }
 
 pub fn skip(record: &Record, n: u64) -> Answer {
-    without_samples(record, |words| unsafe { jabulghi_skip(words, n) })
+    called(record, 0, |words, _| unsafe { jabulghi_skip(words, n) })
 }
 
 pub fn ask(record: &Record, n: u32) -> Answer {
-    without_samples(record, |words| unsafe { jabulghi_ask(words, n) })
+    called(record, 0, |words, _| unsafe { jabulghi_ask(words, n) })
 }
 
 pub fn give_up(record: &Record) -> Answer {
-    without_samples(record, |words| unsafe { jabulghi_give_up(words) })
+    called(record, 0, |words, _| unsafe { jabulghi_give_up(words) })
 }

@@ -1,6 +1,6 @@
 //! Whole jobs: the library's listing beside the other implementation's.
-use crate::cases::{below, same, Case};
-use crate::elsewhere::Written;
+use crate::cases::{below, lines, same, without_one, Case};
+use crate::elsewhere::{self, Written};
 use crate::given;
 use crate::job;
 use crate::library::{Lent, Mark};
@@ -61,13 +61,11 @@ impl Case for Job {
     }
     fn other(&self, tables: &Tables) -> Listed {
         let (number, line, bytes) = job::list(tables, &self.0, self.1);
-        let mut listing = Lent::marked(self.1);
-        listing.elements_mut()[..bytes.len()].copy_from_slice(&bytes);
-        (number, Lent::holding(&self.0), listing, Lent::holding(&[line]), Lent::holding(&[bytes.len()]))
+        (number, Lent::holding(&self.0), Lent::starting(&bytes, self.1), Lent::holding(&[line]), Lent::holding(&[bytes.len()]))
     }
     fn smaller(&self) -> Vec<Job> {
         let Job(text, room) = self;
-        let lines: Vec<&[u8]> = text.split_inclusive(|&b| b == b'\n').collect();
+        let lines = lines(text);
         let mut texts = Vec::new();
         // without runs of lines, long ones first; with plain shots; without single bytes
         let mut run = lines.len();
@@ -79,7 +77,7 @@ impl Case for Job {
         let plain = |line: &&[u8]| if line.starts_with(b"(shot ") { b"(shot A B 0 0)\n".to_vec() } else { line.to_vec() };
         texts.push(lines.iter().map(plain).collect::<Vec<_>>().concat());
         if text.len() < 2000 {
-            texts.extend((0..text.len()).map(|at| [&text[..at], &text[at + 1..]].concat()));
+            texts.extend(without_one(text));
         }
         texts.retain(|shorter| shorter.len() < text.len());
         // each with the room there is, and with just the room that its listing takes
@@ -105,7 +103,7 @@ pub fn given(tables: &Tables) -> String {
 
 /// One call, for other processors: a job of few lines, with room for its listing or not quite.
 pub fn elsewhere(tables: &Tables, random: &mut Random) -> Written {
-    let text = std::iter::repeat_with(|| texts::text(random)).find(|text| text.len() < 4000).unwrap();
+    let text = elsewhere::short(|| texts::text(random), Vec::len);
     let length = job::list(tables, &text, usize::MAX).2.len();
     let room = [length, length.saturating_sub(1), length + 40, length + 40][random.below(4)];
     let (number, same_text, listing, line, length) = Job(text.clone(), room).other(tables);

@@ -26,12 +26,13 @@ mod roots;
 mod sample;
 mod skips;
 mod stream;
+mod sums;
 mod survex;
 mod texts;
 mod wide;
 mod windows;
 
-use cases::{same, Call, Called, History, Sample, Seed};
+use cases::{same, same_samples, Call, Called, History, Sample, Seed};
 use library::record_of;
 use random::Random;
 use sample::Tables;
@@ -94,16 +95,7 @@ fn histories(tables: &Tables, random: &mut Random) -> String {
 }
 
 fn samples(tables: &Tables, random: &mut Random) -> String {
-    let (count, mut refused) = (6_000_000, 0);
-    for v in 0..65536 {
-        same(tables, &Sample(0, v));
-        same(tables, &Sample((1 << 48) - 1 - u64::from(v), v));
-    }
-    for _ in 0..count {
-        let (k, v) = (inputs::k(random), inputs::v(random));
-        refused += u32::from(same(tables, &Sample(k, v)).0 != 0);
-    }
-    let calls = count + 2 * 65536;
+    let (calls, refused) = same_samples(tables, random, 6_000_000, Sample);
     format!("{calls} calls from k and v, {refused} refused, {} samples", 2 * (calls - refused))
 }
 

@@ -1,6 +1,6 @@
 //! Document 02, "marks to come back to". Sets from anywhere are compared call by call, as they stand in memory. Of a set that grew from the empty one
 //! the other side keeps no memory: it has the names and records of 16 places, and says at the end what the set's members have to be.
-use crate::cases::{below, same, Call, Case};
+use crate::cases::{below, same, without_one, Call, Case};
 use crate::elsewhere::Written;
 use crate::inputs;
 use crate::library::{self, lent, record_of, Lent};
@@ -242,7 +242,7 @@ impl Case for Run {
     fn smaller(&self) -> Vec<Run> {
         let Run(seeds, steps) = self;
         let shorter = below(steps.len() as u64).into_iter().map(|n| Run(*seeds, steps[..n as usize].to_vec()));
-        let without = (0..steps.len()).map(|j| Run(*seeds, [&steps[..j], &steps[j + 1..]].concat()));
+        let without = without_one(steps).map(|steps| Run(*seeds, steps));
         shorter.chain(without).collect()
     }
 }

@@ -9,11 +9,14 @@ pub const FARTHEST: u64 = 1_008_242;
 pub const HEADER: &str = "FROM TO MM STEP\n";
 pub const BETWEEN: &str = "FROM TO LOW HIGH STEP\n";
 
-/// Number, line, east and north at 2^30, and both in whole millimetres.
-pub type Miss = (u32, u32, [i64; 2], [i64; 2]);
+/// Number, line, sums at 2^30, and each in whole millimetres.
+pub type Sums<const N: usize> = (u32, u32, [i64; N], [i64; N]);
 
-/// The same with east low, east high, north low and north high.
-pub type Interval = (u32, u32, [i64; 4], [i64; 4]);
+/// East and north.
+pub type Miss = Sums<2>;
+
+/// East low, east high, north low and north high.
+pub type Interval = Sums<4>;
 
 /// A job's name.
 fn name(field: &[u8]) -> bool {

@@ -1,14 +1,12 @@
 //! Listings, whole and damaged, through the call and the program that tell how far their loop misses.
 use crate::cases::{same, Case};
-use crate::elsewhere::Written;
+use crate::elsewhere::{self, Written};
 use crate::job;
-use crate::library::Lent;
 use crate::misclosure::{miss, Miss, FARTHEST, HEADER, SHOTS};
 use crate::program::{failures, run, writes};
 use crate::random::Random;
 use crate::sample::Tables;
-use crate::texts;
-use std::fmt;
+use crate::sums::{self, headed};
 use std::time::Duration;
 
 pub const PROGRAM: &str = concat!(env!("CARGO_MANIFEST_DIR"), "/../target/bin/misses");
@@ -17,66 +15,32 @@ extern "C" {
     fn jabulghi_misclosure(text: *const u8, length: usize, sums: *mut i64, millimetres: *mut i64, line: *mut u32) -> u32;
 }
 
-/// Elements on either side of what is lent, and what it holds before the call.
-const MARK: i64 = 0x5AA5_5AA5_5AA5_5AA5;
-
-#[derive(Clone)]
-struct Listing(Vec<u8>);
-
-impl fmt::Debug for Listing {
-    fn fmt(&self, f: &mut fmt::Formatter) -> fmt::Result {
-        write!(f, "\"{}\"", self.0.escape_ascii())
-    }
-}
+pub type Listing = sums::Listing<2>;
 
 impl Case for Listing {
     type Answer = Miss;
-
     fn library(&self) -> Miss {
-        let (mut sums, mut rounded, mut line) = ([MARK; 4], [MARK; 4], [7u32; 3]);
-        let number = unsafe {
-            jabulghi_misclosure(self.0.as_ptr(), self.0.len(), sums[..].as_mut_ptr().add(1), rounded[..].as_mut_ptr().add(1), line[..].as_mut_ptr().add(1))
-        };
-        let kept = [sums[0], sums[3], rounded[0], rounded[3]] == [MARK; 4] && [line[0], line[2]] == [7; 2];
-        assert!(kept, "memory beside what is lent was written for {self:?}");
-        (number, line[1], [sums[1], sums[2]], [rounded[1], rounded[2]])
+        self.through(jabulghi_misclosure)
     }
-
     fn other(&self, tables: &Tables) -> Miss {
-        miss(tables, &self.0)
+        miss(tables, &self.text)
     }
-
     fn smaller(&self) -> Vec<Listing> {
-        smaller(&self.0).into_iter().map(Listing).collect()
+        self.shorter()
     }
 }
 
-/// The text without one of its lines, or one of its first bytes.
-pub fn smaller(text: &[u8]) -> Vec<Vec<u8>> {
-    let lines: Vec<&[u8]> = text.split_inclusive(|&b| b == b'\n').collect();
-    let less = (0..lines.len()).map(|j| [&lines[..j], &lines[j + 1..]].concat().concat());
-    let shorter = (0..text.len().min(60)).map(|j| [&text[..j], &text[j + 1..]].concat());
-    less.chain(shorter).collect()
-}
-
-/// The answer of the library.
-pub fn library(text: &[u8]) -> Miss {
-    Listing(text.to_vec()).library()
-}
-
-/// The same answer from both sides.
-pub fn both(tables: &Tables, text: &[u8]) {
-    same(tables, &Listing(text.to_vec()));
-}
-
-/// Lines in order with the count at the end.
 fn listing(rows: &[String]) -> String {
-    format!("{HEADER}{}END {}\n", rows.concat(), rows.len())
+    headed(HEADER, rows)
 }
 
 /// Shots that follow each other, with their distances and steps.
 fn chain(numbers: &[(u64, u64)]) -> Vec<String> {
-    numbers.iter().enumerate().map(|(j, (mm, step))| format!("S{j} S{} {mm} {step}\n", j + 1)).collect()
+    sums::chain(numbers.iter().map(|(mm, step)| format!("{mm} {step}")))
+}
+
+pub fn of(numbers: &[(u64, u64)]) -> Listing {
+    Listing { text: listing(&chain(numbers)).into_bytes() }
 }
 
 /// Every cause with its line, two causes on one line, ends, and sums at the edges of rounding.
@@ -157,31 +121,12 @@ fn numbers(random: &mut Random, loose: bool) -> (u64, u64) {
     (up_to(random, FARTHEST, loose), up_to(random, 65535, loose))
 }
 
-/// A listing as it should be, from another station here and there, with a false count, or with some bytes changed.
 fn text(random: &mut Random) -> Vec<u8> {
-    let count = match random.below(40) {
-        0 => *random.of(&[SHOTS - 1, SHOTS, SHOTS + 1]),
-        1 | 2 => random.below(SHOTS + 1),
-        _ => random.below(12),
+    let shown = |random: &mut Random, loose| {
+        let (mm, step) = numbers(random, loose);
+        format!("{mm} {step}")
     };
-    let (loose, astray) = (random.one_in(8), random.one_in(6));
-    let mut station = texts::name(random);
-    let mut out = HEADER.to_string();
-    for _ in 0..count {
-        let (next, (mm, step)) = (texts::name(random), numbers(random, loose));
-        if astray && random.one_in(4) {
-            station = if random.one_in(2) { station.to_lowercase() } else { texts::name(random) };
-        }
-        out += &format!("{station} {next} {mm} {step}\n");
-        station = next;
-    }
-    let told = if random.one_in(10) { random.below(SHOTS + 2) } else { count };
-    out += &format!("END {told}\n");
-    let mut out = out.into_bytes();
-    if random.one_in(2) {
-        texts::damage(random, &mut out);
-    }
-    out
+    sums::text(random, (8, 2), |_| HEADER, shown)
 }
 
 /// A listing of the listing call whose shots follow each other.
@@ -197,39 +142,36 @@ pub fn given(tables: &Tables) -> String {
     let (texts, halves) = (written(), halves(tables));
     assert!(halves.len() > 500, "{} halves", halves.len());
     for text in texts.iter().chain(&halves) {
-        same(tables, &Listing(text.clone()));
+        same(tables, &Listing { text: text.clone() });
     }
     format!("{} listings written out, {} of them with a sum at half a millimetre", texts.len() + halves.len(), halves.len())
 }
 
 /// One call, for other processors.
 pub fn elsewhere(tables: &Tables, random: &mut Random) -> Written {
-    let text = std::iter::repeat_with(|| text(random)).find(|text| text.len() < 4000).unwrap();
-    let (number, line, sums, millimetres) = miss(tables, &text);
-    let written = Written::new("misclosure", number, &[text.len() as u64]).lent(&Lent::holding(&text), &Lent::holding(&text));
-    let written = written.lent(&Lent::marked(2), &Lent::holding(&sums)).lent(&Lent::marked(2), &Lent::holding(&millimetres));
-    written.lent(&Lent::marked(1), &Lent::holding(&[line]))
+    let text = elsewhere::short(|| text(random), Vec::len);
+    sums::elsewhere("misclosure", &text, miss(tables, &text))
 }
 
 pub fn listings(tables: &Tables, random: &mut Random) -> String {
     let (count, mut accepted) = (60_000, 0);
     for _ in 0..count {
-        accepted += u32::from(same(tables, &Listing(text(random))).0 == 0);
+        accepted += u32::from(same(tables, &Listing { text: text(random) }).0 == 0);
     }
     assert!(accepted > 10_000 && accepted < 50_000, "{accepted} of {count} accepted");
     let back = 300;
     for _ in 0..back {
         let listing = heard(tables, random);
-        assert_eq!(same(tables, &Listing(listing)).0, 0, "a listing of the listing call is read back");
+        assert_eq!(same(tables, &Listing { text: listing }).0, 0, "a listing of the listing call is read back");
     }
     // joined runs add up before rounding, and a shot and the same half a turn on cancel
     for _ in 0..2000 {
         let rows: Vec<_> = (0..random.below(SHOTS + 1)).map(|_| numbers(random, false)).collect();
         let at = random.below(rows.len() + 1);
-        let [whole, first, second] = [&rows[..], &rows[..at], &rows[at..]].map(|rows| Listing(listing(&chain(rows)).into_bytes()).library());
+        let [whole, first, second] = [&rows[..], &rows[..at], &rows[at..]].map(|rows| of(rows).library());
         assert_eq!(whole.2, [first.2[0] + second.2[0], first.2[1] + second.2[1]], "{rows:?} at {at}");
         let (mm, step) = numbers(random, false);
-        let both = Listing(listing(&chain(&[(mm, step), (mm, (step + 32768) % 65536)])).into_bytes()).library();
+        let both = of(&[(mm, step), (mm, (step + 32768) % 65536)]).library();
         assert_eq!(both, (0, 0, [0; 2], [0; 2]), "{mm} {step}");
     }
     format!("{count} listings, {accepted} accepted, {back} of the listing call")

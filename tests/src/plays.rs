@@ -1,7 +1,7 @@
 //! Many plays of one loop: the library's misses beside the other implementation's, by the texts' way. Each play is a job of the same lines whose seeds are
 //! the registers that many pairs on, listed, and the listing summed.
-use crate::cases::{below, same, Case};
-use crate::elsewhere::Written;
+use crate::cases::{below, lines, same, without_one, Case};
+use crate::elsewhere::{self, Written};
 use crate::job;
 use crate::jump;
 use crate::library::{Lent, Mark};
@@ -51,7 +51,7 @@ fn stations(line: &[u8]) -> (&[u8], &[u8]) {
 
 /// The line of the first shot of a listed job that does not start where the last one ended.
 fn unlinked(text: &[u8]) -> Option<u32> {
-    let lines: Vec<&[u8]> = text.split_inclusive(|&b| b == b'\n').collect();
+    let lines = lines(text);
     (3..lines.len()).find(|&j| stations(lines[j]).0 != stations(lines[j - 1]).1).map(|j| j as u32 + 1)
 }
 
@@ -94,24 +94,21 @@ impl Case for Plays {
     }
     fn other(&self, tables: &Tables) -> Played {
         let (number, line, found) = plays(tables, &self.0, self.1, self.2);
-        let mut misses = Lent::marked(self.2);
-        misses.elements_mut()[..found.len()].copy_from_slice(&found);
-        (number, Lent::holding(&self.0), misses, Lent::holding(&[line]))
+        (number, Lent::holding(&self.0), Lent::starting(&found, self.2), Lent::holding(&[line]))
     }
     fn smaller(&self) -> Vec<Plays> {
         let Plays(text, first, runs) = self;
-        let lines: Vec<&[u8]> = text.split_inclusive(|&b| b == b'\n').collect();
+        let lines = lines(text);
         let mut out: Vec<Plays> = below(*runs as u64).into_iter().map(|r| Plays(text.clone(), *first, r as usize)).collect();
         out.extend(below(*first).into_iter().map(|f| Plays(text.clone(), f, *runs)));
-        let without = (0..lines.len()).rev().map(|at| [&lines[..at], &lines[at + 1..]].concat().concat());
-        out.extend(without.map(|shorter| Plays(shorter, *first, *runs)));
+        out.extend(without_one(&lines).rev().map(|lines| Plays(lines.concat(), *first, *runs)));
         out
     }
 }
 
 /// A job whose shots follow each other, but for one in some.
 fn chain(random: &mut Random) -> Vec<u8> {
-    let mut lines: Vec<Vec<u8>> = texts::text(random).split_inclusive(|&b| b == b'\n').map(<[u8]>::to_vec).collect();
+    let mut lines: Vec<Vec<u8>> = lines(&texts::text(random)).into_iter().map(<[u8]>::to_vec).collect();
     let broken = if random.one_in(6) && lines.len() > 3 { 3 + random.below(lines.len() - 3) } else { usize::MAX };
     let mut station = texts::name(random).into_bytes();
     for (at, line) in lines.iter_mut().enumerate().skip(2) {
@@ -177,7 +174,7 @@ fn of_job(random: &mut Random) -> Plays {
 
 /// One call, for other processors.
 pub fn elsewhere(tables: &Tables, random: &mut Random) -> Written {
-    let case = std::iter::repeat_with(|| of_job(random)).find(|case| case.0.len() < 4000).unwrap();
+    let case = elsewhere::short(|| of_job(random), |case| case.0.len());
     let Plays(text, first, runs) = &case;
     let (number, same_text, misses, line) = case.other(tables);
     let written = Written::new("play", number, &[text.len() as u64, *first, *runs as u64]).lent(&Lent::holding(text), &same_text);

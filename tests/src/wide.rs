@@ -1,6 +1,6 @@
 //! Document 02, Job 8: samples of 18 bits, in the calls whose names end so. Numbers and records are those of the same call in 16 bits; the samples are
 //! worked out afresh from the streams.
-use crate::cases::{below, records, same, Case};
+use crate::cases::{below, below_both, records, same, same_samples, Case};
 use crate::elsewhere::{self, Written};
 use crate::inputs;
 use crate::library::{lent, record_of, Lent, Mark};
@@ -37,8 +37,7 @@ impl Case for Sample18 {
         (number, Lent::holding(&[first, second]))
     }
     fn smaller(&self) -> Vec<Sample18> {
-        let lower_k = below(self.0).into_iter().map(|k| Sample18(k, self.1));
-        lower_k.chain(below(self.1.into()).into_iter().map(|v| Sample18(self.0, v as u32))).collect()
+        below_both(self.0, self.1).map(|(k, v)| Sample18(k, v)).collect()
     }
 }
 
@@ -123,16 +122,7 @@ pub fn elsewhere(tables: &Tables, random: &mut Random) -> Written {
 /// Calls from k and v.
 pub fn samples(tables: &Tables, random: &mut Random) -> String {
     assert_eq!(tables.sample18(0, 0), (0, 0, 67517), "the largest size is met");
-    let (count, mut refused) = (2_000_000, 0);
-    for v in 0..65536 {
-        same(tables, &Sample18(0, v));
-        same(tables, &Sample18((1 << 48) - 1 - u64::from(v), v));
-    }
-    for _ in 0..count {
-        let (k, v) = (inputs::k(random), inputs::v(random));
-        refused += u32::from(same(tables, &Sample18(k, v)).0 != 0);
-    }
-    let calls = count + 2 * 65536;
+    let (calls, refused) = same_samples(tables, random, 2_000_000, Sample18);
     format!("{calls} calls from k and v in 18 bits, {refused} refused")
 }
 

@@ -1,6 +1,6 @@
 //! Document 02, "drift over the latest readings". Windows from anywhere are compared push by push. Of a window that was made the other side keeps
 //! no window at all: it has the samples that came, and works everything out afresh.
-use crate::cases::{below, same, Case};
+use crate::cases::{below, same, without_one, Case};
 use crate::elsewhere::Written;
 use crate::library::{Lent, Mark};
 use crate::random::Random;
@@ -88,7 +88,7 @@ impl Push {
             Push::One(x) => less(*x).map(Push::One).collect(),
             Push::All(samples) => {
                 let shorter = below(samples.len() as u64).into_iter().map(|n| samples[..n as usize].to_vec());
-                let without = (0..samples.len().min(50)).map(|j| [&samples[..j], &samples[j + 1..]].concat());
+                let without = without_one(samples).take(50);
                 shorter.chain(without).map(Push::All).collect()
             }
         }

@@ -1,0 +1,30 @@
+/* Arrays and texts that grow. */
+#include "command.h"
+#include <stdarg.h>
+#include <stdio.h>
+#include <stdlib.h>
+#include <string.h>
+
+/* `array` is the place of a pointer to elements of that size; its room doubles at least. */
+bool room_for(size_t more, void *array, size_t count, size_t *room, size_t size) {
+    void *bytes;
+    if (*room - count >= more) return true;
+    size_t wanted = 2 * *room + more + 64;
+    memcpy(&bytes, array, sizeof bytes);
+    bytes = realloc(bytes, wanted * size);
+    if (bytes == NULL) return false;
+    memcpy(array, &bytes, sizeof bytes);
+    *room = wanted;
+    return true;
+}
+
+void add(growing *to, const char *format, ...) {
+    va_list values, again;
+    va_start(values, format);
+    va_copy(again, values);
+    int length = vsnprintf(NULL, 0, format, values);
+    va_end(values);
+    to->failed = to->failed || length < 0 || !room_for((size_t)length + 1, &to->bytes, to->length, &to->room, 1);
+    if (!to->failed) to->length += (size_t)vsnprintf(to->bytes + to->length, (size_t)length + 1, format, again);
+    va_end(again);
+}
