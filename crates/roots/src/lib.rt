@@ -32,9 +32,9 @@ fn about_inverse_root(bits: u64) -> f64 {
     f64::from_bits(0x5fde_973b_e000_0000 - bits / 2 % 0x4000_0000_0000_0000)
 }
 
-// The bits of a float, or 0 where it is not below 10^18.
+// The bits of a float, or 0 where it is not above 0.
 fn bits_of(x: f64) -> u64 {
-    if x < 1.0e18 { f64::to_bits(x) } else { 0 }
+    if 0.0 < x { f64::to_bits(x) } else { 0 }
 }
 
 // Near the root of x, for x below 2^48: about 0.7 over the root, one step of Newton's, which gives about 0.68 over it, then one of the third
