@@ -1,26 +1,19 @@
-// The whole parts of square roots, of many numbers at once: by guesses in floating point or in whole numbers, which promise no more than a bound,
-// and tests, which make them right whatever the guesses are.
+// The whole part of a square root: two guesses, in floating point and in whole numbers, which promise no more than a bound; a test of a guess that has
+// no jump; and the root from any guess, which is right whatever the guess is.
 mod cells;
-mod whole;
 
-pub use whole::whole_roots;
 ghost use mathlib.Core.Path.{_≡_};
 ghost use mathlib.Core.Bool.{not};
-ghost use mathlib.Core.List.{map};
-ghost use Prim.Native.Nat.{_^_, _<_};
+ghost use Prim.Native.Nat.{_%_, _^_, _<_};
 ghost use lib.Dec.{T};
-ghost use lib.ListN.{length};
 ghost use lib.Ieee.{isNan};
-ghost use Rattle.roots.specs.Root.{wholeRoot, Guess, rootsHold};
+ghost use Rattle.roots.specs.Root.{wholeRoot, Guess};
 
 // What a guess is below.
 const GUESSES: u64 = 1 << 24;
 
 // What a root of a number of 64 bits is below.
 const ROOTS: u64 = 1 << 32;
-
-// What doubts are below where there is none.
-const DOUBTS: u64 = 1 << 63;
 
 // The bits of the float 2^52, and the first number that has no place in its last bits.
 const BITS: u64 = 0x4330_0000_0000_0000;
@@ -39,15 +32,15 @@ fn about_inverse_root(bits: u64) -> f64 {
     f64::from_bits(0x5fde_973b_e000_0000 - bits / 2 % 0x4000_0000_0000_0000)
 }
 
-// The bits of a float, or 0 where it is not below 10^18.
+// The bits of a float, or 0 where it is not above 0.
 fn bits_of(x: f64) -> u64 {
-    if x < 1.0e18 { f64::to_bits(x) } else { 0 }
+    if 0.0 < x { f64::to_bits(x) } else { 0 }
 }
 
 // Near the root of x, for x below 2^48: about 0.7 over the root, one step of Newton's, which gives about 0.68 over it, then one of the third
 // order with the product. The constants make the greatest error least. The last sum has the rounded root in its last 24 bits. The contract is a
 // bound alone: which guess it is, is left to the program.
-fn guess(x: u64) -> u64
+pub fn guess(x: u64) -> u64
     ensures { λ r. ⌜ Guess r ⌝ }
 {
     let f = float_of(x);
@@ -60,55 +53,13 @@ fn guess(x: u64) -> u64
     bits_of(near - 0.5 + 4503599644147712.0) % GUESSES
 }
 
-// A number that is below 2^63 only where the guess is the root of x: then neither x less the square is below 0, nor twice the guess less that.
-fn doubt(x: u64, guess: u64) -> u64
-    requires { ⌜ Guess guess ⌝ }
-    ensures { λ r. ⌜ (r < 2 ^ 63 → guess ≡ wholeRoot x) ⌝ }
+// A number that is below 2^63 only where the guess, mod 2^24, is the root of x: then neither x less the square is below 0, nor twice the guess less that.
+pub fn doubt(x: u64, guess: u64) -> u64
+    ensures { λ r. ⌜ (r < 2 ^ 63 → guess % 2 ^ 24 ≡ wholeRoot x) ⌝ }
 {
-    let rest = std::num::wrapping_sub_u64(x, guess * guess);
-    rest | std::num::wrapping_sub_u64(2 * guess, rest)
-}
-
-// A guess at the root of each x, and the doubts of all, with no jump, so that the compiler makes several at a time.
-fn guesses(x: &[u64], g: &mut [u64]) -> u64
-    requires { ⌜ length (now g) ≡ length (now x) ⌝ }
-    ensures { λ r. ⌜ (r < 2 ^ 63 → now (g .exit) ≡ map wholeRoot (now (x .entry))) ⌝ }
-{
-    let mut doubts = 0;
-    let mut i = 0;
-    while i < g.len() {
-        let near = guess(x[i]);
-        g[i] = near;
-        doubts = doubts | doubt(x[i], near);
-        i += 1;
-    }
-    doubts
-}
-
-// The root of each x, from any guess that stands in its place.
-fn settle(x: &[u64], g: &mut [u64])
-    requires { ⌜ length (now g) ≡ length (now x) ⌝ }
-    ensures { λ _. ⌜ now (g .exit) ≡ map wholeRoot (now (x .entry)) ⌝ }
-{
-    let mut i = 0;
-    while i < g.len() {
-        g[i] = root(x[i], g[i]);
-        i += 1;
-    }
-}
-
-// The root of each x, where g has as many elements; else it stays. The guesses are tested all at once; where one is in doubt, which is rare, each
-// is tested by itself.
-pub fn float_roots(x: &[u64], g: &mut [u64])
-    ensures { λ _. ⌜ now (g .exit) ≡ rootsHold (now (x .entry)) (now (g .entry)) ⌝ }
-{
-    if g.len() != x.len() {
-        return;
-    }
-    if guesses(x, g) < DOUBTS {
-        return;
-    }
-    settle(x, g)
+    let g = guess % GUESSES;
+    let rest = std::num::wrapping_sub_u64(x, g * g);
+    rest | std::num::wrapping_sub_u64(2 * g, rest)
 }
 
 // The whole part of the root of x, by halving what it lies in.
@@ -150,7 +101,7 @@ fn product(a: u64, b: u64) -> u64
 
 // Near the root of x, from below, for x below 2^48, in whole numbers: the root or one less. x is moved up by an even number of places; its
 // upper 8 bits are then its cell, and the next 24 are how far it lies in the cell. The contract is a bound alone, as that of `guess`.
-fn near(x: u64) -> u64
+pub fn near(x: u64) -> u64
     ensures { λ r. ⌜ Guess r ⌝ }
 {
     let places = u64::leading_zeros(x | 1) % 64 / 2;
@@ -165,7 +116,7 @@ fn near(x: u64) -> u64
 
 // The whole part of the root of x, from any guess: a guess that passes the test is it, and so is the next number where that passes. The
 // loop stands apart, since on the straight way it costs as much as all else.
-fn root(x: u64, guess: u64) -> u64
+pub fn root(x: u64, guess: u64) -> u64
     ensures { λ r. ⌜ r ≡ wholeRoot x ⌝ }
 {
     let g = guess % ROOTS;

@@ -1,13 +1,12 @@
 -- The last pass over a chunk. What holds between two of its turns, over f and so for either width, and the radius that a turn takes.
-use mathlib.Core.Path.{_≡_, refl, sym, ap, _∙_}
+use mathlib.Core.Path.{_≡_, refl}
 use mathlib.Core.List.{List, [], _∷_, map}
 use Prim.Native.Nat.{ℕ, zero, suc, _/_, _≤_, _<_}
 use native.Mathlib.Nat.{le-of-suc-le-suc}
 use native.Mathlib.Omega.{arith}
 use lib.IntN.{ℤ}
 use lib.ListN.{length, length-map, take, getD}
-use Rattle.roots.specs.Root.{wholeRoot, rootsHold}
-use Rattle.roots.proofs.RootLaws.{roots-held}
+use Rattle.roots.specs.Root.{wholeRoot}
 use Rattle.radius.specs.Steps.{radiusOf}
 use Rattle.sample.specs.Private.{underRootAt}
 use Rattle.sample.proofs.ChunkLaws.{filled}
@@ -28,7 +27,3 @@ unfolding radiusOf
 radius-is zs fs i e h =
     let inside : i < length (map underRootAt zs) = rw (length-map zs underRootAt) h in
     rw (e, mapped-at wholeRoot (map underRootAt zs) i inside, mapped-at underRootAt zs i h)
-
--- the roots of all 2Q
-pub radii : (z x f old : List ℕ) → x ≡ map underRootAt z → length old ≡ length z → f ≡ rootsHold x old → f ≡ map wholeRoot (map underRootAt z)
-radii z x f old e same r = r ∙ sym (roots-held x old (map wholeRoot x) (same ∙ sym (ap length e ∙ length-map z underRootAt)) refl) ∙ ap (map wholeRoot) e

@@ -15,7 +15,7 @@ ghost use Rattle.angle.specs.Steps.{signedOf};
 ghost use Rattle.box_muller.specs.Steps.{fractionBits, bitsOf, size, rounded};
 ghost use Rattle.box_muller.specs.Sample.{samplesOf, as18, nineSixteenths};
 ghost use Rattle.box_muller.specs.DataSheet.{thirtyThreeSixtyFourths};
-ghost use Rattle.roots.specs.Root.{wholeRoot, rootsHold};
+ghost use Rattle.roots.specs.Root.{wholeRoot};
 ghost use Rattle.sample.specs.Chunk.{chunkHolds, samplesAt};
 ghost use Rattle.sample.specs.Private.{scaleOf, underRootAt};
 
@@ -105,18 +105,74 @@ fn sample_each(in18: bool, z: &[u64], f: &[u64], out: &mut [i32])
     }
 }
 
+// A guess at the root of each x, and the doubts of all, with no jump, so that the compiler makes several at a time.
+fn guesses(x: &[u64], f: &mut [u64]) -> u64
+    requires { ⌜ length (now f) ≡ length (now x) ⌝ }
+    ensures { λ r. ⌜ (r < 2 ^ 63 → now (f .exit) ≡ map wholeRoot (now (x .entry))) ⌝ }
+{
+    let mut doubts = 0;
+    let mut i = 0;
+    while i < f.len() {
+        let guess = roots::guess(x[i]);
+        f[i] = guess;
+        doubts = doubts | roots::doubt(x[i], guess);
+        i += 1;
+    }
+    doubts
+}
+
+// The root of each x, from any guess that stands in its place.
+fn settle(x: &[u64], f: &mut [u64])
+    requires { ⌜ length (now f) ≡ length (now x) ⌝ }
+    ensures { λ _. ⌜ now (f .exit) ≡ map wholeRoot (now (x .entry)) ⌝ }
+{
+    let mut i = 0;
+    while i < f.len() {
+        f[i] = roots::root(x[i], f[i]);
+        i += 1;
+    }
+}
+
+// What doubts are below where there is none.
+const DOUBTS: u64 = 1 << 63;
+
+// The root of each x by guesses in floating point. They are tested all at once; where one is in doubt, which is rare, each is tested by itself.
+fn float_roots(x: &[u64], f: &mut [u64])
+    requires { ⌜ length (now f) ≡ length (now x) ⌝ }
+    ensures { λ _. ⌜ now (f .exit) ≡ map wholeRoot (now (x .entry)) ⌝ }
+{
+    if guesses(x, f) < DOUBTS {
+        return;
+    }
+    settle(x, f)
+}
+
+// The root of each x by guesses in whole numbers, of the same type and contract as `float_roots`, so that either may stand for the other: of a few x
+// it is faster, and on processors without floating point always.
+fn whole_roots(x: &[u64], f: &mut [u64])
+    requires { ⌜ length (now f) ≡ length (now x) ⌝ }
+    ensures { λ _. ⌜ now (f .exit) ≡ map wholeRoot (now (x .entry)) ⌝ }
+{
+    let mut i = 0;
+    while i < f.len() {
+        f[i] = roots::root(x[i], roots::near(x[i]));
+        i += 1;
+    }
+}
+
 // The most pairs whose roots are guessed in whole numbers.
 const FEW: usize = 4;
 
-// The root of each x, where f has as many elements: of a few by guesses in whole numbers, of more by guesses in floating point, several at a time.
+// The root of each x.
 fn root_each(x: &[u64], f: &mut [u64])
-    ensures { λ _. ⌜ now (f .exit) ≡ rootsHold (now (x .entry)) (now (f .entry)) ⌝ }
+    requires { ⌜ length (now f) ≡ length (now x) ⌝ }
+    ensures { λ _. ⌜ now (f .exit) ≡ map wholeRoot (now (x .entry)) ⌝ }
 {
     if x.len() <= FEW {
-        roots::whole_roots(x, f);
+        whole_roots(x, f);
         return;
     }
-    roots::float_roots(x, f)
+    float_roots(x, f)
 }
 
 // The samples of each z, by passes over them all: 2Q of each, the root of that, and the samples. What x and f hold does not matter. A single pair goes this way too: nothing else calls the passes, so that the compiler puts them into one function. (z is lent

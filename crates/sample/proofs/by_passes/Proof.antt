@@ -1,14 +1,14 @@
 -- `sample::by_passes` meets its contract: each pass has what the next one asks for. The part of z that is passed on is the whole of it.
 use mathlib.Core.Path.{_≡_, ap, _∙_}
-use mathlib.Core.List.{List}
+use mathlib.Core.List.{List, map}
 use Prim.Native.Nat.{ℕ, _-_}
 use native.Mathlib.Omega.{arith}
 use lib.ListN.{length, take}
 use lib.Seq.{take-all}
 use borrow.Author.Needs.{needs}
+use Rattle.roots.specs.Root.{wholeRoot}
 use Rattle.box_muller.specs.Steps.{bitsOf}
 use Rattle.sample.specs.Chunk.{samplesAt}
-use Rattle.sample.proofs.PassLaws.{radii}
 use Rattle.sample.proofs.by_passes.Statement.{statement}
 use Rattle.sample.proofs.by_passes.Tie as tie
 
@@ -46,7 +46,7 @@ sample-each-requires c κs =
     let size = ap length (whole z) in
     let under = c .before .before .before .before .before .before .before .before .before .before .under-roots .ensures in
     let roots = c .before .before .before .before .before .root-each .ensures in
-    (radii (take (length z - 0) z) _ _ (start .args .f .now) under (omega (arith, size, start .pre)) roots, omega (arith, size, start .pre))
+    (roots ∙ ap (map wholeRoot) under, omega (arith, size, start .pre))
 
 same-length : tie.Need-same-length
 same-length c = search needs

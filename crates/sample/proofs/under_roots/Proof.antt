@@ -3,7 +3,7 @@ use Prim.Native.Nat.{_-_, _≤_}
 use native.Mathlib.Omega.{arith}
 use lib.ListN.{length}
 use borrow.Author.Needs.{needs}
-use Rattle.roots.proofs.PassLaws.{Passed, begun, again, ended}
+use Rattle.sample.proofs.Passes.{Passed, begun, again, ended}
 use Rattle.sample.specs.Private.{underRootAt}
 use Rattle.sample.proofs.under_roots.Statement.{statement}
 use Rattle.sample.proofs.under_roots.Tie as tie

@@ -1,18 +1,18 @@
--- `roots::settle` is a pass of roots: any guess gives the root.
+-- `sample::settle` is a pass of roots: any guess gives the root.
 use Prim.Native.Nat.{_-_, _≤_}
 use native.Mathlib.Omega.{arith}
 use lib.ListN.{length}
 use borrow.Author.Needs.{needs}
 use Rattle.roots.specs.Root.{wholeRoot}
-use Rattle.roots.proofs.PassLaws.{Passed, begun, again, ended}
-use Rattle.roots.proofs.settle.Statement.{statement}
-use Rattle.roots.proofs.settle.Tie as tie
+use Rattle.sample.proofs.Passes.{Passed, begun, again, ended}
+use Rattle.sample.proofs.settle.Statement.{statement}
+use Rattle.sample.proofs.settle.Tie as tie
 
 abbrev Inv-loop : tie.InvT-loop
-Inv-loop x g₀ i₀ g i = Passed (0 ≤ 0) wholeRoot x g₀ g i
+Inv-loop x f₀ i₀ f i = Passed (0 ≤ 0) wholeRoot x f₀ f i
 
 abbrev μ-loop : tie.MeasureT-loop
-μ-loop x g₀ i₀ g i = length x - i
+μ-loop x f₀ i₀ f i = length x - i
 
 loop-holds : tie.Need-loop-holds Inv-loop μ-loop
 loop-holds c = begun _ _
@@ -32,11 +32,11 @@ slice-read-root c = search needs
 root-requires : tie.Need-root-requires Inv-loop μ-loop
 root-requires c κs = search needs
 
-mul-g : tie.Need-mul-g Inv-loop μ-loop
-mul-g c = search needs
+mul-f : tie.Need-mul-f Inv-loop μ-loop
+mul-f c = search needs
 
-slice-write-g : tie.Need-slice-write-g Inv-loop μ-loop
-slice-write-g c = search needs
+slice-write-f : tie.Need-slice-write-f Inv-loop μ-loop
+slice-write-f c = search needs
 
 add-i : tie.Need-add-i Inv-loop μ-loop
 add-i c = search needs
@@ -71,8 +71,8 @@ settle-spec =
     mul-root-2
     slice-read-root
     root-requires
-    mul-g
-    slice-write-g
+    mul-f
+    slice-write-f
     add-i
     loop-less
     loop-again
