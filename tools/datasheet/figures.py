@@ -9,7 +9,7 @@ LARGEST = 16879
 INPUTS = 2 ** 64
 NUMBERS = 'docs/datasheet/numbers.json'
 TAILS = [1, 2, 3, 4, 5, 6, 7, 7.5, 8, 8.2]
-STEP = 64  # units of a step of the pictures' curves
+STEP = 32  # units of a step of the picture's curve
 
 
 def normal_above(x):
@@ -61,21 +61,13 @@ def exact(folder):
         'off': off[:3],
         'off-rest': max(abs(each) for each in off[3:4 * UNITS]),
         'excess': sum((2 if s else 1) * off[s] ** 2 * normal_at(s) for s in range(6 * UNITS)),
-        'density': [[(s + STEP / 2 - 0.5) / UNITS, (tail[s] - tail[min(s + STEP, LARGEST + 1)]) / INPUTS * UNITS / min(STEP, LARGEST + 1 - s)]
-                    for s in range(1, LARGEST + 1, STEP)],
-        'ratio': [[(s - 0.5) / UNITS, tail[s] / INPUTS / normal_from(s)] for s in range(STEP, LARGEST + 1, STEP // 2)],
+        'ratio': [[(s - 0.5) / UNITS, tail[s] / INPUTS / normal_from(s)] for s in range(2 * STEP, LARGEST + 1, STEP)],
     }
 
 
 # ---- errors, in units of the sample
 
 PLACES = 6400  # of a unit, as errors.c counts
-
-
-def density_of(counts):
-    """A step is 1/64 of a unit."""
-    total = sum(counts.values())
-    return [[(place + 50) / PLACES, sum(counts.get(place + j, 0) for j in range(100)) / total * PLACES / 100] for place in range(-3600, 3600, 100)]
 
 
 def beyond_of(counts):
@@ -89,9 +81,8 @@ def beyond_of(counts):
 
 def errors_of(folder, sweep, bits):
     lines = rows(f'{folder}/errors-{sweep}-{bits}.tsv')
-    every, larger = ({int(line[0]): int(line[column]) for line in lines if line[0] != 'worst'} for column in (1, 2))
-    return {'samples': sum(every.values()), 'density': density_of(larger), 'beyond': beyond_of(every),
-            'worst': [[line[1], *map(int, line[2:5]), float(line[5])] for line in lines if line[0] == 'worst']}
+    counts = {int(line[0]): int(line[1]) for line in lines if line[0] != 'worst'}
+    return {'samples': sum(counts.values()), 'beyond': beyond_of(counts), 'worst': [[line[1], *map(int, line[2:5]), float(line[5])] for line in lines if line[0] == 'worst']}
 
 
 def errors(folder):
@@ -172,8 +163,6 @@ def drawn_with(folder, seeds):
         'samples': n, 'moments': four, 'largest': max(map(abs, counts)), 'tails': beyond,
         'zero': counts[0], 'tests': tests_of(counts),
         'neighbours': [[name, plain / (n / 2), squares / (n / 2) / 2] for name, (plain, squares) in products.items()],
-        'density': [[(s + (STEP - 1) / 2) / UNITS, sum(counts.get(s + j, 0) for j in range(STEP)) / n / STEP * UNITS]
-                    for s in range(-LARGEST // STEP * STEP, LARGEST, STEP) if any(s + j in counts for j in range(STEP))],
     }
 
 

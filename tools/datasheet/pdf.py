@@ -11,7 +11,7 @@ h2 { font-size: 9pt; margin: 2mm 0 0.8mm; break-after: avoid }
 p, ul { margin: 0.8mm 0 } ul { padding-left: 4mm } img { width: 72%; display: block; margin: 0.6mm auto } img[src$="tail.png"] { width: 90% }
 table { border-collapse: collapse; width: 100%; margin: 0.8mm 0; font-size: 6.6pt; line-height: 1.18; break-inside: avoid }
 td, th { border-bottom: 0.2mm solid #ccc; padding: 0.25mm 1mm; text-align: left; vertical-align: top } th { border-bottom-color: #555; vertical-align: bottom }
-code { font: 0.92em "DejaVu Sans Mono", "Liberation Mono", monospace } a { color: inherit }
+sup { line-height: 0 } code { font: 0.92em "DejaVu Sans Mono", "Liberation Mono", monospace } a { color: inherit }
 """
 
 

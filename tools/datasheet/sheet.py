@@ -247,7 +247,7 @@ def processors():
 
     def times(name, native, digits):
         return [native, *(f'{wasm[where, name]:,.{digits}f}' for where in ('node', 'Chromium'))]
-    stack = {group: next(row for table, row, _ in cells if table == 'Stack' and group in row.split()) for group in ('pair', 'block', 'play')}
+    stacks = [next(row for table, row, _ in cells if table == 'Stack' and call in row.split()) for call in ('pair', 'block', 'play')]
     yield '| | x86-64, ns | node, ns | Chromium, ns | Cortex-M0+, instructions | M4F | M7 with doubles | RISC-V of 32 bits |'
     yield '|---|---:|---:|---:|---:|---:|---:|---:|'
     yield row('a pair', times('pair', time_of('`jabulghi_pair`', 0), 0), 'Instructions', 'pair')
@@ -258,8 +258,9 @@ def processors():
     yield row('bytes of flash: seed and pair', ['', '', ''], 'Flash', 'seed pair')
     yield row('seed and block', ['', '', ''], 'Flash', 'seed block')
     yield row('all calls', [plain(numbers['memory']['code']), plain(numbers['wasm']['module']), plain(numbers['wasm']['module'])], 'Flash', 'all calls')
-    for group, title in (('pair', 'bytes of stack: `jabulghi_pair` and calls like it'), ('block', '`jabulghi_block` and calls like it'), ('play', '`jabulghi_play`')):
-        yield row(title, [plain(int(cells['Stack', stack[group], 'x86_64'])), '', ''], 'Stack', stack[group])
+    for group in stacks:
+        title = 'bytes of stack, at most: ' * (group == stacks[0]) + ', '.join(call for call in group.split() if not call.endswith('18'))
+        yield row(title, [plain(int(cells['Stack', group, 'x86_64'])), '', ''], 'Stack', group)
 
 
 # ---- errors and seeds
