@@ -337,6 +337,19 @@ def of_speed_and_seeds():
     }
 
 
+def claims():
+    """What the text says of the numbers in words; each has to hold."""
+    every = [each for _, loop in each_loop() for seeds in SEEDS for each in off(loop, seeds)]
+    squares, products = ([numbers['seeds'][kind]['all'][place] * factor for kind in ('large', 'second')] for place, factor in ((1, 64), (2, 64 * math.sqrt(2))))
+    return {
+        'no loop closes too well: no figure is 4 standard errors from the closed form': max(every) < 4,
+        'from 7 σ on the share is not above a normal number\'s': all(row[3] == 0 for size, row in proved(0).items() if size >= size_of(7)),
+        'seeds of 32 bits show in neither mean squares nor products': all(abs(each - 1) < 0.1 for each in squares + products),
+        'the standard error of the plays beyond 4 σ is larger than what their shape moves': all(
+            loop['closed']['not-normal'] < loop['closed']['errors']['beyond'][3] / loop['closed']['beyond'][3] for _, loop in each_loop()),
+    }
+
+
 def version():
     with open('include/jabulghi.h', encoding='utf-8') as file:
         return re.search(r'^#define JABULGHI_VERSION "(.*)"$', file.read(), re.M).group(1)
@@ -354,6 +367,9 @@ def filled():
 
 
 def main(check=None):
+    for claim, holds in claims().items():
+        if not holds:
+            sys.exit(f'FAILED: the data sheet says that {claim}, which its numbers do not')
     if check is None:
         with open(SHEET, 'w', encoding='utf-8') as file:
             file.write(filled())
