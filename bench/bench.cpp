@@ -448,31 +448,30 @@ static Contestants contestants() {
     return all;
 }
 
-// For the data sheet: blocks of every power of two, the others, and skips of as many pairs as just fit a number of bits.
+// For the data sheet: blocks of every power of two, the others, calls, and skips of as many pairs as just fit a number of bits.
 static Contestants of_sheet() {
     Contestants all;
     std::vector<size_t> lengths;
     for (size_t length = LENGTH; length >= 2; length /= 2) lengths.push_back(length);
-    std::vector<uint64_t> numbers = {0};
-    for (int bits = 2; bits <= 64; bits += 2) numbers.push_back(UINT64_MAX >> (64 - bits));
+    std::vector<uint64_t> numbers;
+    for (int bits : {2, 4, 6, 8, 10, 12, 16, 20, 24, 32, 40, 48, 56, 64}) numbers.push_back(UINT64_MAX >> (64 - bits));
     add_ours(all, lengths);
     add_wide(all);
-    add_plain(all);
     add_others(all);
     add_pairs(all);
+    add_job(all);
+    add_plays(all);
+    add_windows(all);
     add_skips(all, numbers);
     return all;
 }
 
 // For a program to read.
 static void print_fields(const Contestants &all) {
-    for (const Contestant &each : all) {
-        double scale = each.unit.in_a_second;
-        printf("%s\t%s\t%.3f\t%.3f\n", each.name.c_str(), each.unit.name, each.least() * scale, each.median() * scale);
-    }
+    for (const Contestant &each : all) printf("%s\t%s\t%.4f\n", each.name.c_str(), each.unit.name, each.least() * each.unit.in_a_second);
 }
 
-// With the argument `sheet` it times what the data sheet shows, and prints fields.
+// With the argument `sheet` it times what the data sheet shows, and prints the least of each in fields.
 int main(int argc, char **argv) {
     bool sheet = argc > 1 && strcmp(argv[1], "sheet") == 0;
     double load = 0;
@@ -494,7 +493,6 @@ int main(int argc, char **argv) {
     all.pop_back();
     if (sheet) {
         print_fields(all);
-        print_quiet(load, share, loop);
         return 0;
     }
     print_table(all);

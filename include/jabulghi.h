@@ -52,9 +52,9 @@
 #endif
 
 /* The version of the header and the library. */
-#define JABULGHI_VERSION "1.0.0"
+#define JABULGHI_VERSION "1.1.0"
 #define JABULGHI_VERSION_MAJOR 1
-#define JABULGHI_VERSION_MINOR 0
+#define JABULGHI_VERSION_MINOR 1
 #define JABULGHI_VERSION_PATCH 0
 
 #ifdef __cplusplus

@@ -1,6 +1,6 @@
 /* How far samples are from the exact Box-Muller pair of (2k + 1) over 2^49 and v over 65536, in units of the sample, the exact pair by long double (64 bits).
  * errors SWEEP BITS, SWEEP being v (every v for some k) or k (many k for some v), BITS 16 or 18. Prints for each 6400th of a unit that has errors
- * "place TAB samples TAB those whose exact value is 16 units or more", then the worst: "worst TAB which TAB k TAB v TAB sample TAB error". */
+ * "place TAB samples", then the worst: "worst TAB which TAB k TAB v TAB sample TAB error". */
 #include "jabulghi.h"
 #include <inttypes.h>
 #include <math.h>
@@ -11,7 +11,7 @@
 #define PLACES 6400 /* a place is 1/6400 of a unit */
 #define MOST 0.75   /* no error is as large: the bound of 18 bits */
 
-static uint64_t counts[2][2 * PLACES]; /* of all samples; of those whose exact value is 16 units or more */
+static uint64_t counts[2 * PLACES];
 static struct { uint64_t k; uint32_t v; int32_t sample; long double error; } worst[2];
 static int wide;
 
@@ -37,9 +37,7 @@ static void compare(uint64_t k, uint32_t v, long double radius, const long doubl
     for (int j = 0; j < 2; j++) {
         long double exact = radius * rotation[j] * (wide ? 0x1p13L : 0x1p11L), error = samples[j] - exact;
         if (fabsl(error) >= MOST) fail("an error of three quarters");
-        int place = PLACES + (int)floorl(error * PLACES);
-        counts[0][place]++;
-        if (fabsl(exact) >= 16) counts[1][place]++;
+        counts[PLACES + (int)floorl(error * PLACES)]++;
         if (fabsl(error) <= fabsl(worst[j].error)) continue;
         worst[j].k = k, worst[j].v = v, worst[j].sample = samples[j], worst[j].error = error;
     }
@@ -89,7 +87,7 @@ int main(int argc, char **argv) {
     if (*argv[1] == 'v') sweep_v();
     else sweep_k();
     for (int j = 0; j < 2 * PLACES; j++) {
-        if (counts[0][j]) printf("%d\t%" PRIu64 "\t%" PRIu64 "\n", j - PLACES, counts[0][j], counts[1][j]);
+        if (counts[j]) printf("%d\t%" PRIu64 "\n", j - PLACES, counts[j]);
     }
     for (int j = 0; j < 2; j++) {
         printf("worst\t%s\t%" PRIu64 "\t%" PRIu32 "\t%" PRId32 "\t%.6Lf\n", j ? "second" : "first", worst[j].k, worst[j].v, worst[j].sample, worst[j].error);

@@ -2,13 +2,14 @@
 """figures.py PART FOLDER: works out from what the programs counted (FOLDER/*.tsv) the numbers of one part of the data sheet and puts them into
 docs/datasheet/numbers.json, where those of the other parts stay."""
 import json, math, os, sys
+import loops as closed
 
 UNITS = 2048  # of a sample, in a standard deviation
 LARGEST = 16879
 INPUTS = 2 ** 64
 NUMBERS = 'docs/datasheet/numbers.json'
 TAILS = [1, 2, 3, 4, 5, 6, 7, 7.5, 8, 8.2]
-STEP = 64  # units of a step of the pictures' curves
+STEP = 32  # units of a step of the picture's curve
 
 
 def normal_above(x):
@@ -60,21 +61,13 @@ def exact(folder):
         'off': off[:3],
         'off-rest': max(abs(each) for each in off[3:4 * UNITS]),
         'excess': sum((2 if s else 1) * off[s] ** 2 * normal_at(s) for s in range(6 * UNITS)),
-        'density': [[(s + STEP / 2 - 0.5) / UNITS, (tail[s] - tail[min(s + STEP, LARGEST + 1)]) / INPUTS * UNITS / min(STEP, LARGEST + 1 - s)]
-                    for s in range(1, LARGEST + 1, STEP)],
-        'ratio': [[(s - 0.5) / UNITS, tail[s] / INPUTS / normal_from(s)] for s in range(STEP, LARGEST + 1, STEP // 2)],
+        'ratio': [[(s - 0.5) / UNITS, tail[s] / INPUTS / normal_from(s)] for s in range(2 * STEP, LARGEST + 1, STEP)],
     }
 
 
 # ---- errors, in units of the sample
 
 PLACES = 6400  # of a unit, as errors.c counts
-
-
-def density_of(counts):
-    """A step is 1/64 of a unit."""
-    total = sum(counts.values())
-    return [[(place + 50) / PLACES, sum(counts.get(place + j, 0) for j in range(100)) / total * PLACES / 100] for place in range(-3600, 3600, 100)]
 
 
 def beyond_of(counts):
@@ -88,9 +81,8 @@ def beyond_of(counts):
 
 def errors_of(folder, sweep, bits):
     lines = rows(f'{folder}/errors-{sweep}-{bits}.tsv')
-    every, larger = ({int(line[0]): int(line[column]) for line in lines if line[0] != 'worst'} for column in (1, 2))
-    return {'samples': sum(every.values()), 'density': density_of(larger), 'beyond': beyond_of(every),
-            'worst': [[line[1], *map(int, line[2:5]), float(line[5])] for line in lines if line[0] == 'worst']}
+    counts = {int(line[0]): int(line[1]) for line in lines if line[0] != 'worst'}
+    return {'samples': sum(counts.values()), 'beyond': beyond_of(counts), 'worst': [[line[1], *map(int, line[2:5]), float(line[5])] for line in lines if line[0] == 'worst']}
 
 
 def errors(folder):
@@ -171,8 +163,6 @@ def drawn_with(folder, seeds):
         'samples': n, 'moments': four, 'largest': max(map(abs, counts)), 'tails': beyond,
         'zero': counts[0], 'tests': tests_of(counts),
         'neighbours': [[name, plain / (n / 2), squares / (n / 2) / 2] for name, (plain, squares) in products.items()],
-        'density': [[(s + (STEP - 1) / 2) / UNITS, sum(counts.get(s + j, 0) for j in range(STEP)) / n / STEP * UNITS]
-                    for s in range(-LARGEST // STEP * STEP, LARGEST, STEP) if any(s + j in counts for j in range(STEP))],
     }
 
 
@@ -180,14 +170,88 @@ def drawn(folder):
     return {seeds: drawn_with(folder, seeds) for seeds in ('pi', 'e')}
 
 
+# ---- loops: plays beside the closed form
+
+SHARES = (0.5, 0.9, 0.99, 0.999)  # of plays within a distance
+SIGMAS = (1, 2, 3, 4, 5)
+
+
+def of_spread(east, north, both):
+    return [math.sqrt(east), math.sqrt(north), *closed.ellipse(east, north, both)]
+
+
+def closed_loop(legs, plays):
+    """Root mean squares east and north, half axes and direction of the ellipse; distances that shares of plays lie within; shares beyond multiples of the
+    ellipse. Each with the standard error of so many plays."""
+    figures = of_spread(*closed.spread(legs))
+    longer, shorter = figures[2:4]
+    turn = math.degrees(longer * shorter / (longer ** 2 - shorter ** 2) / math.sqrt(plays))
+    within = [closed.quantile(longer, shorter, share) for share in SHARES]
+    step = longer / 1000
+    density = [(closed.beyond(longer, shorter, radius - step) - closed.beyond(longer, shorter, radius + step)) / (2 * step) for radius in within]
+    beyond = [math.exp(-t * t / 2) for t in SIGMAS]
+    return {
+        'metres': sum(mm for mm, _ in closed.loop(legs)) / 1000, 'figures': figures, 'within': within, 'beyond': beyond, 'not-normal': closed.not_normal(legs, 4),
+        'errors': {'figures': [*(each / math.sqrt(2 * plays) for each in figures[:4]), turn],
+                   'within': [math.sqrt(share * (1 - share) / plays) / each for share, each in zip(SHARES, density)],
+                   'beyond': [math.sqrt(share * (1 - share) / plays) for share in beyond]}}
+
+
+def within(counts, plays, share):
+    """The distance that a share of plays lies within; those of one millimetre are taken to be spread evenly over it."""
+    below = 0
+    for mm in sorted(counts):
+        if below + counts[mm] >= share * plays:
+            return mm + (share * plays - below) / counts[mm]
+        below += counts[mm]
+
+
+def played(path):
+    counts, points = {'distance': {}, 'ellipse': {}}, {'first': [], 'far': []}
+    for name, *numbers in rows(path):
+        numbers = [int(each) for each in numbers]
+        if name in counts:
+            counts[name][numbers[0]] = numbers[1]
+        elif name in points:
+            points[name].append(numbers)
+        else:
+            plays, *sums = numbers
+    east, north, *squares = (each / plays for each in sums)
+    spread = squares[0] - east ** 2, squares[1] - north ** 2, squares[2] - east * north
+    return plays, {'plays': plays, 'figures': of_spread(*spread), 'within': [within(counts['distance'], plays, share) for share in SHARES],
+                   'beyond': [sum(count for step, count in counts['ellipse'].items() if step >= 100 * t) / plays for t in SIGMAS], 'points': points}
+
+
+def loops(folder):
+    found = {}
+    for legs in closed.LEGS:
+        of = {seeds: played(f'{folder}/loops-{legs}-{seeds}.tsv') for seeds in closed.SEEDS}
+        found[str(legs)] = {'closed': closed_loop(legs, of['pi'][0]), **{seeds: each for seeds, (_, each) in of.items()}}
+        for seeds in closed.SEEDS:
+            points = found[str(legs)][seeds].pop('points')
+            if (legs, seeds) == (40, 'pi'):
+                found['points'] = points
+    return found
+
+
 # ---- speed, memory and seeds
 
+RUNS = (1, 2, 3, 4, 5)
+
+
 def speed(folder):
-    lines = rows(f'{folder}/speed.tsv')
-    return {
-        'times': [[name, unit, float(least), float(median)] for name, unit, least, median in (line for line in lines if len(line) == 4)],
-        'quiet': ' '.join(line[0] for line in lines[-2:]),
-    }
+    """For each name and unit the least time of each run."""
+    runs = [[line for line in rows(f'{folder}/speed-{run}.tsv') if len(line) == 3] for run in RUNS]
+    return [[*lines[0][:2], [float(line[2]) for line in lines]] for lines in zip(*runs)]
+
+
+def wasm(folder):
+    """For each engine and name the least time of each run, in nanoseconds; and the engines' versions."""
+    runs = [rows(f'{folder}/wasm-{run}.tsv') for run in RUNS]
+    with open(f'{folder}/engines.txt', encoding='utf-8') as file:
+        engines = file.read().split('\n')[:2]
+    return {'times': [[*lines[0][:2], [float(line[2]) for line in lines]] for lines in zip(*runs)], 'engines': engines,
+            'module': os.path.getsize('target/wasm32/jabulghi.wasm')}
 
 
 def memory(folder):

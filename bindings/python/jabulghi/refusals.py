@@ -1,7 +1,7 @@
 """Written by tools/refusals from include/jabulghi.h."""
 import enum
 
-VERSION = "1.0.0"
+VERSION = "1.1.0"
 LISTING_ROOM = 20480
 MOST_ASKED = 1000000
 
