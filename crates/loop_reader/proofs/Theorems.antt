@@ -1,16 +1,14 @@
 -- The theorems of specs/Theorems.antt, and what an accepted loop is ready for.
-use Prim.Native.Nat.{ℕ, zero, suc, _+_, _-_, _*_, _/_, _%_, _≤_, _<_}
+use Prim.Native.Nat.{ℕ, suc, _+_, _-_, _≤_, _<_}
 use native.Mathlib.Omega.{arith}
-use native.Mathlib.Nat.{zero-add}
 use mathlib.Core.Logic.{_↔_}
 use mathlib.Core.Path.{_≡_, refl, sym, ap, ap₂, subst, _∙_}
-use mathlib.Core.Bool.{Bool, true, false, cond, true≢false, false≢true}
+use mathlib.Core.Bool.{Bool, true, false, cond, true≢false}
 use mathlib.Core.List.{List, [], _∷_, _++_, map}
 use lib.Dec.{eqb, ltb}
 use lib.ListN.{length, take, drop}
-use borrow.Author.Tests.{eq-eqb, ne-eqb, eqb-true, le-ltb, ltb-false}
-use Rattle.streams.specs.declared.Generator.{Generator}
-use Rattle.streams.specs.Streams.{seedOf, fresh}
+use borrow.Author.Tests.{ne-eqb, eqb-true, le-ltb, ltb-false}
+use Rattle.streams.specs.Streams.{seedOf}
 use Rattle.streams.specs.Recurrence.{Sound}
 use Rattle.job_lines.specs.Forms.{Form, seeds, sigma, shot, noForm}
 use Rattle.job_refusals.specs.Limits.{mostBytes, mostShots, mostDistance}

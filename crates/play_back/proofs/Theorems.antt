@@ -11,14 +11,14 @@ use lib.IntN.{ℤ}
 use lib.ListN.{length, getD, length-map, length-append}
 use borrow.Author.Tests.{eqb-true, eqb-false}
 use Rattle.streams.specs.declared.Generator.{Generator}
-use Rattle.streams.specs.Streams.{mostCount, countCode, after, seedOf, fresh}
+use Rattle.streams.specs.Streams.{mostCount, countCode, seedOf, fresh}
 use Rattle.streams.specs.Recurrence.{Sound, seedFrom}
 use Rattle.streams.proofs.Causes.{count-room}
 use Rattle.streams.proofs.Theorems.{after-moved, moved-sound, seeded, sound-accepted}
 use Rattle.box_muller.specs.Steps.{fractionBits}
 use Rattle.noise.specs.Noise.{samples}
 use Rattle.noise.proofs.Laws.{samples-words}
-use Rattle.job_lines.specs.Forms.{Form, seeds, sigma, shot, noForm, Printable}
+use Rattle.job_lines.specs.Forms.{Form, seeds, sigma, Printable}
 use Rattle.job_refusals.specs.Limits.{mostShots}
 use Rattle.job_refusals.specs.Refusals.{refusal}
 use Rattle.job_refusals.proofs.Theorems as refusals
@@ -37,10 +37,10 @@ use Rattle.misclosure.specs.Theorems as listings
 use Rattle.misclosure.proofs.Theorems as listingLaws
 use Rattle.read_back.specs.ReadBack.{Following}
 use Rattle.loop_reader.specs.Loop as loop
-use Rattle.loop_reader.proofs.Shots.{Shots, later-shots, few-lines, shots-count, setting-kept, by-heads}
+use Rattle.loop_reader.proofs.Shots.{Shots, later-shots, few-lines, setting-kept, by-heads}
 use Rattle.loop_reader.proofs.Theorems.{Within, Ready, ready, says, linked-follow, same-loop, not-accepted, refused-code}
-use Rattle.play.specs.Play.{ahead, playedShots, sumAt, missAt, missesFrom, roomFor, playOf, answerOf, missesAfter}
-use Rattle.play.specs.Private.{settingOf, unpackedAll, noisyShots}
+use Rattle.play.specs.Play.{playedShots, sumAt, missAt, missesFrom, roomFor, playOf, answerOf, missesAfter}
+use Rattle.play.specs.Private.{settingOf, noisyShots}
 use Rattle.play_back.specs.Theorems.{reseeded, IsMisclosure, codeOf, leaves, Theorems}
 use Rattle.play.proofs.Answered.{unpacked-are}
 use Rattle.play.proofs.Blocks.{played-are}
