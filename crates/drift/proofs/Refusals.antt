@@ -1,14 +1,14 @@
 -- 17 just where its cause holds, and the limit of a sum from both sides.
 use mathlib.Core.Path.{_≡_, refl, sym, _∙_}
-use mathlib.Core.Bool.{Bool, true, false, cond, false≢true, _&&_, and-eq-true-iff}
-use mathlib.Core.List.{List, [], _∷_, _++_}
+use mathlib.Core.Bool.{Bool, true, false, cond, false≢true, and-eq-true-iff}
+use mathlib.Core.List.{[]}
 use mathlib.Core.Logic.{_⊎_, inl, inr}
 use Prim.Native.Nat.{ℕ, _≤_, _<_}
 use native.Mathlib.Omega.{arith}
 use lib.Dec.{leb}
 use lib.IntN.{ℤ, natAbs}
 use borrow.Author.Tests.{leb-true, leb-false, le-leb}
-use Rattle.drift.specs.Drift.{Window, WindowAnswer, mostSize, mostSum, sizeFit, withinLimit, fitOf, emptyWindow, accepted, refusal, checkedOf, madeOf, movedOf, pushedOf, pushedAll}
+use Rattle.drift.specs.Drift.{Window, mostSize, sizeFit, withinLimit, fitOf, emptyWindow, accepted, refusal, checkedOf, madeOf, movedOf, pushedOf, pushedAll}
 use Rattle.drift.specs.Theorems.{SizeOutside, Unfit, JustFor, Seventeen, Limit}
 use Rattle.drift.specs.Theorems.Unfit.{size-outside, more-held, place-outside, sum-beyond, squares-beyond}
 use Rattle.drift.proofs.Fitness.{Fit, fit-true, true-fit}

@@ -1,18 +1,17 @@
 -- From the last state to the answer.
-use Prim.Native.Nat.{ℕ, _+_, _-_, _≤_, _<_}
+use Prim.Native.Nat.{ℕ, _-_, _≤_, _<_}
 use native.Mathlib.Omega.{arith}
 use mathlib.Core.Path.{_≡_, refl, sym, ap, ap₂, _∙_}
 use mathlib.Core.Bool.{Bool, true, false, cond}
 use mathlib.Core.List.{List, []}
 use lib.Dec.{eqb, ltb}
 use lib.ListN.{length, drop, drop-of-length-le}
-use borrow.Author.Tests.{eq-eqb, ne-eqb, eqb-true, eqb-false, lt-ltb, le-ltb, ltb-false}
+use borrow.Author.Tests.{eqb-true, eqb-false, lt-ltb, le-ltb}
 use Rattle.text.specs.Scan.{lines}
-use Rattle.listing_writer.specs.Listing.{header, endRow}
+use Rattle.listing_writer.specs.Listing.{endRow}
 use Rattle.job_refusals.specs.Limits.{mostBytes}
 use Rattle.job.specs.Job as job
 use Rattle.job.proofs.Answered.{Told, job-told, job-short, job-long}
-use Rattle.sums.specs.Sums.{Shot}
 use Rattle.loop_reader.specs.Loop as loop
 use Rattle.loop_reader.specs.Private.{verdict, Going, Ended, endedOf}
 use Rattle.loop_reader.specs.declared.LoopAnswer.{LoopAnswer}

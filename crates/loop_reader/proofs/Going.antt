@@ -1,12 +1,12 @@
 -- A loop half way: one line more.
-use Prim.Native.Nat.{ℕ, zero, suc, _+_, _-_, _*_, _≤_, _<_}
+use Prim.Native.Nat.{ℕ, _+_, _-_, _*_, _≤_, _<_}
 use native.Mathlib.Omega.{arith}
 use native.Mathlib.Nat.{zero-add}
 use mathlib.Core.Path.{_≡_, refl, sym, ap, subst, _∙_}
 use mathlib.Core.Bool.{Bool, true, false, cond, true≢false}
-use mathlib.Core.List.{List, [], _∷_, _++_, map}
-use lib.Dec.{ltb, eqb}
-use lib.ListN.{length, take, drop, set, length-set, drop-of-length-le}
+use mathlib.Core.List.{List, [], _∷_, map}
+use lib.Dec.{eqb}
+use lib.ListN.{length, take, drop, length-set, drop-of-length-le}
 use borrow.Author.Tests.{eq-eqb, ne-eqb, eqb-true, ltb-false, not-false}
 use Rattle.text.specs.Fields.{partOf}
 use Rattle.text.specs.Scan.{lines, firstLine}
@@ -19,7 +19,7 @@ use Rattle.job.specs.Job as job
 use Rattle.job.specs.declared.setting.Setting.{Setting}
 use Rattle.job.proofs.Going as going
 use Rattle.loop_reader.specs.Loop as loop
-use Rattle.loop_reader.specs.Private.{firstUnlinked, startState, Keeps, Takes, verdict, Going, Ended}
+use Rattle.loop_reader.specs.Private.{firstUnlinked, startState, Takes, verdict, Going, Ended}
 use Rattle.loop_reader.specs.declared.line.State.{State}
 use Rattle.loop_reader.proofs.Taking.{none-at}
 

@@ -1,25 +1,23 @@
 -- The lines of an accepted job: seeds, sigmas and shots, and the shots in the caller's memory.
-use Prim.Native.Nat.{ℕ, zero, suc, _+_, _-_, _*_, _/_, _%_, _≤_, _<_}
+use Prim.Native.Nat.{ℕ, suc, _+_, _-_, _≤_, _<_}
 use native.Mathlib.Omega.{arith}
 use mathlib.Core.Path.{_≡_, refl, sym, ap, ap₂, _∙_}
-use mathlib.Core.Bool.{Bool, true, false, cond, true≢false}
+use mathlib.Core.Bool.{true, true≢false}
 use mathlib.Core.List.{List, [], _∷_, _++_, map, append-nil, append-assoc}
-use lib.Dec.{ltb, eqb}
+use lib.Dec.{eqb}
 use lib.ListN.{length, take, set, length-set}
 use lib.Seq.{take-suc-set}
-use borrow.Author.Tests.{eqb-true, ltb-false, not-false}
+use borrow.Author.Tests.{eqb-true, not-false}
 use Rattle.text.specs.Fields.{name}
-use Rattle.text.specs.Scan.{lines}
 use Rattle.job_lines.specs.Forms.{Form, seeds, sigma, shot, noForm, readLine, printLine, Printable}
 use Rattle.job_lines.proofs.RoundTrip.{read-printed}
-use Rattle.job_refusals.specs.Limits.{lastLine, mostShots, mostDistance, mostBearing}
-use Rattle.job_refusals.specs.Refusals.{formless, misplaced, refusal}
+use Rattle.job_refusals.specs.Limits.{lastLine, mostDistance, mostBearing}
+use Rattle.job_refusals.specs.Refusals.{formless, misplaced}
 use Rattle.job_refusals.proofs.Accepted.{accepted-line, line-few, shot-within}
 use Rattle.job.specs.Job as job
 use Rattle.job.specs.Theorems.{textOf, Accepts}
 use Rattle.job.specs.declared.setting.Setting.{Setting}
 use Rattle.job.proofs.Jobs.{lines-text}
-use Rattle.sums.specs.Sums.{Shot}
 use Rattle.loop_reader.specs.Loop as loop
 use Rattle.loop_reader.proofs.Going.{kept-yes}
 

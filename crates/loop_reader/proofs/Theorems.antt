@@ -1,16 +1,14 @@
 -- The theorems of specs/Theorems.antt, and what an accepted loop is ready for.
-use Prim.Native.Nat.{ℕ, zero, suc, _+_, _-_, _*_, _/_, _%_, _≤_, _<_}
+use Prim.Native.Nat.{ℕ, suc, _+_, _-_, _≤_, _<_}
 use native.Mathlib.Omega.{arith}
-use native.Mathlib.Nat.{zero-add}
 use mathlib.Core.Logic.{_↔_}
 use mathlib.Core.Path.{_≡_, refl, sym, ap, ap₂, subst, _∙_}
-use mathlib.Core.Bool.{Bool, true, false, cond, true≢false, false≢true}
+use mathlib.Core.Bool.{Bool, true, false, cond, true≢false}
 use mathlib.Core.List.{List, [], _∷_, _++_, map}
 use lib.Dec.{eqb, ltb}
-use lib.ListN.{length, take}
-use borrow.Author.Tests.{eq-eqb, ne-eqb, eqb-true, le-ltb, ltb-false}
-use Rattle.streams.specs.declared.Generator.{Generator}
-use Rattle.streams.specs.Streams.{seedOf, fresh}
+use lib.ListN.{length, take, drop}
+use borrow.Author.Tests.{ne-eqb, eqb-true, le-ltb, ltb-false}
+use Rattle.streams.specs.Streams.{seedOf}
 use Rattle.streams.specs.Recurrence.{Sound}
 use Rattle.job_lines.specs.Forms.{Form, seeds, sigma, shot, noForm}
 use Rattle.job_refusals.specs.Limits.{mostBytes, mostShots, mostDistance}
@@ -239,17 +237,43 @@ linked-follow (seeds a0 a1 a2 b0 b1 b2 ∷ xs) k station h some = absurd h
 linked-follow (sigma d b ∷ xs) k station h some = absurd h
 linked-follow (noForm ∷ xs) k station h some = absurd h
 
+-- the line of the first shot that does not follow
+unlinked-at : (xs ys : List Form) (z : Form) (k : ℕ) (station : List ℕ) → Shots (xs ++ (z ∷ ys)) → Following station xs
+    → (Following station (xs ++ (z ∷ [])) → ⊥) → loop.unlinkedLine k station (xs ++ (z ∷ ys)) ≡ k + length xs
+unfolding Shots loop.unlinkedLine loop.linkCode loop.stationAfter Following
+unlinked-at [] ys (shot from to d b) k station h f unfollowed =
+    rw (link-follows station from) (go (follows station from) refl)
+  where
+    go : (t : Bool) → follows station from ≡ t → _≡_ {A = ℕ} (cond t (loop.unlinkedLine (k + 1) to ys) k) (k + 0)
+    go true e = absurd (unfollowed (e, tt))
+    go false e = omega arith
+unlinked-at [] ys (seeds a0 a1 a2 b0 b1 b2) k station h f unfollowed = absurd h
+unlinked-at [] ys (sigma d b) k station h f unfollowed = absurd h
+unlinked-at [] ys noForm k station h f unfollowed = absurd h
+unlinked-at (shot from to d b ∷ xs) ys z k station h f unfollowed =
+    let n : k + 1 + length xs ≡ k + suc (length xs) = omega arith in
+    rw (link-follows station from, f .0) (unlinked-at xs ys z (k + 1) to (h .4) (f .1) (λ g. unfollowed (f .0, g)) ∙ n)
+unlinked-at (seeds a0 a1 a2 b0 b1 b2 ∷ xs) ys z k station h f unfollowed = absurd h
+unlinked-at (sigma d b ∷ xs) ys z k station h f unfollowed = absurd h
+unlinked-at (noForm ∷ xs) ys z k station h f unfollowed = absurd h
+
 link-heads : (a0 a1 a2 b0 b1 b2 d b : ℕ) (ys : List Form) → Accepts 1 (seeds a0 a1 a2 b0 b1 b2 ∷ sigma d b ∷ ys)
     → (loop.unlinkedLine 1 [] (seeds a0 a1 a2 b0 b1 b2 ∷ sigma d b ∷ ys) ≡ 0) ↔ Following [] (seeds a0 a1 a2 b0 b1 b2 ∷ sigma d b ∷ ys)
 unfolding Accepts loop.unlinkedLine loop.linkCode loop.stationAfter Following
 link-heads a0 a1 a2 b0 b1 b2 d b ys a = linked-follow ys 3 [] (later-shots ys 3 (omega arith) (a .2 .2)) (omega arith)
 
 module _ (text bytes : List ℕ) (j : job.jobOf text ≡ job.listed bytes) where
-  linked-job : (loop.unlinkedLine 1 [] (loop.formsOf text) ≡ 0) ↔ Following [] (loop.formsOf text)
-  linked-job =
+  -- what holds of accepted lines by their first two holds of the lines of this text
+  by-forms : (P : List Form → Type 0)
+      → ((a0 a1 a2 b0 b1 b2 d b : ℕ) (ys : List Form) → Accepts 1 (seeds a0 a1 a2 b0 b1 b2 ∷ sigma d b ∷ ys) → P (seeds a0 a1 a2 b0 b1 b2 ∷ sigma d b ∷ ys))
+      → P (loop.formsOf text)
+  by-forms P heads =
       let (xs, a, n, t, _) = jobs.theorems .job-listed text bytes j in
       let read : loop.formsOf text ≡ xs = ap loop.formsOf (sym t) ∙ forms-read xs a in
-      rw read (by-heads (λ ys. (loop.unlinkedLine 1 [] ys ≡ 0) ↔ Following [] ys) link-heads xs a n)
+      rw read (by-heads P heads xs a n)
+
+  linked-job : (loop.unlinkedLine 1 [] (loop.formsOf text) ≡ 0) ↔ Following [] (loop.formsOf text)
+  linked-job = by-forms (λ ys. (loop.unlinkedLine 1 [] ys ≡ 0) ↔ Following [] ys) link-heads
 
   followed : Following [] (loop.formsOf text) → loop.loopOf text ≡ loop.accepted (loop.settingIn job.start (loop.formsOf text)) (loop.shotsIn (loop.formsOf text))
   unfolding loop.loopOf
@@ -258,6 +282,24 @@ module _ (text bytes : List ℕ) (j : job.jobOf text ≡ job.listed bytes) where
   not-followed : (Following [] (loop.formsOf text) → ⊥) → (line : ℕ) × (loop.loopOf text ≡ loop.refused 23 line)
   unfolding loop.loopOf
   not-followed f = (loop.unlinkedLine 1 [] (loop.formsOf text), rw (j, ne-eqb (loop.unlinkedLine 1 [] (loop.formsOf text)) 0 (λ e. f (linked-job .0 e))))
+
+  module _ (x y z : Form) (xs ys : List Form) (f : Following [] xs) (unfollowed : Following [] (xs ++ (z ∷ [])) → ⊥) where
+    -- shot z is the first that does not follow
+    At : List Form → Type 0
+    At ws = ws ≡ x ∷ y ∷ (xs ++ (z ∷ ys)) → loop.unlinkedLine 1 [] ws ≡ 3 + length xs
+
+    at-heads : (a0 a1 a2 b0 b1 b2 d b : ℕ) (ws : List Form) → Accepts 1 (seeds a0 a1 a2 b0 b1 b2 ∷ sigma d b ∷ ws)
+        → At (seeds a0 a1 a2 b0 b1 b2 ∷ sigma d b ∷ ws)
+    unfolding At Accepts loop.unlinkedLine loop.linkCode loop.stationAfter
+    at-heads a0 a1 a2 b0 b1 b2 d b ws a e =
+        let rest : ws ≡ xs ++ (z ∷ ys) = ap (drop 2) e in
+        rw rest (unlinked-at xs ys z 3 [] (rw rest at (later-shots ws 3 (omega arith) (a .2 .2))) f unfollowed)
+
+    first-unlinked : loop.formsOf text ≡ x ∷ y ∷ (xs ++ (z ∷ ys)) → loop.loopOf text ≡ loop.refused 23 (3 + length xs)
+    unfolding loop.loopOf At
+    first-unlinked e =
+        let line : loop.unlinkedLine 1 [] (loop.formsOf text) ≡ 3 + length xs = by-forms At at-heads e in
+        rw (j, line, ne-eqb (3 + length xs) 0 (λ z. omega (arith, z)))
 
 refused-job : (text : List ℕ) (code line : ℕ) → job.jobOf text ≡ job.refused code line → loop.loopOf text ≡ loop.refused code line
 unfolding loop.loopOf
@@ -268,6 +310,7 @@ theorems = record {
   refused-job = refused-job;
   followed = followed;
   not-followed = not-followed;
+  first-unlinked = λ text bytes j x y z xs ys e f unfollowed. first-unlinked text bytes j x y z xs ys f unfollowed e;
   few = λ text s l e. ready text s l e .few;
   kept = kept;
 }

@@ -1,8 +1,9 @@
 -- What a loop is, as theorems: the record below has a proof in proofs/Theorems.antt.
-use Prim.Native.Nat.{ℕ, _≤_}
+use Prim.Native.Nat.{ℕ, _+_, _≤_}
 use mathlib.Core.Path.{_≡_}
-use mathlib.Core.List.{List, [], map}
+use mathlib.Core.List.{List, [], _∷_, _++_, map}
 use lib.ListN.{length, take}
+use Rattle.job_lines.specs.Forms.{Form}
 use Rattle.job.specs.Job as job
 use Rattle.job.specs.declared.setting.Setting.{Setting}
 use Rattle.sums.specs.Sums.{Shot}
@@ -17,6 +18,10 @@ pub record Theorems : Type 0 where
       → loopOf text ≡ accepted (settingIn job.start (formsOf text)) (shotsIn (formsOf text))
   pub not-followed : (text bytes : List ℕ) → job.jobOf text ≡ job.listed bytes → (Following [] (formsOf text) → ⊥)
       → (line : ℕ) × (loopOf text ≡ refused 23 line)
+  -- "23 for the first shot that does not start where the last one ended, with its line in the job": z, where the shots before it follow each other
+  pub first-unlinked : (text bytes : List ℕ) → job.jobOf text ≡ job.listed bytes → (x y z : Form) (xs ys : List Form)
+      → formsOf text ≡ x ∷ y ∷ (xs ++ (z ∷ ys)) → Following [] xs → (Following [] (xs ++ (z ∷ [])) → ⊥)
+      → loopOf text ≡ refused 23 (3 + length xs)
   -- an accepted loop has at most 500 shots, and memory with room for them begins with them
   pub few : (text : List ℕ) (s : Setting) (l : List Shot) → loopOf text ≡ accepted s l → length l ≤ 500
   pub kept : (text memory : List ℕ) (s : Setting) (l : List Shot) → loopOf text ≡ accepted s l → length l ≤ length memory

@@ -25,9 +25,6 @@ again z = toZ w64 (ofZ w64 z)
 pub reads : (z : ℤ) → natAbs z < 2 ^ 63 → again z ≡ z
 reads = size-reads w64
 
-pub read-small : (z : ℤ) (n : ℕ) → natAbs z < n → n ≤ 2 ^ 63 → natAbs (again z) < n
-read-small z n h k = rw (reads z (omega arith)) h
-
 -- the sine and the cosine that were returned
 module _ {x y : ℤ} (v : ℕ) (e : (x, y) ≡ signedOf v) where
   pub read-turned : (again x ≡ sine v) × (again y ≡ cosine v)

@@ -1,23 +1,24 @@
 -- The theorems of specs/Theorems.antt.
 use Prim.Native.Nat.{ℕ, zero, suc, _+_, _*_, _≤_, _<_}
-use native.Mathlib.Nat.{mul-le-mul, mul-le-mul-right, le-refl}
+use native.Mathlib.Nat.{mul-le-mul, mul-le-mul-right, le-refl, lt-of-not-le}
 use native.Mathlib.Omega.{arith}
+use mathlib.Core.Logic.{_↔_}
 use mathlib.Core.Path.{_≡_, refl, sym, ap, ap₂, subst, _∙_}
 use mathlib.Core.Bool.{Bool, true, false, cond}
 use mathlib.Core.List.{List, [], _∷_, _++_, map}
 use lib.Dec.{eqb}
 use lib.IntN.{ℤ}
 use lib.ListN.{length, getD, length-map, length-append}
-use borrow.Author.Tests.{eqb-true}
+use borrow.Author.Tests.{eqb-true, eqb-false}
 use Rattle.streams.specs.declared.Generator.{Generator}
-use Rattle.streams.specs.Streams.{mostCount, countCode, after, seedOf, fresh}
+use Rattle.streams.specs.Streams.{mostCount, countCode, seedOf, fresh}
 use Rattle.streams.specs.Recurrence.{Sound, seedFrom}
 use Rattle.streams.proofs.Causes.{count-room}
 use Rattle.streams.proofs.Theorems.{after-moved, moved-sound, seeded, sound-accepted}
 use Rattle.box_muller.specs.Steps.{fractionBits}
 use Rattle.noise.specs.Noise.{samples}
 use Rattle.noise.proofs.Laws.{samples-words}
-use Rattle.job_lines.specs.Forms.{Form, seeds, sigma, shot, noForm, Printable}
+use Rattle.job_lines.specs.Forms.{Form, seeds, sigma, Printable}
 use Rattle.job_refusals.specs.Limits.{mostShots}
 use Rattle.job_refusals.specs.Refusals.{refusal}
 use Rattle.job_refusals.proofs.Theorems as refusals
@@ -36,10 +37,10 @@ use Rattle.misclosure.specs.Theorems as listings
 use Rattle.misclosure.proofs.Theorems as listingLaws
 use Rattle.read_back.specs.ReadBack.{Following}
 use Rattle.loop_reader.specs.Loop as loop
-use Rattle.loop_reader.proofs.Shots.{Shots, later-shots, few-lines, shots-count, setting-kept, by-heads}
+use Rattle.loop_reader.proofs.Shots.{Shots, later-shots, few-lines, setting-kept, by-heads}
 use Rattle.loop_reader.proofs.Theorems.{Within, Ready, ready, says, linked-follow, same-loop, not-accepted, refused-code}
-use Rattle.play.specs.Play.{ahead, playedShots, sumAt, missAt, missesFrom, roomFor, playOf, answerOf, missesAfter}
-use Rattle.play.specs.Private.{settingOf, unpackedAll, noisyShots}
+use Rattle.play.specs.Play.{playedShots, sumAt, missAt, missesFrom, roomFor, playOf, answerOf, missesAfter}
+use Rattle.play.specs.Private.{settingOf, noisyShots}
 use Rattle.play_back.specs.Theorems.{reseeded, IsMisclosure, codeOf, leaves, Theorems}
 use Rattle.play.proofs.Answered.{unpacked-are}
 use Rattle.play.proofs.Blocks.{played-are}
@@ -228,6 +229,24 @@ play-is text first runs j s l e more =
         (subst (λ (k : List Shot). Ready s k → countCode (s .generator) ((first + runs) * length k) ≡ 0 → IsMisclosure other s k j) r
         (subst (λ (u : Setting). Ready u m → countCode (u .generator) ((first + runs) * length m) ≡ 0 → IsMisclosure other u m j) q h) prepared room)
 
+-- of the lines of a job: its own seeds are those of its record
+Own : List Form → Type 0
+Own xs = reseeded (jobs.textOf xs) (loop.settingIn job.start xs .generator) ≡ jobs.textOf xs
+
+own-heads : (a0 a1 a2 b0 b1 b2 d b : ℕ) (ys : List Form) → jobs.Accepts 1 (seeds a0 a1 a2 b0 b1 b2 ∷ sigma d b ∷ ys)
+    → Own (seeds a0 a1 a2 b0 b1 b2 ∷ sigma d b ∷ ys)
+unfolding Own jobs.Accepts jobs.textOf loop.settingIn job.settingOn job.settingAfter
+own-heads a0 a1 a2 b0 b1 b2 d b ys a =
+    let s : Setting = settingOf (seedOf a0 a1 a2 b0 b1 b2 .next) d b in
+    rw (setting-kept ys s (later-shots ys 3 (omega arith) (a .2 .2)), seeds-sound a0 a1 a2 b0 b1 b2 (a .1) .0, after-first (seeds a0 a1 a2 b0 b1 b2) (sigma d b ∷ ys) (a .0))
+
+own-seeds : (text : List ℕ) (first runs : ℕ) (s : Setting) (l : List Shot) → playOf text first runs ≡ loop.accepted s l → reseeded text (s .generator) ≡ text
+unfolding playOf Own
+own-seeds text first runs s l e =
+    let w = says text s l (playable text (first + runs) s l (loop.loopOf text) e .0) in
+    let own : Own (w .forms) = by-heads Own own-heads (w .forms) (w .accepts) (w .enough) in
+    rw (w .said, w .setting) at own
+
 -- each element is the miss of the play of that number
 element : (s : Setting) (l : List Shot) (first runs i : ℕ) → i < runs → getD (missesFrom first runs s l) i [] ≡ missAt s l (first + i)
 unfolding missesFrom
@@ -236,6 +255,27 @@ element s l first (suc runs) zero h = let z : first ≡ first + 0 = omega arith 
 element s l first (suc runs) (suc i) h =
     let z : suc first + i ≡ first + suc i = omega arith in
     element s l (suc first) runs i (omega arith) ∙ ap (missAt s l) z
+
+-- ---- Refusals
+
+refused-loop : (text : List ℕ) (first runs code line : ℕ) → loop.loopOf text ≡ loop.refused code line → playOf text first runs ≡ loop.refused code line
+unfolding playOf
+refused-loop text first runs code line e = rw e
+
+just-13 : (text : List ℕ) (first : ℕ) (old : List (List ℤ)) (s : Setting) (l : List Shot) → loop.loopOf text ≡ loop.accepted s l
+    → (codeOf text first old ≡ 13) ↔ (18446744073709551615 < (first + length old) * length l)
+unfolding playOf
+just-13 text first old s l e = rw (codeOf, playOf, e) (by-test ((first + length old) * length l) _ refl)
+  where
+    by-test : (n : ℕ) (q : Bool) → eqb (countCode (s .generator) n) 0 ≡ q
+        → (answerOf (cond q (loop.accepted s l) (loop.refused 13 0)) .code ≡ 13) ↔ (mostCount < n)
+    by-test n true p = (
+      λ z. absurd (omega (arith, z)),
+      λ more. absurd (omega (arith, more, count-room (s .generator) n .0 (eqb-true _ 0 p))),
+    )
+    by-test n false p =
+        let nothing = ready text s l e .nothing in
+        (λ _. lt-of-not-le (λ (few : n ≤ mostCount). eqb-false _ 0 p (count-room (s .generator) n .1 (omega (arith, few, nothing)))), λ _. refl)
 
 -- ---- Plays joined
 
@@ -279,4 +319,4 @@ joined text first x y e =
     )
 
 pub theorems : Theorems
-theorems = record { element = element; play-is = play-is; joined = joined }
+theorems = record { element = element; play-is = play-is; own-seeds = own-seeds; refused-loop = refused-loop; just-13 = just-13; joined = joined }

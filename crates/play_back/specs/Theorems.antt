@@ -1,5 +1,6 @@
 -- What a play is, as theorems: the record below has a proof in proofs/Theorems.antt.
 use Prim.Native.Nat.{ℕ, _+_, _*_, _<_}
+use mathlib.Core.Logic.{_↔_}
 use mathlib.Core.Path.{_≡_}
 use mathlib.Core.Bool.{false}
 use mathlib.Core.List.{List, [], _++_}
@@ -13,7 +14,7 @@ use Rattle.job.specs.Job as job
 use Rattle.job.specs.declared.setting.Setting.{Setting}
 use Rattle.sums.specs.Sums.{Shot, sine, cosine, rounded}
 use Rattle.misclosure.specs.Misclosure.{listingOf, missOf}
-use Rattle.loop_reader.specs.Loop.{accepted}
+use Rattle.loop_reader.specs.Loop.{refused, accepted, loopOf}
 use Rattle.play.specs.Play.{ahead, sumAt, missAt, missesFrom, playOf, answerOf, missesAfter}
 
 -- the job with the same lines and, as seeds on line 1, the registers of a record, all 32 bits of each
@@ -47,6 +48,14 @@ pub record Theorems : Type 0 where
   -- "What play j gives is .. `misclosure` of the listing of the job with the same lines and, as seeds on line 1, the registers of that record"
   pub play-is : (text : List ℕ) (first runs j : ℕ) (s : Setting) (l : List Shot) → playOf text first runs ≡ accepted s l → j < first + runs
       → IsMisclosure text s l j
+  -- "Play j starts with the record j × (shots) pairs on from the job's seeds": the job of play 0 is the job itself
+  pub own-seeds : (text : List ℕ) (first runs : ℕ) (s : Setting) (l : List Shot) → playOf text first runs ≡ accepted s l
+      → reseeded text (s .generator) ≡ text
+  -- "Refused as the job is ..; once every line is accepted, 23": code and line are the loop's
+  pub refused-loop : (text : List ℕ) (first runs code line : ℕ) → loopOf text ≡ refused code line → playOf text first runs ≡ refused code line
+  -- "then 13 where the pairs of all plays up to first + runs would pass 2^64 - 1", and only there
+  pub just-13 : (text : List ℕ) (first : ℕ) (old : List (List ℤ)) (s : Setting) (l : List Shot) → loopOf text ≡ accepted s l
+      → (codeOf text first old ≡ 13) ↔ (18446744073709551615 < (first + length old) * length l)
   -- "the plays of first and n + m runs are those of n runs followed by those of m runs from first + n"
   pub joined : (text : List ℕ) (first : ℕ) (x y : List (List ℤ)) → codeOf text first (x ++ y) ≡ 0
       → (codeOf text first x ≡ 0) × (codeOf text (first + length x) y ≡ 0)

@@ -82,6 +82,17 @@ module _ (stop : ℕ → Bool) where
     unfolding upTo
     run-end h = rw (drop-of-length-le l {i = i} h)
 
+  -- a search for the first stop from `at` on that has come to i
+  module _ (l : List ℕ) (at i : ℕ) (e : at + length (upTo stop (drop at l)) ≡ i + length (upTo stop (drop i l))) where
+    pub search-stop : i < length l → stop (getD l i 0) ≡ true → i ≡ at + length (upTo stop (drop at l))
+    search-stop h t = omega (arith, e, ap length (run-stop l i h t))
+
+    pub search-step : i < length l → stop (getD l i 0) ≡ false → at + length (upTo stop (drop at l)) ≡ i + 1 + length (upTo stop (drop (i + 1) l))
+    search-step h t = omega (arith, e, ap length (run-ahead l i h t))
+
+    pub search-end : length l ≤ i → i ≡ at + length (upTo stop (drop at l))
+    search-end h = omega (arith, e, ap length (run-end l i h))
+
   -- a list is those bytes and what follows them
   pub run-rest : (l : List ℕ) → upTo stop l ++ drop (length (upTo stop l)) l ≡ l
   unfolding upTo

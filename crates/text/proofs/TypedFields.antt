@@ -10,7 +10,7 @@ use lib.Seq.{drop-cons}
 use Rattle.text.specs.Limits.{decimalBound}
 use Rattle.text.specs.Fields.{name, digitString, value, decimal}
 use Rattle.text.specs.Forms.{printForm, marks, readForm}
-use Rattle.text.specs.Theorems.{plain, allPlain, formed}
+use Rattle.text.specs.Theorems.{allPlain, formed}
 use Rattle.text.proofs.Decimal.{decimal-value, digit-string-below}
 use Rattle.text.proofs.Plain.{plains, no-plains, decimal-plain, name-plain}
 use Rattle.text.proofs.Forms.{read-count, read-printed, printed-read}

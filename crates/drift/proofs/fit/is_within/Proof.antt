@@ -7,9 +7,6 @@ use Rattle.drift.proofs.Signed.{beyond, inside}
 use Rattle.drift.proofs.fit.is_within.Statement.{statement}
 use Rattle.drift.proofs.fit.is_within.Tie as tie
 
-sub-if1 : tie.Need-sub-if1
-sub-if1 c = search needs
-
 returns : tie.Need-returns
 unfolding withinLimit
 returns c = beyond (mostSum - 1) (c .before .args .sum) (rw (toZ-ofZ (c .before .fits .sum)) at (c .if1 .taken))
@@ -19,4 +16,4 @@ unfolding withinLimit
 returns-2 c = rw (toZ-ofZ (c .before .fits .sum)) (inside (mostSum - 1) (c .before .args .sum) (rw (toZ-ofZ (c .before .fits .sum)) at (c .if1 .left)))
 
 pub is-within-spec : {M : Type 1} → statement M
-is-within-spec = tie.close (tie.spec sub-if1 returns returns-2)
+is-within-spec = tie.close (tie.spec (λ c. search needs) returns returns-2)

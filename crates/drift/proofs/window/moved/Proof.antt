@@ -14,26 +14,14 @@ use Rattle.drift.proofs.Fitness.{fit-true}
 use Rattle.drift.proofs.window.moved.Statement.{statement}
 use Rattle.drift.proofs.window.moved.Tie as tie
 
-mul-stored : tie.Need-mul-stored
-mul-stored c = search needs
-
 element-copy-out-stored : tie.Need-element-copy-out-stored
 element-copy-out-stored c = let f = fit-true _ _ _ _ _ (c .pre) in omega arith
-
-leaving-requires : tie.Need-leaving-requires
-leaving-requires c κs = search needs
 
 sums-after-requires : tie.Need-sums-after-requires
 sums-after-requires c κs = let f = fit-true _ _ _ _ _ (c .before .before .pre) in rw (toZ-ofZ (c .before .before .fits .sum), toZ-ofZ (c .before .before .fits .squares)) (f .sum-small, f .squares-small)
 
-mul-sample : tie.Need-mul-sample
-mul-sample c = search needs
-
 element-set-from-sample : tie.Need-element-set-from-sample
 element-set-from-sample c = let f = fit-true _ _ _ _ _ (c .before .before .before .pre) in omega arith
-
-held-after-requires : tie.Need-held-after-requires
-held-after-requires c κs = search needs
 
 place-after-requires : tie.Need-place-after-requires
 place-after-requires c κs = let f = fit-true _ _ _ _ _ (c .before .before .before .before .pre) in omega (arith, f .within, f .small)
@@ -62,15 +50,6 @@ returns c =
     (at-once w (a .sample) out after (c .before .before .held-after .ensures) (c .before .place-after .ensures), refl)
 
 pub moved-spec : {M : Type 1} → statement M
-moved-spec =
-    tie.close
-    (tie.spec
-    mul-stored
-    element-copy-out-stored
-    leaving-requires
-    sums-after-requires
-    mul-sample
-    element-set-from-sample
-    held-after-requires
-    place-after-requires
-    returns)
+moved-spec = tie.close
+    (tie.spec (λ c. search needs) element-copy-out-stored (λ c κs. search needs) sums-after-requires (λ c. search needs) element-set-from-sample
+    (λ c κs. search needs) place-after-requires returns)

@@ -19,26 +19,8 @@ Inv-loop places₀ samples last₀ i₀ places last i =
 abbrev μ-loop : tie.MeasureT-loop
 μ-loop places₀ samples last₀ i₀ places last i = length samples - i
 
-checked-requires : tie.Need-checked-requires Inv-loop μ-loop
-checked-requires c κs = search needs
-
 loop-holds : tie.Need-loop-holds Inv-loop μ-loop
 loop-holds c = search needs
-
-mul-sample : tie.Need-mul-sample Inv-loop μ-loop
-mul-sample c = search needs
-
-shared-slice-copy-out-sample : tie.Need-shared-slice-copy-out-sample Inv-loop μ-loop
-shared-slice-copy-out-sample c = search needs
-
-step-requires : tie.Need-step-requires Inv-loop μ-loop
-step-requires c κs = search needs
-
-add-i : tie.Need-add-i Inv-loop μ-loop
-add-i c = search needs
-
-loop-less : tie.Need-loop-less Inv-loop μ-loop
-loop-less c = search needs
 
 loop-again : tie.Need-loop-again Inv-loop μ-loop
 loop-again c =
@@ -58,17 +40,6 @@ returns c =
     (ap membersOf (last ∙ whole), ap (λ (r : WindowAnswer). r .window .places) (last ∙ whole))
 
 pub run-spec : {M : Type 1} → statement M
-run-spec =
-    tie.close
-    (tie.spec
-    Inv-loop
-    μ-loop
-    checked-requires
-    loop-holds
-    mul-sample
-    shared-slice-copy-out-sample
-    step-requires
-    add-i
-    loop-less
-    loop-again
-    returns)
+run-spec = tie.close
+    (tie.spec Inv-loop μ-loop (λ c κs. search needs) loop-holds (λ c. search needs) (λ c. search needs) (λ c κs. search needs) (λ c. search needs)
+    (λ c. search needs) loop-again returns)

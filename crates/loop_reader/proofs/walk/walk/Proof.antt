@@ -2,7 +2,6 @@
 use Prim.Native.Nat.{_-_}
 use native.Mathlib.Omega.{arith}
 use lib.ListN.{length}
-use borrow.Author.Needs.{needs}
 use Rattle.text.proofs.Split.{end-within}
 use Rattle.loop_reader.specs.Private.{Going}
 use Rattle.loop_reader.proofs.Going.{line-on, line-off, all-taken}

@@ -6,21 +6,6 @@ use Rattle.streams.proofs.Skip.{stream-ahead}
 use Rattle.streams.proofs.Generator.ahead.Statement.{statement}
 use Rattle.streams.proofs.Generator.ahead.Tie as tie
 
-step-matrices-requires : tie.Need-step-matrices-requires
-step-matrices-requires c κs = search needs
-
-powers-requires : tie.Need-powers-requires
-powers-requires c κs = search needs
-
-powers-requires-2 : tie.Need-powers-requires-2
-powers-requires-2 c κs = search needs
-
-powers-requires-3 : tie.Need-powers-requires-3
-powers-requires-3 c κs = search needs
-
-onward-requires : tie.Need-onward-requires
-onward-requires c κs = search needs
-
 returns : tie.Need-returns
 returns c =
     let start = c .before .before .before .before .before .before .before .before .before .before in
@@ -38,12 +23,5 @@ returns c =
     (λ i. ifAccepted (countCode g n) (onward g (a-ahead i) (b-ahead i) n) g)
 
 pub ahead-spec : {M : Type 1} → statement M
-ahead-spec =
-    tie.close
-    (tie.spec
-    step-matrices-requires
-    powers-requires
-    powers-requires-2
-    powers-requires-3
-    onward-requires
-    returns)
+ahead-spec = tie.close
+    (tie.spec (λ c κs. search needs) (λ c κs. search needs) (λ c κs. search needs) (λ c κs. search needs) (λ c κs. search needs) returns)

@@ -3,18 +3,8 @@ use borrow.Author.Needs.{needs}
 use Rattle.streams.proofs.Generator.call_code.Statement.{statement}
 use Rattle.streams.proofs.Generator.call_code.Tie as tie
 
-record-code-requires : tie.Need-record-code-requires
-record-code-requires c κs = search needs
-
-count-code-requires : tie.Need-count-code-requires
-count-code-requires c κs = search needs
-
-first-of-requires : tie.Need-first-of-requires
-first-of-requires c κs = search needs
-
 returns : tie.Need-returns
 returns c = rw (← c .before .before .record-code .ensures, ← c .before .count-code .ensures) (c .first-of .ensures)
 
 pub call-code-spec : {M : Type 1} → statement M
-call-code-spec =
-    tie.close (tie.spec record-code-requires count-code-requires first-of-requires returns)
+call-code-spec = tie.close (tie.spec (λ c κs. search needs) (λ c κs. search needs) (λ c κs. search needs) returns)

@@ -6,9 +6,6 @@ use Rattle.streams.proofs.Causes.{count-room, count-full}
 use Rattle.streams.proofs.Generator.count_code.Statement.{statement}
 use Rattle.streams.proofs.Generator.count_code.Tie as tie
 
-sub-if1 : tie.Need-sub-if1
-sub-if1 c = search needs
-
 returns : tie.Need-returns
 returns c = sym (count-full _ _ .1 (omega (arith, c .if1 .taken, c .before .before .good)))
 
@@ -16,4 +13,4 @@ returns-2 : tie.Need-returns-2
 returns-2 c = sym (count-room _ _ .1 (omega (arith, c .if1 .left, c .before .before .good)))
 
 pub count-code-spec : {M : Type 1} → statement M
-count-code-spec = tie.close (tie.spec sub-if1 returns returns-2)
+count-code-spec = tie.close (tie.spec (λ c. search needs) returns returns-2)

@@ -6,9 +6,6 @@ use Rattle.streams.proofs.Causes.{count-room}
 use Rattle.streams.proofs.Generator.onward.Statement.{statement}
 use Rattle.streams.proofs.Generator.onward.Tie as tie
 
-count-code-requires : tie.Need-count-code-requires
-count-code-requires c κs = search needs
-
 returns : tie.Need-returns
 returns c = rw (← c .before .count-code .ensures, ne-eqb _ _ (c .if1 .taken))
 
@@ -21,4 +18,4 @@ returns-2 : tie.Need-returns-2
 returns-2 c = rw (← c .before .before .count-code .ensures, c .before .if1 .left)
 
 pub onward-spec : {M : Type 1} → statement M
-onward-spec = tie.close (tie.spec count-code-requires returns add-next returns-2)
+onward-spec = tie.close (tie.spec (λ c κs. search needs) returns add-next returns-2)

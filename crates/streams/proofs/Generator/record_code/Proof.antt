@@ -5,15 +5,9 @@ use Rattle.streams.specs.Streams.{recordCode}
 use Rattle.streams.proofs.Generator.record_code.Statement.{statement}
 use Rattle.streams.proofs.Generator.record_code.Tie as tie
 
-is-fit-requires : tie.Need-is-fit-requires
-is-fit-requires c κs = search needs
-
 returns : tie.Need-returns
 unfolding recordCode
 returns c = rw (← c .before .is-fit .ensures, not-true (c .before .is-fit .result) (c .if1 .taken))
-
-is-fit-requires-2 : tie.Need-is-fit-requires-2
-is-fit-requires-2 c κs = search needs
 
 returns-2 : tie.Need-returns-2
 unfolding recordCode
@@ -24,5 +18,4 @@ unfolding recordCode
 returns-3 c = rw (← c .before .before .before .is-fit .ensures, not-false (c .before .before .before .is-fit .result) (c .before .before .if1 .left), ← c .before .is-fit2 .ensures, not-false (c .before .is-fit2 .result) (c .if2 .left))
 
 pub record-code-spec : {M : Type 1} → statement M
-record-code-spec =
-    tie.close (tie.spec is-fit-requires returns is-fit-requires-2 returns-2 returns-3)
+record-code-spec = tie.close (tie.spec (λ c κs. search needs) returns (λ c κs. search needs) returns-2 returns-3)

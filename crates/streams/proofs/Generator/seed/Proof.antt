@@ -7,20 +7,11 @@ use Rattle.streams.specs.Streams.{seedOf}
 use Rattle.streams.proofs.Generator.seed.Statement.{statement}
 use Rattle.streams.proofs.Generator.seed.Tie as tie
 
-fresh-record-requires : tie.Need-fresh-record-requires
-fresh-record-requires c κs = search needs
-
-record-code-requires : tie.Need-record-code-requires
-record-code-requires c κs = search needs
-
 returns : tie.Need-returns
 unfolding seedOf
 returns c =
     let code-is = rw (c .before .before .fresh-record .ensures) at (c .before .record-code .ensures) in
     rw (c .before .before .fresh-record .ensures, ← code-is, c .if1 .taken)
-
-fresh-record-requires-2 : tie.Need-fresh-record-requires-2
-fresh-record-requires-2 c κs = search needs
 
 returns-2 : tie.Need-returns-2
 unfolding seedOf
@@ -30,11 +21,4 @@ returns-2 c =
     (ap (λ (next : Generator). record { code = c .before .before .record-code .result; next = next }) (c .fresh-record2 .ensures))
 
 pub seed-spec : {M : Type 1} → statement M
-seed-spec =
-    tie.close
-    (tie.spec
-    fresh-record-requires
-    record-code-requires
-    returns
-    fresh-record-requires-2
-    returns-2)
+seed-spec = tie.close (tie.spec (λ c κs. search needs) (λ c κs. search needs) returns (λ c κs. search needs) returns-2)

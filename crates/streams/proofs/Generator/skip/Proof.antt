@@ -8,15 +8,9 @@ use Rattle.streams.proofs.Theorems.{sound, pairs-accepted, after-moved}
 use Rattle.streams.proofs.Generator.skip.Statement.{statement}
 use Rattle.streams.proofs.Generator.skip.Tie as tie
 
-pairs-code-requires : tie.Need-pairs-code-requires
-pairs-code-requires c κs = search needs
-
 returns : tie.Need-returns
 unfolding skipOf
 returns c = rw (← c .before .pairs-code .ensures, ne-eqb _ _ (c .if1 .taken))
-
-ahead-requires : tie.Need-ahead-requires
-ahead-requires c κs = search needs
 
 returns-2 : tie.Need-returns-2
 unfolding skipOf
@@ -29,4 +23,4 @@ returns-2 c =
     rw (next-is, ← c .before .before .pairs-code .ensures, c .before .if1 .left, reached)
 
 pub skip-spec : {M : Type 1} → statement M
-skip-spec = tie.close (tie.spec pairs-code-requires returns ahead-requires returns-2)
+skip-spec = tie.close (tie.spec (λ c κs. search needs) returns (λ c κs. search needs) returns-2)

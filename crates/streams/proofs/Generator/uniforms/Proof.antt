@@ -8,39 +8,9 @@ use Rattle.streams.proofs.Theorems.{pairs-accepted}
 use Rattle.streams.proofs.Generator.uniforms.Statement.{statement}
 use Rattle.streams.proofs.Generator.uniforms.Tie as tie
 
-pairs-code-requires : tie.Need-pairs-code-requires
-pairs-code-requires c κs = search needs
-
 returns : tie.Need-returns
 unfolding uniformsOf
 returns c = rw (← c .before .pairs-code .ensures, ne-eqb _ _ (c .if1 .taken))
-
-advanced-requires : tie.Need-advanced-requires
-advanced-requires c κs = search needs
-
-advanced-requires-2 : tie.Need-advanced-requires-2
-advanced-requires-2 c κs = search needs
-
-onward-requires : tie.Need-onward-requires
-onward-requires c κs = search needs
-
-word-requires : tie.Need-word-requires
-word-requires c κs = search needs
-
-cast-high : tie.Need-cast-high
-cast-high c = search needs
-
-word-requires-2 : tie.Need-word-requires-2
-word-requires-2 c κs = search needs
-
-mul-t10 : tie.Need-mul-t10
-mul-t10 c = search needs
-
-cast-t11 : tie.Need-cast-t11
-cast-t11 c = search needs
-
-add-t12 : tie.Need-add-t12
-add-t12 c = search needs
 
 returns-2 : tie.Need-returns-2
 unfolding uniformsOf
@@ -61,18 +31,6 @@ returns-2 c =
     )
 
 pub uniforms-spec : {M : Type 1} → statement M
-uniforms-spec =
-    tie.close
-    (tie.spec
-    pairs-code-requires
-    returns
-    advanced-requires
-    advanced-requires-2
-    onward-requires
-    word-requires
-    cast-high
-    word-requires-2
-    mul-t10
-    cast-t11
-    add-t12
-    returns-2)
+uniforms-spec = tie.close
+    (tie.spec (λ c κs. search needs) returns (λ c κs. search needs) (λ c κs. search needs) (λ c κs. search needs) (λ c κs. search needs)
+    (λ c. search needs) (λ c κs. search needs) (λ c. search needs) (λ c. search needs) (λ c. search needs) returns-2)

@@ -40,9 +40,6 @@ Inv-loop words s0₀ s1₀ s2₀ j₀ s0 s1 s2 j =
 abbrev μ-loop : tie.MeasureT-loop
 μ-loop words s0₀ s1₀ s2₀ j₀ s0 s1 s2 j = 32 - j
 
-unit-words-requires : tie.Need-unit-words-requires Inv-loop μ-loop
-unit-words-requires c κs = search needs
-
 loop-holds : tie.Need-loop-holds Inv-loop μ-loop
 loop-holds c = rw (c .unit-words .ensures) (refl, (size, (omega arith, (start, (start, start)))))
   where
@@ -51,39 +48,6 @@ loop-holds c = rw (c .unit-words .ensures) (refl, (size, (omega arith, (start, (
 
     start : {f : ℕ → ℕ} → Stepped f 0 (units 32) (units 32)
     start = record { size = size; done = refl }
-
-mul-word : tie.Need-mul-word Inv-loop μ-loop
-mul-word c = search needs
-
-array-read-word : tie.Need-array-read-word Inv-loop μ-loop
-array-read-word c = search needs
-
-advanced-requires : tie.Need-advanced-requires Inv-loop μ-loop
-advanced-requires c κs = search needs
-
-mul-s0 : tie.Need-mul-s0 Inv-loop μ-loop
-mul-s0 c = search needs
-
-array-write-s0 : tie.Need-array-write-s0 Inv-loop μ-loop
-array-write-s0 c = search needs
-
-mul-s1 : tie.Need-mul-s1 Inv-loop μ-loop
-mul-s1 c = search needs
-
-array-write-s1 : tie.Need-array-write-s1 Inv-loop μ-loop
-array-write-s1 c = search needs
-
-mul-s2 : tie.Need-mul-s2 Inv-loop μ-loop
-mul-s2 c = search needs
-
-array-write-s2 : tie.Need-array-write-s2 Inv-loop μ-loop
-array-write-s2 c = search needs
-
-add-j : tie.Need-add-j Inv-loop μ-loop
-add-j c = search needs
-
-loop-less : tie.Need-loop-less Inv-loop μ-loop
-loop-less c = search needs
 
 loop-again : tie.Need-loop-again Inv-loop μ-loop
 unfolding advance
@@ -113,23 +77,7 @@ returns c =
     λ i. record { s0 = ended r0 is given all i; s1 = ended r1 is given all i; s2 = ended r2 is given all i }
 
 pub step-matrices-spec : {M : Type 1} → statement M
-step-matrices-spec =
-    tie.close
-    (tie.spec
-    Inv-loop
-    μ-loop
-    unit-words-requires
-    loop-holds
-    mul-word
-    array-read-word
-    advanced-requires
-    mul-s0
-    array-write-s0
-    mul-s1
-    array-write-s1
-    mul-s2
-    array-write-s2
-    add-j
-    loop-less
-    loop-again
-    returns)
+step-matrices-spec = tie.close
+    (tie.spec Inv-loop μ-loop (λ c κs. search needs) loop-holds (λ c. search needs) (λ c. search needs) (λ c κs. search needs) (λ c. search needs)
+    (λ c. search needs) (λ c. search needs) (λ c. search needs) (λ c. search needs) (λ c. search needs) (λ c. search needs) (λ c. search needs)
+    loop-again returns)

@@ -11,24 +11,15 @@ returns c = let e = digit-string-short _ (c .if1 .taken) in record { ok = e; val
 returns-2 : tie.Need-returns-2
 returns-2 c = let e = digit-string-long _ (c .if2 .taken) in record { ok = e; value = rw (← e) }
 
-spelled-requires : tie.Need-spelled-requires
-spelled-requires c κs = search needs
-
 returns-3 : tie.Need-returns-3
 returns-3 c =
     let l = c .before .before .before .before .before .args .part .now in
     rw (← digit-string-digits l (omega arith) (omega arith) (λ h e. omega arith)) (c .spelled .ensures)
 
-shared-slice-read-if4 : tie.Need-shared-slice-read-if4
-shared-slice-read-if4 c = search needs
-
 returns-4 : tie.Need-returns-4
 returns-4 c =
     let l = c .before .before .before .before .before .before .args .part .now in
     let e = digit-string-zero l (omega arith) (c .if4 .taken) in record { ok = e; value = rw (← e) }
-
-spelled-requires-2 : tie.Need-spelled-requires-2
-spelled-requires-2 c κs = search needs
 
 returns-5 : tie.Need-returns-5
 returns-5 c =
@@ -36,14 +27,5 @@ returns-5 c =
     rw (← digit-string-digits l (omega arith) (omega arith) (λ h e. c .before .if4 .left e)) (c .spelled2 .ensures)
 
 pub digit-string-of-spec : {M : Type 1} → statement M
-digit-string-of-spec =
-    tie.close
-    (tie.spec
-    returns
-    returns-2
-    spelled-requires
-    returns-3
-    shared-slice-read-if4
-    returns-4
-    spelled-requires-2
-    returns-5)
+digit-string-of-spec = tie.close
+    (tie.spec returns returns-2 (λ c κs. search needs) returns-3 (λ c. search needs) returns-4 (λ c κs. search needs) returns-5)

@@ -10,12 +10,9 @@ returns : tie.Need-returns
 unfolding fewDigits
 returns c = rw (lt-leb _ _ (c .if1 .taken)) (record { ok = refl; value = refl })
 
-spelled-requires : tie.Need-spelled-requires
-spelled-requires c κs = search needs
-
 returns-2 : tie.Need-returns-2
 unfolding fewDigits
 returns-2 c = rw (le-leb _ _ (c .before .if1 .left)) (c .spelled .ensures)
 
 pub digits-value-spec : {M : Type 1} → statement M
-digits-value-spec = tie.close (tie.spec returns spelled-requires returns-2)
+digits-value-spec = tie.close (tie.spec returns (λ c κs. search needs) returns-2)

@@ -3,15 +3,9 @@ use Rattle.text.specs.Fields.{letterOrDigit, letter, digit}
 use Rattle.text.proofs.field.is_letter_or_digit.Statement.{statement}
 use Rattle.text.proofs.field.is_letter_or_digit.Tie as tie
 
-is-within-requires : tie.Need-is-within-requires
-is-within-requires c κs = tt
-
 returns : tie.Need-returns
 unfolding letterOrDigit letter digit
 returns c = rw (← c .before .is-within .ensures, c .if1 .taken)
-
-is-within-requires-2 : tie.Need-is-within-requires-2
-is-within-requires-2 c κs = tt
 
 returns-2 : tie.Need-returns-2
 unfolding letterOrDigit letter digit
@@ -22,9 +16,6 @@ returns-2 c = rw (
       c .before .is-within2 .ensures,
   c .if2 .taken,
 )
-
-is-within-requires-3 : tie.Need-is-within-requires-3
-is-within-requires-3 c κs = tt
 
 returns-3 : tie.Need-returns-3
 unfolding letterOrDigit letter digit
@@ -37,12 +28,4 @@ returns-3 c = rw (
 ) (c .is-within3 .ensures)
 
 pub is-letter-or-digit-spec : {M : Type 1} → statement M
-is-letter-or-digit-spec =
-    tie.close
-    (tie.spec
-    is-within-requires
-    returns
-    is-within-requires-2
-    returns-2
-    is-within-requires-3
-    returns-3)
+is-letter-or-digit-spec = tie.close (tie.spec (λ c κs. tt) returns (λ c κs. tt) returns-2 (λ c κs. tt) returns-3)

@@ -18,9 +18,6 @@ unfolding name
 returns-2 c = rw (lt-leb _ 12 (c .if2 .taken))
     (sym (rw (and-false (ltb 0 (length (c .before .before .before .args .part .now))))))
 
-only-letters-or-digits-requires : tie.Need-only-letters-or-digits-requires
-only-letters-or-digits-requires c κs = tt
-
 returns-3 : tie.Need-returns-3
 unfolding name
 returns-3 c = rw (
@@ -30,4 +27,4 @@ returns-3 c = rw (
 ) (c .only-letters-or-digits .ensures)
 
 pub is-name-spec : {M : Type 1} → statement M
-is-name-spec = tie.close (tie.spec returns returns-2 only-letters-or-digits-requires returns-3)
+is-name-spec = tie.close (tie.spec returns returns-2 (λ c κs. tt) returns-3)

@@ -22,12 +22,6 @@ abbrev μ-loop : tie.MeasureT-loop
 loop-holds : tie.Need-loop-holds Inv-loop μ-loop
 loop-holds c = search needs
 
-shared-slice-read-b : tie.Need-shared-slice-read-b Inv-loop μ-loop
-shared-slice-read-b c = search needs
-
-is-within-requires : tie.Need-is-within-requires Inv-loop μ-loop
-is-within-requires c κs = tt
-
 returns : tie.Need-returns Inv-loop μ-loop
 unfolding digit
 returns c =
@@ -66,12 +60,6 @@ cast-value c = omega (arith, in-range c .1)
 add-value : tie.Need-add-value Inv-loop μ-loop
 add-value c = omega (arith, more c .1, in-range c .1)
 
-add-i : tie.Need-add-i Inv-loop μ-loop
-add-i c = search needs
-
-loop-less : tie.Need-loop-less Inv-loop μ-loop
-loop-less c = search needs
-
 loop-again : tie.Need-loop-again Inv-loop μ-loop
 loop-again c =
     let at = c .before .before .before .before in
@@ -92,20 +80,6 @@ returns-2 c =
     }
 
 pub spelled-spec : {M : Type 1} → statement M
-spelled-spec =
-    tie.close
-    (tie.spec
-    Inv-loop
-    μ-loop
-    loop-holds
-    shared-slice-read-b
-    is-within-requires
-    returns
-    mul-value
-    sub-value
-    cast-value
-    add-value
-    add-i
-    loop-less
-    loop-again
-    returns-2)
+spelled-spec = tie.close
+    (tie.spec Inv-loop μ-loop loop-holds (λ c. search needs) (λ c κs. tt) returns mul-value sub-value cast-value add-value (λ c. search needs)
+    (λ c. search needs) loop-again returns-2)

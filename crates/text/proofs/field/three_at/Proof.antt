@@ -2,21 +2,6 @@
 use Rattle.text.proofs.field.three_at.Statement.{statement}
 use Rattle.text.proofs.field.three_at.Tie as tie
 
-digit-string-at-requires : tie.Need-digit-string-at-requires
-digit-string-at-requires c κs = tt
-
-digit-string-at-requires-2 : tie.Need-digit-string-at-requires-2
-digit-string-at-requires-2 c κs = tt
-
-digit-string-at-requires-3 : tie.Need-digit-string-at-requires-3
-digit-string-at-requires-3 c κs = tt
-
-both-requires : tie.Need-both-requires
-both-requires c κs = tt
-
-both-requires-2 : tie.Need-both-requires-2
-both-requires-2 c κs = tt
-
 returns : tie.Need-returns
 returns c =
     let x = c .before .before .before .before .digit-string-at .ensures in
@@ -30,12 +15,4 @@ returns c =
     }
 
 pub three-at-spec : {M : Type 1} → statement M
-three-at-spec =
-    tie.close
-    (tie.spec
-    digit-string-at-requires
-    digit-string-at-requires-2
-    digit-string-at-requires-3
-    both-requires
-    both-requires-2
-    returns)
+three-at-spec = tie.close (tie.spec (λ c κs. tt) (λ c κs. tt) (λ c κs. tt) (λ c κs. tt) (λ c κs. tt) returns)
