@@ -12,7 +12,7 @@
 # make dist             a release: an archive for each of them in target/dist, for people without the toolchain; TARGET=name makes one alone
 # make test             everything: the gate, every proof from nothing and the comparison with another implementation
 # make bench            times beside plain C and other generators
-# make datasheet        docs/DATASHEET.md with its numbers and pictures; [PART=speed] one part of the numbers alone
+# make datasheet        docs/DATASHEET.md with its numbers and pictures, and as a PDF, target/datasheet/datasheet.pdf; [PART=speed] one part of the numbers alone
 # make clean            removes what was built; proofs and the proved library stay
 # make help             prints these lines
 
