@@ -7,6 +7,9 @@ use mathlib.Core.Bool.{true≢false}
 use mathlib.Core.List.{List}
 use lib.IntN.{ℤ, pos, negsuc, natAbs}
 use lib.ListN.{length, take, drop, replicate}
+use mir.Syntax.{w16}
+use mir.Val.{SFits, toZ, ofZ}
+use mir.Facts.{toZ-ofZ}
 use borrow.Author.Tests.{ltb-false}
 use Rattle.streams.specs.declared.Generator.{Generator}
 use Rattle.noise.proofs.Theorems.{pair-sizes}
@@ -109,17 +112,18 @@ pub printing : (s : State) (l : List ℕ) → Ready s → refusal (s .line) (rea
 printing s l r e =
     record { accepted = e; row = steps (s .line) l (s .setting) (r .steady) e .row; short = r .short }
 
--- the row of a shot, from its parts
+-- the row of a shot, from its parts; the samples as 16 bits hold them
 module _ (line : List ℕ) (x : ShotFields) (distance bearing : ℕ) (pair : PairAnswer) (from to : List ℕ) (mm step : ℕ)
     (f : from ≡ partOf line (x .from)) (t : to ≡ partOf line (x .to))
-    (m : mm ≡ noisyDistance distance (x .distance) (pair .first)) (s : step ≡ noisyBearing bearing (x .bearing) (pair .second))
+    (first : SFits w16 (pair .first)) (m : mm ≡ noisyDistance distance (x .distance) (toZ w16 (ofZ w16 (pair .first))))
+    (second : SFits w16 (pair .second)) (s : step ≡ noisyBearing bearing (x .bearing) (toZ w16 (ofZ w16 (pair .second))))
     (short : length (rowOf line x distance bearing pair) ≤ rowRoom) where
   abbrev bytes : List ℕ
   bytes = rowOf line x distance bearing pair
 
   same-row : shotRow from to mm step ≡ bytes
   unfolding noisyRow
-  same-row = rw (f, t, m, s)
+  same-row = rw (f, t, m, toZ-ofZ first, s, toZ-ofZ second)
 
   -- measured, where nothing of it fits
   pub row-measured : (out : List ℕ) (used n : ℕ) → n ≡ min (length (shotRow from to mm step)) rowRoom → length out ≤ used
