@@ -150,8 +150,8 @@ uint32_t jabulghi_take18(jabulghi_record *record, int32_t *block, size_t length)
 
 /* The listing of a job's text, its line and its length. Accepted, line is 0 and the first length bytes of listing are the listing;
  * the bytes beyond it keep their contents. Refused (5 to 12), length is 0, line is the bad line or the missing one, or 0 for 5 and
- * 10, and listing stays. A listing has at most 20,024 bytes; with less room than JABULGHI_LISTING_ROOM it is measured first,
- * which on x86-64 took about 1.3 times as long. */
+ * 10, and listing stays. A listing has at most 20,024 bytes; with less room than that it is measured first, which on
+ * x86-64 took 1.2 to 1.3 times as long. */
 uint32_t jabulghi_list(const uint8_t *text, size_t text_length, uint8_t *listing, size_t listing_length, uint32_t *line, size_t *length);
 
 /* A window that the caller keeps, for a drift display: the sum and the sum of squares of the latest N samples. size is N, from 1 to 4096, held how many

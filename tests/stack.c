@@ -77,7 +77,7 @@ static void block18(void) { jabulghi_block18(&record, samples18, 4096); }
 static void look18(void) { jabulghi_look18(&record, samples18, 4096); }
 static void take18(void) { jabulghi_take18(&record, samples18, 4096); }
 static void list(void) { jabulghi_list(text, text_length, listing, sizeof listing, &line, &length); }
-static void list_measured(void) { jabulghi_list(text, text_length, listing, sizeof listing - 1, &line, &length); }
+static void list_measured(void) { jabulghi_list(text, text_length, listing, 20023, &line, &length); } /* a byte less than the longest listing */
 static void legs(void) { jabulghi_legs(text, text_length, shots, sizeof shots, &line_of_legs, &length); }
 static void misclosure(void) { jabulghi_misclosure(text, text_length, sums, millimetres, &line); }
 static void intervals(void) { jabulghi_intervals(text, text_length, sums, millimetres, &line); }

@@ -36,6 +36,11 @@ sets-out : (d : List ℕ) (at : ℕ) (s : List ℕ) → length d ≤ at → sets
 sets-out d at [] h = refl
 sets-out d at (x ∷ s) h = rw (set-out d at x h) (sets-out d (suc at) s (omega arith))
 
+-- bytes beyond the end
+pub written-out : (d : List ℕ) (at : ℕ) (s : List ℕ) → length d ≤ at → written d at s ≡ d
+unfolding written
+written-out d at s h = sets-out d at s h
+
 pub written-length : (d : List ℕ) (at : ℕ) (s : List ℕ) → length (written d at s) ≡ length d
 unfolding written
 written-length d at s = length-sets d at s

@@ -2,6 +2,7 @@
 ghost use Prim.Native.Nat.{_-_, min};
 ghost use mathlib.Core.Path.{_≡_};
 ghost use mathlib.Core.List.{[], _∷_, _++_};
+ghost use lib.ListN.{length};
 ghost use Rattle.text.specs.Fields.{decimal};
 ghost use Rattle.buffer.specs.Buffer.{Puts};
 ghost use Rattle.buffer.specs.Private.{SpelledIn};
@@ -64,6 +65,14 @@ fn digits_of(n: u64) -> Digits
     from -= 1;
     bytes[from] = b'0' + rest as u8;
     Digits { from, bytes }
+}
+
+// How many digits a number has.
+pub fn decimal_length(n: u64) -> usize
+    ensures { λ r. ⌜ r ≡ length (decimal n) ⌝ }
+{
+    let digits = digits_of(n);
+    20 - digits.from
 }
 
 // A number in decimal and the byte that ends it.

@@ -1,12 +1,15 @@
 -- What an accepted line keeps within bounds: the lines, the sigmas and the listing's length.
-use Prim.Native.Nat.{ℕ, _+_, _-_, _*_, _/_, _≤_, _<_}
+use Prim.Native.Nat.{ℕ, _+_, _-_, _*_, _/_, _≤_, _<_, min}
 use native.Mathlib.Omega.{arith}
 use native.Mathlib.Nat.{mul-le-mul}
-use mathlib.Core.Path.{_≡_, refl}
+use mathlib.Core.Path.{_≡_, refl, sym, ap}
 use mathlib.Core.Bool.{true≢false}
 use mathlib.Core.List.{List}
 use lib.IntN.{ℤ, pos, negsuc, natAbs}
 use lib.ListN.{length, take, drop, replicate}
+use mir.Syntax.{w16}
+use mir.Val.{SFits, toZ, ofZ}
+use mir.Facts.{toZ-ofZ}
 use borrow.Author.Tests.{ltb-false}
 use Rattle.streams.specs.declared.Generator.{Generator}
 use Rattle.noise.proofs.Theorems.{pair-sizes}
@@ -14,14 +17,15 @@ use Rattle.box_muller.specs.Steps.{fractionBits}
 use Rattle.noise.specs.Noise.{pairOf}
 use Rattle.noise.specs.declared.PairAnswer.{PairAnswer}
 use Rattle.job_refusals.specs.Limits.{lastLine, mostSigma, mostDistance, mostBearing}
-use Rattle.job_lines.specs.Forms.{Form, seeds, sigma, shot, noForm, shotIn, readLine}
+use Rattle.job_lines.specs.Forms.{Form, seeds, sigma, shot, noForm, readLine}
 use Rattle.job_lines.specs.declared.Shot.{Shot as ShotFields}
-use Rattle.buffer.specs.Buffer.{Puts}
-use Rattle.buffer.proofs.Writing.{room-holds}
+use Rattle.buffer.specs.Buffer.{written, positionAfter, Puts}
+use Rattle.buffer.proofs.Writing.{written-out, room-holds}
 use Rattle.listing_writer.specs.declared.Row.{Row}
 use Rattle.listing_writer.specs.Rounding.{noiseSize, noisyDistance, noisyBearing}
 use Rattle.listing_writer.specs.Listing.{shotRow, endRow, noisyRow, rowRoom}
 use Rattle.text.specs.Limits.{nameLength}
+use Rattle.text.specs.Fields.{partOf}
 use Rattle.text.proofs.Decimal.{decimal-length}
 use Rattle.job.specs.Private.{Steady, rowOf, Ready, Printing}
 use Rattle.job_refusals.specs.Refusals.{formless, misplaced, refusal}
@@ -108,11 +112,34 @@ pub printing : (s : State) (l : List ℕ) → Ready s → refusal (s .line) (rea
 printing s l r e =
     record { accepted = e; row = steps (s .line) l (s .setting) (r .steady) e .row; short = r .short }
 
--- the row of a shot holds all that is printed
-pub row-holds : (s : State) (line : List ℕ) (x : ShotFields) (pair : PairAnswer) (row : Row) → pair ≡ pairOf fractionBits (s .setting .generator)
-    → Printing s (shotIn line x) → Puts (replicate rowRoom 0) 0 (rowOf line x (s .setting .distance) (s .setting .bearing) pair) (row .length) (row .bytes)
-    → (row .length ≡ length (printed (shotIn line x) (s .setting))) × (take (row .length - 0) (drop 0 (row .bytes)) ≡ printed (shotIn line x) (s .setting))
-unfolding printed
-row-holds s line x pair row e p h =
-    let g : Puts (replicate rowRoom 0) 0 (printed (shotIn line x) (s .setting)) (row .length) (row .bytes) = rw (← e) h in
-    room-holds rowRoom (printed (shotIn line x) (s .setting)) g (p .row)
+-- the row of a shot, from its parts; the samples as 16 bits hold them
+module _ (line : List ℕ) (x : ShotFields) (distance bearing : ℕ) (pair : PairAnswer) (from to : List ℕ) (mm step : ℕ)
+    (f : from ≡ partOf line (x .from)) (t : to ≡ partOf line (x .to))
+    (first : SFits w16 (pair .first)) (m : mm ≡ noisyDistance distance (x .distance) (toZ w16 (ofZ w16 (pair .first))))
+    (second : SFits w16 (pair .second)) (s : step ≡ noisyBearing bearing (x .bearing) (toZ w16 (ofZ w16 (pair .second))))
+    (short : length (rowOf line x distance bearing pair) ≤ rowRoom) where
+  abbrev bytes : List ℕ
+  bytes = rowOf line x distance bearing pair
+
+  same-row : shotRow from to mm step ≡ bytes
+  unfolding noisyRow
+  same-row = rw (f, t, m, toZ-ofZ first, s, toZ-ofZ second)
+
+  -- measured, where nothing of it fits
+  pub row-measured : (out : List ℕ) (used n : ℕ) → n ≡ min (length (shotRow from to mm step)) rowRoom → length out ≤ used
+      → (used + n ≡ used + length bytes) × (out ≡ written out used bytes)
+  row-measured out used n e h = (omega (arith, e, ap length same-row, short), sym (written-out out used bytes h))
+
+  -- and made
+  pub row-added : (row : Row) (out out′ : List ℕ) (used n : ℕ) → Puts (replicate rowRoom 0) 0 (shotRow from to mm step) (row .length) (row .bytes)
+      → (n ≡ used + row .length) × (out′ ≡ written out used (take (row .length - 0) (drop 0 (row .bytes))))
+      → (n ≡ used + length bytes) × (out′ ≡ written out used bytes)
+  row-added row out out′ used n p a =
+      let q : Puts (replicate rowRoom 0) 0 bytes (row .length) (row .bytes) = rw (← same-row) p in
+      let k = room-holds rowRoom bytes q short in
+      rw (← k .0, ← k .1) a
+
+-- a row that was put into its room
+pub row-within : (row : Row) (s : List ℕ) → Puts (replicate rowRoom 0) 0 s (row .length) (row .bytes) → row .length ≤ rowRoom
+unfolding positionAfter
+row-within row s p = omega (arith, p .0)

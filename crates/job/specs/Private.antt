@@ -70,6 +70,12 @@ pub record Adds (used : ℕ) (row : Row) : Type 0 where
   pub whole : row .length ≤ length (row .bytes)
   pub room : row .length ≤ rowRoom
 
+-- a listing so far, and a shot within its ranges with that row
+pub record AddsShot (used : ℕ) (x : ShotFields) (row : List ℕ) : Type 0 where
+  pub short : used ≤ listingRoom
+  pub ranged : Ranged x
+  pub room : length row ≤ rowRoom
+
 -- a line that is accepted, and what it prints is no longer than a row
 pub record Printing (s : State) (x : Form) : Type 0 where
   pub accepted : refusal (s .line) x ≡ 0

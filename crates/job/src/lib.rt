@@ -6,7 +6,7 @@ mod walk;
 
 use crate::walk::write_listing;
 use job_refusals::first_bad::first_bad;
-use job_refusals::limits::LISTING_ROOM;
+use job_refusals::limits::LONGEST_LISTING;
 use job_refusals::limits::MOST_BYTES;
 use listing_writer::put_refused;
 ghost use Prim.Native.Nat.{_≤_};
@@ -38,7 +38,7 @@ fn refused_job(code: u32, line: u32) -> JobAnswer
 fn decide(text: &[u8], room: usize) -> JobAnswer
     ensures { λ r. ⌜ Decided (listingOf (now (text .entry))) room r ⌝ }
 {
-    if LISTING_ROOM <= room {
+    if LONGEST_LISTING <= room {
         let bad = first_bad(text);
         return refused_job(bad.code, bad.line);
     }

@@ -1,8 +1,7 @@
 // A job, line by line: what each accepted line does to the state.
 use crate::setting::Setting;
 use crate::setting::settle;
-use crate::shot::add_row;
-use crate::shot::noisy_row;
+use crate::shot::add_shot;
 use job_lines::Line;
 use job_lines::Shot;
 use job_lines::read_line;
@@ -55,8 +54,7 @@ fn on_shot(line: &[u8], x: Shot, s: State, out: &mut [u8]) -> State
     let old = s.setting;
     let generator = old.generator;
     let pair = noise::pair(generator);
-    let row = noisy_row(line, x, old.distance, old.bearing, pair);
-    let used = add_row(out, s.used, row);
+    let used = add_shot(out, s.used, line, x, old, pair);
     let moved = pair.next;
     let setting = Setting {
         generator: moved,

@@ -13,7 +13,7 @@ use Rattle.text.specs.Scan.{oneOf}
 use Rattle.text.specs.Forms.{printForm, marks, readForm}
 use Rattle.text.specs.Theorems.{formed, startsSeparate}
 use Rattle.text.proofs.Decimal.{digit-string-decimal, value-decimal}
-use Rattle.text.proofs.Forms.{read-byte, print-byte, starts-same, starts-other}
+use Rattle.text.proofs.Forms.{read-byte, print-byte, starts-same, starts-other, printed-read as printed-form}
 use Rattle.text.proofs.Tests.{Tests, test, _and_, holds, Each, each}
 use Rattle.text.proofs.TypedFields.{Field, named, counted, allShown, read-back, aName, aNumber, printed-back}
 use Rattle.job_lines.specs.Forms.{
@@ -76,6 +76,10 @@ seeds-shot vs = third 101 104 _ _ vs refl refl refl
 sigma-shot : (vs : List (List ℕ)) → readForm sigmaForm (printForm shotForm vs) ≡ none
 unfolding sigmaForm shotForm
 sigma-shot vs = third 105 104 _ _ vs refl refl refl
+
+-- so a line of the shot form is of neither other form
+pub shot-alone : (l : List ℕ) (vs : List (List ℕ)) → readForm shotForm l ≡ some vs → (readForm seedsForm l ≡ none) × (readForm sigmaForm l ≡ none)
+shot-alone l vs e = rw (← printed-form shotForm l vs e) (seeds-shot vs, sigma-shot vs)
 
 all-formed : (formed seedsForm ≡ true) × (formed sigmaForm ≡ true) × (formed shotForm ≡ true)
 unfolding formed startsSeparate seedsForm sigmaForm shotForm oneOf

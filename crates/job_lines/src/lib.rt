@@ -102,11 +102,15 @@ fn shot_line(line: &[u8], c: Found) -> Line
     })
 }
 
-// What a line, with its line feed, says.
+// What a line, with its line feed, says. No line is of two forms, and most are shots.
 pub fn read_line(line: &[u8]) -> Line
     ensures { λ r. ⌜ said (now (line .entry)) r ≡ readLine (now (line .entry)) ⌝ }
     ensures { λ r. ⌜ r ≡ lineIn (now (line .entry)) (readLine (now (line .entry))) ⌝ }
 {
+    let shot = read_form(b"(shot # # # #)\n", line);
+    if shot.ok {
+        return shot_line(line, shot);
+    }
     let seeds = read_form(b"(seeds (a # # #) (b # # #))\n", line);
     if seeds.ok {
         return seeds_line(line, seeds);
@@ -114,10 +118,6 @@ pub fn read_line(line: &[u8]) -> Line
     let sigma = read_form(b"(sigma # #)\n", line);
     if sigma.ok {
         return sigma_line(line, sigma);
-    }
-    let shot = read_form(b"(shot # # # #)\n", line);
-    if shot.ok {
-        return shot_line(line, shot);
     }
     Line::NoForm
 }

@@ -1,10 +1,11 @@
 // The rows of a listing, and the noise on a shot's distance and bearing (document 01, "A job and its listing"). The header and the one
 // line of a refused text are written into the caller's buffer; the rows between stand by themselves, with their lengths.
+use buffer::decimal_length;
 use buffer::put;
 use buffer::put_decimal;
 use buffer::put_field;
 ghost use mathlib.Core.Path.{_≡_};
-ghost use Prim.Native.Nat.{_^_, _≤_, _<_};
+ghost use Prim.Native.Nat.{_^_, _≤_, _<_, min};
 ghost use lib.IntN.{natAbs};
 ghost use lib.ListN.{length, replicate};
 ghost use Rattle.buffer.specs.Buffer.{Puts};
@@ -73,6 +74,21 @@ pub fn shot_row(from: &[u8], to: &[u8], mm: u64, step: u64) -> Row
     let mut bytes = [0u8; ROW_ROOM];
     let length = put_shot(&mut bytes, from, to, mm, step);
     Row { length, bytes }
+}
+
+// The length of that row.
+pub fn row_length(from: &[u8], to: &[u8], mm: u64, step: u64) -> usize
+    ensures { λ r. ⌜ r ≡ min (length (shotRow (now (from .entry)) (now (to .entry)) mm step)) rowRoom ⌝ }
+{
+    let names = from.len() + to.len();
+    if ROW_ROOM < names {
+        return ROW_ROOM;
+    }
+    let length = names + decimal_length(mm) + decimal_length(step) + 4;
+    if ROW_ROOM < length {
+        return ROW_ROOM;
+    }
+    length
 }
 
 // The length of the header.
