@@ -155,21 +155,3 @@ ended {f} {out₀} {out} {u} {state} {place} r all =
       now-at = subst (λ (n : ℕ). LanesAfter (n / 2) u state) whole (r .now-at);
       written = sym (take-all place out (omega (arith, r .kept))) ∙ r .done ∙ rw whole;
     }
-
--- ---- Of an accepted record
-
--- what its streams give side by side are the samples of its pairs, and then the record after them
-module _ (f n : ℕ) (g : Generator) {u state : Lanes} {out : List ℤ} (range-a : InRange (g .a)) (range-b : InRange (g .b)) (accepted : pairsCode g n ≡ 0)
-    (same : (upper u ≡ g .a) × (lower u ≡ g .b)) (drawn : LanesDrawn f n u state out) where
-  reached : Sound g
-  reached = sound g range-a range-b (pairs-accepted g n .0 accepted .0)
-
-  pub drawn-samples : out ≡ samples f n g
-  drawn-samples =
-      let (_, room, none) = pairs-accepted g n .0 accepted in
-      drawn .written ∙ rw (same .0, same .1) (sym (samples-words f n g reached none room))
-
-  pub drawn-pairs : {next : Generator} → next ≡ onward g (upper state) (lower state) n → PairsDrawn f n g next out
-  drawn-pairs next-is =
-      let (_, room, none) = pairs-accepted g n .0 accepted in
-      (next-is ∙ rw (drawn .now-at .a-at, drawn .now-at .b-at, same .0, same .1) (sym (after-moved n g reached none room)), drawn-samples)
