@@ -9,11 +9,8 @@ use lib.Seq.{take-append-add, take-at, take-all}
 use borrow.Rule.Slice.PartMut.{putMid, postOf, same-len-mid}
 use Rattle.bit_matrix.specs.Matrices.{repeat}
 use Rattle.bit_matrix.proofs.Theorems.{repeat-add}
-use Rattle.streams.specs.declared.Generator.{Generator}
 use Rattle.streams.specs.declared.Stream.{Stream}
-use Rattle.streams.specs.Streams.{advance, onward, pairsCode}
-use Rattle.streams.specs.Recurrence.{InRange, Sound}
-use Rattle.streams.proofs.Theorems.{sound, pairs-accepted, after-moved}
+use Rattle.streams.specs.Streams.{advance}
 use Rattle.lanes.specs.declared.Lanes.{Lanes}
 use Rattle.lanes.specs.Lanes.{upper, lower, words, LanesAfter}
 use Rattle.lanes.proofs.Theorems.{words-add, length-words}
@@ -21,9 +18,7 @@ use Rattle.box_muller.specs.Steps.{fractionBits}
 use Rattle.box_muller.proofs.RoundingLaws.{first-small, second-small}
 use Rattle.sample.specs.Chunk.{chunkLength, chunkHolds, samplesAt}
 use Rattle.sample.proofs.ChunkLaws.{chunk-held, samples-append, samples-length}
-use Rattle.noise.specs.Noise.{samples}
-use Rattle.noise.specs.Private.{chunkSamples, LanesDrawn, PairsDrawn, Small}
-use Rattle.noise.proofs.Laws.{samples-words}
+use Rattle.noise.specs.Private.{chunkSamples, LanesDrawn, Small}
 
 -- ---- One chunk
 

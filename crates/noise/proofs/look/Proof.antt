@@ -14,8 +14,9 @@ chunks-requires c κs = block-even _ _ (c .before .before .before .block-code .e
 returns-2 : tie.Need-returns-2
 returns-2 c =
     let tested = c .before .before .before .before in
-    let free = tested .before .before .without-note in
-    look-drawn _ _ _ (free .ensures) (tested .before .block-code .ensures) (tested .if1 .left) (omega (arith, free .ok))
+    let cleared = tested .before .before in
+    let free = cleared .without-note in
+    look-drawn _ (cleared .before .args .g) _ (free .ensures) (tested .before .block-code .ensures) (tested .if1 .left) (omega (arith, free .ok))
     (c .before .before .before .side-by-side .ensures) (c .before .chunks .ensures)
 
 pub look-spec : {M : Type 1} → statement M
