@@ -19,7 +19,6 @@ returns c =
     narrow-drawn _ _ (made .before .before .pre) (made .chunk .ensures) (c .before .narrowed .ensures)
 
 pub chunk16-spec : {M : Type 1} → statement M
-chunk16-spec =
-    tie.close
+chunk16-spec = tie.close
     (tie.spec (λ c. search needs) (λ c. search needs) (λ c. search needs) chunk-requires (λ c. search needs) (λ c. search needs) part-narrowed-end
     narrowed-requires (λ c. search needs) returns)

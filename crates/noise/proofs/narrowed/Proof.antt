@@ -68,7 +68,6 @@ returns c =
     ∙ take-all i (start .args .samples .now) (omega (arith, c .loop-test .left, inv .kept, start .pre .0))
 
 pub narrowed-spec : {M : Type 1} → statement M
-narrowed-spec =
-    tie.close
+narrowed-spec = tie.close
     (tie.spec Inv-loop μ-loop loop-holds (λ c. search needs) inside cast-sample (λ c. search needs) (λ c. search needs) (λ c. search needs)
     loop-less loop-again same-length returns)

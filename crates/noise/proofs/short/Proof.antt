@@ -14,6 +14,5 @@ returns c =
     words-drawn _ (start .args .out .now) (start .pre) (c .before .before .draw-samples .ensures)
 
 pub short-spec : {M : Type 1} → statement M
-short-spec =
-    tie.close
+short-spec = tie.close
     (tie.spec (λ c. search needs) (λ c. search needs) (λ c. search needs) draw-samples-requires (λ c. search needs) returns)

@@ -19,7 +19,6 @@ returns c =
     narrow-drawn _ _ (made .before .before .pre) (made .short .ensures) (c .before .narrowed .ensures)
 
 pub short16-spec : {M : Type 1} → statement M
-short16-spec =
-    tie.close
+short16-spec = tie.close
     (tie.spec (λ c. search needs) (λ c. search needs) (λ c. search needs) short-requires (λ c. search needs) (λ c. search needs) part-narrowed-end
     narrowed-requires (λ c. search needs) returns)

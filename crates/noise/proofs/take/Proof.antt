@@ -21,10 +21,9 @@ returns-2 c =
     let cleared = c .before .before .before .before .before in
     let coded = cleared .before .before in
     let free = cleared .without-note in
-    take-drawn _ (coded .before .args .g) _ (coded .take-code .ensures) _ (cleared .before .if1 .left) (free .ensures) (omega (arith, free .ok))
-    (c .before .before .before .before .side-by-side .ensures) (c .before .before .chunks .ensures) (c .onward .ensures)
+    take-drawn _ (coded .before .args .g) _ (coded .take-code .ensures) _ (cleared .before .if1 .left) (free .ensures)
+    (omega (arith, free .ok), c .before .before .before .before .side-by-side .ensures, c .before .before .chunks .ensures) (c .onward .ensures)
 
 pub take-spec : {M : Type 1} → statement M
-take-spec =
-    tie.close
+take-spec = tie.close
     (tie.spec (λ c κs. search needs) returns (λ c κs. search needs) (λ c κs. search needs) chunks-requires onward-requires (λ c. search needs) returns-2)

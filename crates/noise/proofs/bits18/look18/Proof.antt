@@ -16,10 +16,9 @@ returns-2 c =
     let tested = c .before .before .before .before in
     let cleared = tested .before .before in
     let free = cleared .without-note in
-    look-drawn _ (cleared .before .args .g) _ (free .ensures) (tested .before .block-code .ensures) (tested .if1 .left) (omega (arith, free .ok))
-    (c .before .before .before .side-by-side .ensures) (c .before .chunks18 .ensures)
+    look-drawn _ (cleared .before .args .g) _ (free .ensures) (tested .before .block-code .ensures) (tested .if1 .left)
+    (omega (arith, free .ok), c .before .before .before .side-by-side .ensures, c .before .chunks18 .ensures)
 
 pub look18-spec : {M : Type 1} → statement M
-look18-spec =
-    tie.close
+look18-spec = tie.close
     (tie.spec (λ c κs. search needs) (λ c κs. search needs) returns (λ c κs. search needs) chunks18-requires (λ c. search needs) returns-2)

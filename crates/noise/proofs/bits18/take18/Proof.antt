@@ -21,10 +21,9 @@ returns-2 c =
     let cleared = c .before .before .before .before .before in
     let coded = cleared .before .before in
     let free = cleared .without-note in
-    take-drawn _ (coded .before .args .g) _ (coded .take-code .ensures) _ (cleared .before .if1 .left) (free .ensures) (omega (arith, free .ok))
-    (c .before .before .before .before .side-by-side .ensures) (c .before .before .chunks18 .ensures) (c .onward .ensures)
+    take-drawn _ (coded .before .args .g) _ (coded .take-code .ensures) _ (cleared .before .if1 .left) (free .ensures)
+    (omega (arith, free .ok), c .before .before .before .before .side-by-side .ensures, c .before .before .chunks18 .ensures) (c .onward .ensures)
 
 pub take18-spec : {M : Type 1} → statement M
-take18-spec =
-    tie.close
+take18-spec = tie.close
     (tie.spec (λ c κs. search needs) returns (λ c κs. search needs) (λ c κs. search needs) chunks18-requires onward-requires (λ c. search needs) returns-2)
