@@ -13,8 +13,9 @@ returns c = rw (ne-eqb _ _ (c .if1 .taken))
 returns-2 : tie.Need-returns-2
 returns-2 c =
     let sample = c .before .sample in
+    let drawn = c .before .before .before .before .before .args .drawn in
     let told = c .struct-told .given in
-    sym (sampled-stored _ w16 _ (sample .result) (c .before .before .if1 .left) (sample .ensures .0) (told .1 .0 .1) (told .1 .1 .0 .1))
+    sym (sampled-stored _ w16 drawn (sample .result) (c .before .before .if1 .left) (sample .ensures .0) (told .1 .0 .1) (told .1 .1 .0 .1))
 
 pub sampled-spec : {M : Type 1} → statement M
 sampled-spec = tie.close (tie.spec returns (λ c κs. search needs) returns-2)

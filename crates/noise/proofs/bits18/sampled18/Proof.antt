@@ -20,9 +20,10 @@ returns c = rw (ne-eqb _ _ (c .if1 .taken))
 returns-2 : tie.Need-returns-2
 returns-2 c =
     let sample = c .before .sample18 in
+    let drawn = c .before .before .before .before .before .args .drawn in
     let told = c .struct-told .given in
     ap pairAs18
-    (sym (sampled-stored _ w32 _ (from18 (sample .result)) (c .before .before .if1 .left) (ap from18 (sample .ensures .0)) (told .1 .0 .1) (told .1 .1 .0 .1)))
+    (sym (sampled-stored _ w32 drawn (from18 (sample .result)) (c .before .before .if1 .left) (ap from18 (sample .ensures .0)) (told .1 .0 .1) (told .1 .1 .0 .1)))
 
 pub sampled18-spec : {M : Type 1} → statement M
 sampled18-spec = tie.close (tie.spec returns (λ c κs. search needs) returns-2)
