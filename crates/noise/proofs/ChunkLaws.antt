@@ -95,9 +95,11 @@ pub record Reached (f : ℕ) (out₀ : List ℤ) (u : Lanes) (out : List ℤ) (s
   pub done : take place out ≡ samplesAt f (words (place / 2) (upper u) (lower u))
 
 -- before the first chunk
-pub none-yet : (f : ℕ) (out : List ℤ) (u : Lanes) → Reached f out u out u 0
+pub none-yet : {f : ℕ} {out : List ℤ} {u : Lanes} {place : ℕ} → place ≡ 0 → Reached f out u out u place
 unfolding repeat words samplesAt
-none-yet f out u = record { within = omega arith; even = refl; kept = refl; now-at = record { a-at = refl; b-at = refl }; done = refl }
+none-yet {f} {out} {u} {place} e =
+    subst (Reached f out u out u) (sym e)
+    (record { within = omega arith; even = refl; kept = refl; now-at = record { a-at = refl; b-at = refl }; done = refl })
 
 -- a part that is passed on
 part-size : (place end : ℕ) (out : List ℤ) → end ≤ length out → length (take (end - place) (drop place out)) ≡ end - place

@@ -14,7 +14,7 @@ abbrev μ-loop : tie.MeasureT-loop
 μ-loop out₀ state₀ at₀ n out state at = length out₀ - at
 
 loop-holds : tie.Need-loop-holds Inv-loop μ-loop
-loop-holds c = none-yet _ _ _
+loop-holds c = none-yet (omega arith)
 
 chunk16-requires : tie.Need-chunk16-requires Inv-loop μ-loop
 chunk16-requires c κs =

@@ -6,7 +6,10 @@ use Rattle.noise.proofs.look.Statement.{statement}
 use Rattle.noise.proofs.look.Tie as tie
 
 returns : tie.Need-returns
-returns c = look-refused _ _ _ (c .before .before .without-note .ensures) (c .before .block-code .ensures) (c .if1 .taken)
+returns c =
+    let cleared = c .before .before in
+    let args = cleared .before .args in
+    look-refused _ (args .g) (args .out .now) (cleared .without-note .ensures) (c .before .block-code .ensures) (c .if1 .taken)
 
 chunks-requires : tie.Need-chunks-requires
 chunks-requires c κs = block-even _ _ (c .before .before .before .block-code .ensures) (c .before .before .if1 .left)

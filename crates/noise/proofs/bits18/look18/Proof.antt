@@ -6,7 +6,10 @@ use Rattle.noise.proofs.bits18.look18.Statement.{statement}
 use Rattle.noise.proofs.bits18.look18.Tie as tie
 
 returns : tie.Need-returns
-returns c = look-refused _ _ _ (c .before .before .without-note .ensures) (c .before .block-code .ensures) (c .if1 .taken)
+returns c =
+    let cleared = c .before .before in
+    let args = cleared .before .args in
+    look-refused _ (args .g) (args .out .now) (cleared .without-note .ensures) (c .before .block-code .ensures) (c .if1 .taken)
 
 chunks18-requires : tie.Need-chunks18-requires
 chunks18-requires c κs = block-even _ _ (c .before .before .before .block-code .ensures) (c .before .before .if1 .left)
