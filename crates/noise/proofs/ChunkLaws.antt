@@ -9,11 +9,8 @@ use lib.Seq.{take-append-add, take-at, take-all}
 use borrow.Rule.Slice.PartMut.{putMid, postOf, same-len-mid}
 use Rattle.bit_matrix.specs.Matrices.{repeat}
 use Rattle.bit_matrix.proofs.Theorems.{repeat-add}
-use Rattle.streams.specs.declared.Generator.{Generator}
 use Rattle.streams.specs.declared.Stream.{Stream}
-use Rattle.streams.specs.Streams.{advance, onward, pairsCode}
-use Rattle.streams.specs.Recurrence.{InRange, Sound}
-use Rattle.streams.proofs.Theorems.{sound, pairs-accepted, after-moved}
+use Rattle.streams.specs.Streams.{advance}
 use Rattle.lanes.specs.declared.Lanes.{Lanes}
 use Rattle.lanes.specs.Lanes.{upper, lower, words, LanesAfter}
 use Rattle.lanes.proofs.Theorems.{words-add, length-words}
@@ -21,9 +18,7 @@ use Rattle.box_muller.specs.Steps.{fractionBits}
 use Rattle.box_muller.proofs.RoundingLaws.{first-small, second-small}
 use Rattle.sample.specs.Chunk.{chunkLength, chunkHolds, samplesAt}
 use Rattle.sample.proofs.ChunkLaws.{chunk-held, samples-append, samples-length}
-use Rattle.noise.specs.Noise.{samples}
-use Rattle.noise.specs.Private.{chunkSamples, LanesDrawn, PairsDrawn, Small}
-use Rattle.noise.proofs.Laws.{samples-words}
+use Rattle.noise.specs.Private.{chunkSamples, LanesDrawn, Small}
 
 -- ---- One chunk
 
@@ -46,44 +41,48 @@ samples-small (z ∷ zs) zero h = omega (arith, first-small fractionBits (z / 65
 samples-small (z ∷ zs) (suc zero) h = omega (arith, second-small fractionBits (z / 65536) (z % 65536))
 samples-small (z ∷ zs) (suc (suc i)) h = samples-small zs i (omega arith)
 
--- the first n elements of a local array of m are passed on
-pub first-size : {A : Type 0} (m n : ℕ) (l : List A) → length l ≡ m → n ≤ m → length (take (n - 0) l) ≡ n
-first-size m n l e h = simp length-take (omega arith)
+-- the first n elements of a local array are passed on
+first-size : {A : Type 0} (n : ℕ) (l : List A) → n ≤ length l → length (take (n - 0) l) ≡ n
+first-size n l h = simp length-take (omega arith)
 
--- as many words as there are pairs
-pub asked : (m n : ℕ) (z : List ℕ) (out : List ℤ) → length z ≡ m → n ≤ m → m ≤ chunkLength → length out ≡ 2 * n
-    → (length out ≡ 2 * length (take (n - 0) z)) × (length out ≤ chunkSamples)
-asked m n z out e h few l = rw (first-size m n z e h) (l, omega arith)
+-- of words, as many as there are pairs; and as many pairs are then drawn
+module _ (z : List ℕ) (old : List ℤ) (pre : (length old % 2 ≡ 0) × (length old ≤ 2 * length z)) where
+  words-size : length (take (length old / 2 - 0) z) ≡ length old / 2
+  words-size = first-size (length old / 2) z (omega (arith, pre))
 
--- and as many pairs are then drawn
-pub passed-on : {f m n : ℕ} {u next : Lanes} {out : List ℤ} (z : List ℕ) → length z ≡ m → n ≤ m → LanesDrawn f (length (take (n - 0) z)) u next out
-    → LanesDrawn f n u next out
-passed-on {f} {m} {n} {u} {next} {out} z e h drawn = subst (λ (k : ℕ). LanesDrawn f k u next out) (first-size m n z e h) drawn
+  pub asked-words : length z ≤ chunkLength
+      → (length old ≡ 2 * length (take (length old / 2 - 0) z)) × (length old ≤ chunkSamples)
+  asked-words few = rw words-size (omega (arith, pre), omega (arith, pre))
 
--- as many samples of 32 bits as there are of 16
-pub asked-array : (m n : ℕ) (array : List ℤ) → length array ≡ m → n ≤ m → n % 2 ≡ 0
-    → (length (take (n - 0) array) % 2 ≡ 0) × (length (take (n - 0) array) ≤ m)
-asked-array m n array e h even = rw (first-size m n array e h) (even, h)
+  pub words-drawn : {f : ℕ} {u next : Lanes} {out : List ℤ} → LanesDrawn f (length (take (length old / 2 - 0) z)) u next out
+      → LanesDrawn f (length old / 2) u next out
+  words-drawn {f} {u} {next} {out} drawn = subst (λ (n : ℕ). LanesDrawn f n u next out) words-size drawn
 
-pub array-drawn : {f m n : ℕ} {u next : Lanes} {out : List ℤ} (array : List ℤ) → length array ≡ m → n ≤ m
-    → LanesDrawn f (length (take (n - 0) array) / 2) u next out → LanesDrawn f (n / 2) u next out
-array-drawn {f} {m} {n} {u} {next} {out} array e h drawn = subst (λ (k : ℕ). LanesDrawn f (k / 2) u next out) (first-size m n array e h) drawn
+-- of samples of 32 bits, as many as there are of 16
+pub asked-array : (array : List ℤ) (n : ℕ) → (n % 2 ≡ 0) × (n ≤ length array)
+    → (length (take (n - 0) array) % 2 ≡ 0) × (length (take (n - 0) array) ≤ length array)
+asked-array array n pre = rw (first-size n array (pre .1)) pre
 
--- and they are then the first n of it
-module _ (n : ℕ) (a b : Stream) (array new : List ℤ) (even : n % 2 ≡ 0) (new-is : new ≡ samplesAt fractionBits (words (n / 2) a b)) where
-  pub array-size : length new ≡ n
-  array-size = ap length new-is ∙ drawn-length fractionBits (n / 2) a b ∙ omega arith
+-- and they are then narrowed
+module _ (array : List ℤ) (n : ℕ) {u next : Lanes} {new : List ℤ} (pre : (n % 2 ≡ 0) × (n ≤ length array))
+    (drawn : LanesDrawn fractionBits (length (take (n - 0) array) / 2) u next new) where
+  array-drawn : LanesDrawn fractionBits (n / 2) u next new
+  array-drawn = subst (λ (k : ℕ). LanesDrawn fractionBits (k / 2) u next new) (first-size n array (pre .1)) drawn
+
+  array-size : length new ≡ n
+  array-size = ap length (array-drawn .written) ∙ drawn-length fractionBits (n / 2) (upper u) (lower u) ∙ omega (arith, pre)
+
+  array-taken : take (n - 0) (putMid 0 (n - 0) array new) ≡ new
+  array-taken = take-at new (postOf 0 (n - 0) array) (n - 0) (omega (arith, array-size))
 
   pub array-room : n ≤ length (putMid 0 (n - 0) array new)
   array-room = simp length-append (omega (arith, array-size))
 
-  pub array-taken : take (n - 0) (putMid 0 (n - 0) array new) ≡ new
-  array-taken = take-at new (postOf 0 (n - 0) array) (n - 0) (omega (arith, array-size))
-
   pub asked-narrow : (length (take (n - 0) (putMid 0 (n - 0) array new)) ≡ n) × Small (take (n - 0) (putMid 0 (n - 0) array new))
-  asked-narrow =
-      subst (λ (l : List ℤ). (length l ≡ n) × Small l) (sym array-taken)
-      (array-size, subst Small (sym new-is) (samples-small (words (n / 2) a b)))
+  asked-narrow = rw array-taken (array-size, rw (array-drawn .written) (samples-small (words (n / 2) (upper u) (lower u))))
+
+  pub narrow-drawn : {out : List ℤ} → out ≡ take (n - 0) (putMid 0 (n - 0) array new) → LanesDrawn fractionBits (n / 2) u next out
+  narrow-drawn narrowed = record { now-at = array-drawn .now-at; written = narrowed ∙ array-taken ∙ array-drawn .written }
 
 -- ---- One after another
 
@@ -94,6 +93,13 @@ pub record Reached (f : ℕ) (out₀ : List ℤ) (u : Lanes) (out : List ℤ) (s
   pub kept : length out ≡ length out₀
   pub now-at : LanesAfter (place / 2) u state
   pub done : take place out ≡ samplesAt f (words (place / 2) (upper u) (lower u))
+
+-- before the first chunk
+pub none-yet : {f : ℕ} {out : List ℤ} {u : Lanes} {place : ℕ} → place ≡ 0 → Reached f out u out u place
+unfolding repeat words samplesAt
+none-yet {f} {out} {u} {place} e =
+    subst (Reached f out u out u) (sym e)
+    (record { within = omega arith; even = refl; kept = refl; now-at = record { a-at = refl; b-at = refl }; done = refl })
 
 -- a part that is passed on
 part-size : (place end : ℕ) (out : List ℤ) → end ≤ length out → length (take (end - place) (drop place out)) ≡ end - place
@@ -155,21 +161,3 @@ ended {f} {out₀} {out} {u} {state} {place} r all =
       now-at = subst (λ (n : ℕ). LanesAfter (n / 2) u state) whole (r .now-at);
       written = sym (take-all place out (omega (arith, r .kept))) ∙ r .done ∙ rw whole;
     }
-
--- ---- Of an accepted record
-
--- what its streams give side by side are the samples of its pairs, and then the record after them
-module _ (f n : ℕ) (g : Generator) {u state : Lanes} {out : List ℤ} (range-a : InRange (g .a)) (range-b : InRange (g .b)) (accepted : pairsCode g n ≡ 0)
-    (same : (upper u ≡ g .a) × (lower u ≡ g .b)) (drawn : LanesDrawn f n u state out) where
-  reached : Sound g
-  reached = sound g range-a range-b (pairs-accepted g n .0 accepted .0)
-
-  pub drawn-samples : out ≡ samples f n g
-  drawn-samples =
-      let (_, room, none) = pairs-accepted g n .0 accepted in
-      drawn .written ∙ rw (same .0, same .1) (sym (samples-words f n g reached none room))
-
-  pub drawn-pairs : {next : Generator} → next ≡ onward g (upper state) (lower state) n → PairsDrawn f n g next out
-  drawn-pairs next-is =
-      let (_, room, none) = pairs-accepted g n .0 accepted in
-      (next-is ∙ rw (drawn .now-at .a-at, drawn .now-at .b-at, same .0, same .1) (sym (after-moved n g reached none room)), drawn-samples)

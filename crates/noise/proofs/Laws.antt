@@ -2,30 +2,25 @@
 use mathlib.Core.Path.{_≡_, refl, sym, ap, _∙_}
 use mathlib.Core.List.{List, _∷_, _++_}
 use mathlib.Core.Logic.{_↔_}
-use Prim.Native.Nat.{ℕ, zero, suc, _+_, _*_, _/_, _%_, _^_, _≤_, _<_}
+use Prim.Native.Nat.{ℕ, zero, suc, _+_, _*_, _/_, _%_, _≤_}
 use native.Mathlib.Nat.{zero-add, suc-add}
 use native.Mathlib.Omega.{arith}
-use mathlib.Core.Bool.{Bool, true, false, cond}
-use lib.Dec.{eqb}
-use lib.IntN.{ℤ, pos, natAbs}
+use lib.IntN.{ℤ}
 use lib.ListN.{length}
-use lib.Seq.{take-all}
 use Rattle.streams.specs.declared.Generator.{Generator}
 use Rattle.streams.specs.declared.Uniforms.{Uniforms}
 use Rattle.streams.specs.Streams.{advance, output, noted, cleared, recordCode, mostAsked, mostCount, noteCode, ownCode, roomCode}
-use Rattle.streams.specs.Streams.{codeOf, pairsCode, uniformsOf, after, ifAccepted}
+use Rattle.streams.specs.Streams.{codeOf, pairsCode, uniformsOf, after}
 use Rattle.streams.specs.Streams.Call.{a-skip, a-block, a-take}
 use Rattle.streams.specs.Recurrence.{Sound, moved}
-use Rattle.streams.proofs.Theorems.{sound-accepted, pairs-accepted, moved-sound, uniforms-accepted, next-sound, numbers-bounded}
+use Rattle.streams.proofs.Theorems.{sound-accepted, pairs-accepted, moved-sound, uniforms-accepted, numbers-bounded}
 use Rattle.streams.proofs.Causes.{accepted-causes, one-open, just-taken, even-length, count-room}
 use Rattle.bit_matrix.specs.Matrices.{repeat}
 use Rattle.lanes.specs.Lanes.{words}
 use Rattle.lanes.proofs.Theorems.{word-is-pair}
-use Rattle.box_muller.specs.Steps.{fractionBits}
 use Rattle.box_muller.specs.Sample.{firstOf, secondOf}
 use Rattle.sample.specs.Chunk.{samplesAt}
 use Rattle.box_muller.proofs.Closeness.{accepts}
-use Rattle.box_muller.proofs.Theorems.{theorems}
 use Rattle.noise.specs.Noise.{pairOf, samples, blockCode}
 
 -- ---- Which blocks are accepted

@@ -2,7 +2,7 @@ pub mod Drawn
 pub mod Laws
 pub mod Notes
 mod ChunkLaws
-mod TakeLaws
+mod BlockLaws
 pub mod Requests
 pub mod Runs
 pub mod Theorems

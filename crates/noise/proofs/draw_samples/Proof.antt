@@ -8,18 +8,6 @@ use Rattle.noise.proofs.ChunkLaws.{words-samples}
 use Rattle.noise.proofs.draw_samples.Statement.{statement}
 use Rattle.noise.proofs.draw_samples.Tie as tie
 
-draw-pairs-requires : tie.Need-draw-pairs-requires
-draw-pairs-requires c κs = search needs
-
-chunk-requires : tie.Need-chunk-requires
-chunk-requires c κs = search needs
-
-same-length : tie.Need-same-length
-same-length c = search needs
-
-same-length-2 : tie.Need-same-length-2
-same-length-2 c = search needs
-
 returns : tie.Need-returns
 returns c =
     let start = c .before .before .before .before .before .before .before .before .before in
@@ -32,4 +20,4 @@ returns c =
     }
 
 pub draw-samples-spec : {M : Type 1} → statement M
-draw-samples-spec = tie.close (tie.spec draw-pairs-requires chunk-requires same-length same-length-2 returns)
+draw-samples-spec = tie.close (tie.spec (λ c κs. search needs) (λ c κs. search needs) (λ c. search needs) (λ c. search needs) returns)

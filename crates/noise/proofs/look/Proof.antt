@@ -1,70 +1,28 @@
--- `look` is `lookOf`, and leaves what a block leaves on the record with its note cleared.
-use mathlib.Core.Path.{sym, ap, _∙_}
-use Prim.Native.Nat.{ℕ}
+-- `look` is `lookOf`, and leaves `lookHolds`.
 use native.Mathlib.Omega.{arith}
-use lib.ListN.{length}
 use borrow.Author.Needs.{needs}
-use borrow.Author.Tests.{ne-eqb}
-use Rattle.streams.specs.declared.Generator.{Generator}
-use Rattle.box_muller.specs.Steps.{fractionBits}
-use Rattle.noise.specs.Noise.{blockCode, blockOf, blockHolds, lookOf, lookHolds}
-use Rattle.noise.proofs.Laws.{block-accepted}
-use Rattle.noise.proofs.ChunkLaws.{drawn-samples}
+use Rattle.noise.proofs.BlockLaws.{look-refused, block-even, look-drawn}
 use Rattle.noise.proofs.look.Statement.{statement}
 use Rattle.noise.proofs.look.Tie as tie
 
-without-note-requires : tie.Need-without-note-requires
-without-note-requires c κs = search needs
-
-block-code-requires : tie.Need-block-code-requires
-block-code-requires c κs = search needs
-
 returns : tie.Need-returns
-unfolding lookOf lookHolds blockOf blockHolds
 returns c =
     let cleared = c .before .before in
-    let g = cleared .before .args .g in
-    let code-is = c .before .block-code .ensures in
-    let cleared-is = cleared .without-note .ensures in (
-      rw (← cleared-is) (ap (λ (code : ℕ). record { code = code; next = g }) code-is),
-      rw (← cleared-is, ← code-is, ne-eqb _ _ (c .if1 .taken)),
-    )
-
-side-by-side-requires : tie.Need-side-by-side-requires
-side-by-side-requires c κs = search needs
+    let args = cleared .before .args in
+    look-refused _ (args .g) (args .out .now) (cleared .without-note .ensures) (c .before .block-code .ensures) (c .if1 .taken)
 
 chunks-requires : tie.Need-chunks-requires
-chunks-requires c κs =
-    let tested = c .before .before in
-    block-accepted _ _ .0 (sym (tested .before .block-code .ensures) ∙ tested .if1 .left) .1
-
-same-length : tie.Need-same-length
-same-length c = search needs
+chunks-requires c κs = block-even _ _ (c .before .before .before .block-code .ensures) (c .before .before .if1 .left)
 
 returns-2 : tie.Need-returns-2
-unfolding lookOf lookHolds blockOf blockHolds
 returns-2 c =
     let tested = c .before .before .before .before in
     let cleared = tested .before .before in
-    let g = cleared .before .args .g in
-    let code-is = tested .before .block-code .ensures in
-    let cleared-is = cleared .without-note .ensures in
-    let accepted = tested .if1 .left in
     let free = cleared .without-note in
-    let shown = drawn-samples fractionBits _ (free .result) (omega (arith, free .ok)) (omega (arith, free .ok)) (block-accepted _ _ .0 (sym code-is ∙ accepted) .0)
-    (c .before .before .before .side-by-side .ensures) (c .before .chunks .ensures) in (
-      rw (← cleared-is) (ap (λ (code : ℕ). record { code = code; next = g }) code-is),
-      rw (← cleared-is, ← code-is, accepted) shown,
-    )
+    let args = cleared .before .args in
+    look-drawn _ (args .g) (args .out .now) (free .ensures) (tested .before .block-code .ensures) (tested .if1 .left)
+    (omega (arith, free .ok), c .before .before .before .side-by-side .ensures, c .before .chunks .ensures)
 
 pub look-spec : {M : Type 1} → statement M
-look-spec =
-    tie.close
-    (tie.spec
-    without-note-requires
-    block-code-requires
-    returns
-    side-by-side-requires
-    chunks-requires
-    same-length
-    returns-2)
+look-spec = tie.close
+    (tie.spec (λ c κs. search needs) (λ c κs. search needs) returns (λ c κs. search needs) chunks-requires (λ c. search needs) returns-2)

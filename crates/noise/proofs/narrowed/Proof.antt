@@ -42,25 +42,10 @@ inside c = omega (arith, c .loop-test .taken, c .before .loop .inv .kept, c .bef
 loop-holds : tie.Need-loop-holds Inv-loop μ-loop
 loop-holds c = record { within = omega arith; kept = refl; done = refl }
 
-mul-sample : tie.Need-mul-sample Inv-loop μ-loop
-mul-sample c = search needs
-
-shared-slice-copy-out-sample : tie.Need-shared-slice-copy-out-sample Inv-loop μ-loop
-shared-slice-copy-out-sample c = inside c
-
 cast-sample : tie.Need-cast-sample Inv-loop μ-loop
 cast-sample c =
     let x = getD (c .before .before .before .args .samples .now) (c .before .before .loop .i) (pos 0) in
     cast-fits w32 w16 x (omega arith) (c .before .before .before .pre .1 (c .before .before .loop .i) (inside (c .before)))
-
-mul-sample-2 : tie.Need-mul-sample-2 Inv-loop μ-loop
-mul-sample-2 c = search needs
-
-slice-set-from-sample : tie.Need-slice-set-from-sample Inv-loop μ-loop
-slice-set-from-sample c = search needs
-
-add-i : tie.Need-add-i Inv-loop μ-loop
-add-i c = search needs
 
 loop-less : tie.Need-loop-less Inv-loop μ-loop
 loop-less c = omega (arith, inside (c .before))
@@ -83,19 +68,6 @@ returns c =
     ∙ take-all i (start .args .samples .now) (omega (arith, c .loop-test .left, inv .kept, start .pre .0))
 
 pub narrowed-spec : {M : Type 1} → statement M
-narrowed-spec =
-    tie.close
-    (tie.spec
-    Inv-loop
-    μ-loop
-    loop-holds
-    mul-sample
-    shared-slice-copy-out-sample
-    cast-sample
-    mul-sample-2
-    slice-set-from-sample
-    add-i
-    loop-less
-    loop-again
-    same-length
-    returns)
+narrowed-spec = tie.close
+    (tie.spec Inv-loop μ-loop loop-holds (λ c. search needs) inside cast-sample (λ c. search needs) (λ c. search needs) (λ c. search needs)
+    loop-less loop-again same-length returns)

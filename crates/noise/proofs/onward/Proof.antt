@@ -6,12 +6,6 @@ use Rattle.streams.specs.Streams.{onward}
 use Rattle.noise.proofs.onward.Statement.{statement}
 use Rattle.noise.proofs.onward.Tie as tie
 
-both-requires : tie.Need-both-requires
-both-requires c κs = search needs
-
-add-next : tie.Need-add-next
-add-next c = search needs
-
 returns : tie.Need-returns
 returns c =
     let both = c .before .before .before in
@@ -19,4 +13,4 @@ returns c =
     ap₂ (λ (a b : Stream). onward (args .g) a b (args .n)) (both .both .ensures .0) (both .both .ensures .1)
 
 pub onward-spec : {M : Type 1} → statement M
-onward-spec = tie.close (tie.spec both-requires add-next returns)
+onward-spec = tie.close (tie.spec (λ c κs. search needs) (λ c. search needs) returns)

@@ -8,12 +8,6 @@ use Rattle.noise.proofs.Drawn.{pair-sampled}
 use Rattle.noise.proofs.pair.Statement.{statement}
 use Rattle.noise.proofs.pair.Tie as tie
 
-uniforms-requires : tie.Need-uniforms-requires
-uniforms-requires c κs = search needs
-
-sampled-requires : tie.Need-sampled-requires
-sampled-requires c κs = search needs
-
 returns : tie.Need-returns
 returns c =
     let start = c .before .before in
@@ -22,4 +16,4 @@ returns c =
     ∙ pair-sampled fractionBits (start .args .g) (omega (arith, start .good)) (omega (arith, start .good))
 
 pub pair-spec : {M : Type 1} → statement M
-pair-spec = tie.close (tie.spec uniforms-requires sampled-requires returns)
+pair-spec = tie.close (tie.spec (λ c κs. search needs) (λ c κs. search needs) returns)

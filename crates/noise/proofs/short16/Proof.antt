@@ -1,77 +1,24 @@
 -- `short16` narrows what `short` leaves in as much of the local array as the slice has elements.
-use mathlib.Core.Path.{refl, _∙_}
-use Prim.Native.Nat.{_/_}
-use native.Mathlib.Omega.{arith}
-use lib.ListN.{length}
 use borrow.Author.Needs.{needs}
-use Rattle.box_muller.specs.Steps.{fractionBits}
-use Rattle.noise.specs.Private.{shortSamples, LanesDrawn}
-use Rattle.noise.proofs.ChunkLaws.{asked-array, array-drawn, array-room, array-taken, asked-narrow}
+use Rattle.noise.proofs.ChunkLaws.{asked-array, array-room, asked-narrow, narrow-drawn}
 use Rattle.noise.proofs.short16.Statement.{statement}
 use Rattle.noise.proofs.short16.Tie as tie
 
-sub-short : tie.Need-sub-short
-sub-short c = search needs
-
-part-samples-start : tie.Need-part-samples-start
-part-samples-start c = search needs
-
-part-samples-end : tie.Need-part-samples-end
-part-samples-end c = search needs
-
 short-requires : tie.Need-short-requires
-short-requires c κs =
-    let start = c .before in
-    asked-array shortSamples (length (start .args .out .now)) _ refl (start .pre .1) (start .pre .0)
-
--- the array holds the samples
-drawn : (c : tie.After-short) → LanesDrawn fractionBits (length (c .before .before .args .out .now) / 2) (c .before .before .args .streams) (c .short .result) (c .short .last .1 .1 .0)
-drawn c =
-    let start = c .before .before in
-    array-drawn _ refl (start .pre .1) (c .short .ensures)
-
-sub-narrowed : tie.Need-sub-narrowed
-sub-narrowed c = search needs
-
-part-narrowed-start : tie.Need-part-narrowed-start
-part-narrowed-start c = search needs
+short-requires c κs = asked-array _ _ (c .before .pre)
 
 part-narrowed-end : tie.Need-part-narrowed-end
-part-narrowed-end c =
-    let made = c .before .before in
-    let start = made .before .before in
-    array-room (length (start .args .out .now)) _ _ _ _ (start .pre .0) (drawn made .written)
+part-narrowed-end c = let made = c .before .before in array-room _ _ (made .before .before .pre) (made .short .ensures)
 
 narrowed-requires : tie.Need-narrowed-requires
-narrowed-requires c κs =
-    let made = c .before .before .before .before in
-    let start = made .before .before in
-    asked-narrow (length (start .args .out .now)) _ _ _ _ (start .pre .0) (drawn made .written)
-
-same-length : tie.Need-same-length
-same-length c = search needs
+narrowed-requires c κs = let made = c .before .before .before .before in asked-narrow _ _ (made .before .before .pre) (made .short .ensures)
 
 returns : tie.Need-returns
 returns c =
     let made = c .before .before .before .before .before .before in
-    let start = made .before .before in
-    let written = drawn made .written in
-    record {
-      now-at = drawn made .now-at;
-      written = c .before .narrowed .ensures ∙ array-taken (length (start .args .out .now)) _ _ _ _ (start .pre .0) written ∙ written;
-    }
+    narrow-drawn _ _ (made .before .before .pre) (made .short .ensures) (c .before .narrowed .ensures)
 
 pub short16-spec : {M : Type 1} → statement M
-short16-spec =
-    tie.close
-    (tie.spec
-    sub-short
-    part-samples-start
-    part-samples-end
-    short-requires
-    sub-narrowed
-    part-narrowed-start
-    part-narrowed-end
-    narrowed-requires
-    same-length
-    returns)
+short16-spec = tie.close
+    (tie.spec (λ c. search needs) (λ c. search needs) (λ c. search needs) short-requires (λ c. search needs) (λ c. search needs) part-narrowed-end
+    narrowed-requires (λ c. search needs) returns)
