@@ -17,17 +17,17 @@ pub begun : {sure : Type 0} {f : ℕ → ℕ} (z old : List ℕ) → Passed sure
 begun z old = record { within = omega arith; kept = refl; done = λ _. refl }
 
 -- one more; who is sure of it was sure of those before
-pub again : {sure surer : Type 0} {f : ℕ → ℕ} {z old new : List ℕ} {i v : ℕ} → length old ≡ length z → Passed sure f z old new i → i < length z
+pub again : {sure surer : Type 0} {f : ℕ → ℕ} {z old new : List ℕ} {i v : ℕ} → length old ≡ length z → Passed sure f z old new i → i < length new
     → (surer → sure) → (surer → v ≡ f (getD z i 0)) → Passed surer f z old (set new i v) (i + 1)
 again {f = f} {z} {old} {new} {i} {v} same r h earlier e =
-    let inside : i < length new = omega (arith, r .kept) in
+    let inside : i < length z = omega (arith, r .kept) in
     record {
       within = omega arith;
       kept = simp length-set (r .kept);
-      done = λ s. rw (add-one i, take-suc-set new i v inside, take-suc z i 0 h, map-append f (take i z) _, r .done (earlier s), e s);
+      done = λ s. rw (add-one i, take-suc-set new i v h, take-suc z i 0 inside, map-append f (take i z) _, r .done (earlier s), e s);
     }
 
 -- all
-pub ended : {sure : Type 0} {f : ℕ → ℕ} {z old new : List ℕ} {i : ℕ} → length old ≡ length z → Passed sure f z old new i → length z ≤ i → sure → new ≡ map f z
+pub ended : {sure : Type 0} {f : ℕ → ℕ} {z old new : List ℕ} {i : ℕ} → length old ≡ length z → Passed sure f z old new i → length new ≤ i → sure → new ≡ map f z
 ended {f = f} {z} {old} {new} {i} same r all s =
-    sym (take-all i new (omega (arith, r .kept))) ∙ r .done s ∙ rw (take-all i z all) refl
+    sym (take-all i new all) ∙ r .done s ∙ rw (take-all i z (omega (arith, r .kept))) refl

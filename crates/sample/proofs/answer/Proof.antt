@@ -25,33 +25,6 @@ unfolding samplesOf
 returns-2 c =
     rw (lt-leb (2 ^ numberBits) (c .before .before .args .k) (omega arith), lt-ltb 65535 (c .before .before .args .v) (omega arith)) refl
 
-mul-t9 : tie.Need-mul-t9
-mul-t9 c = search needs
-
-add-t11 : tie.Need-add-t11
-add-t11 c = search needs
-
-slice-aggregate-by-passes : tie.Need-slice-aggregate-by-passes
-slice-aggregate-by-passes c = search needs
-
-slice-aggregate-by-passes-2 : tie.Need-slice-aggregate-by-passes-2
-slice-aggregate-by-passes-2 c = search needs
-
-slice-aggregate-by-passes-3 : tie.Need-slice-aggregate-by-passes-3
-slice-aggregate-by-passes-3 c = search needs
-
-slice-aggregate-by-passes-4 : tie.Need-slice-aggregate-by-passes-4
-slice-aggregate-by-passes-4 c = search needs
-
-by-passes-requires : tie.Need-by-passes-requires
-by-passes-requires c κs = search needs
-
-array-copy-out-t23 : tie.Need-array-copy-out-t23
-array-copy-out-t23 c = search needs
-
-array-copy-out-t26 : tie.Need-array-copy-out-t26
-array-copy-out-t26 c = search needs
-
 -- k and v from z
 apart : (k v : ℕ) → v ≤ 65535 → ((k * 65536 + v) / 65536 ≡ k) × ((k * 65536 + v) % 65536 ≡ v)
 apart k v h = (omega arith, omega arith)
@@ -72,18 +45,6 @@ returns-3 c =
     (toZ-ofZ {w = w32} (size-fits w32 _ (omega (arith, most, second-small f (z / 65536) (z % 65536)))) ∙ ap₂ (secondOf f) (a .0) (a .1)))
 
 pub answer-spec : {M : Type 1} → statement M
-answer-spec =
-    tie.close
-    (tie.spec
-    returns
-    returns-2
-    mul-t9
-    add-t11
-    slice-aggregate-by-passes
-    slice-aggregate-by-passes-2
-    slice-aggregate-by-passes-3
-    slice-aggregate-by-passes-4
-    by-passes-requires
-    array-copy-out-t23
-    array-copy-out-t26
-    returns-3)
+answer-spec = tie.close
+    (tie.spec returns returns-2 (λ c. search needs) (λ c. search needs) (λ c. search needs) (λ c. search needs) (λ c. search needs)
+    (λ c. search needs) (λ c κs. search needs) (λ c. search needs) (λ c. search needs) returns-3)

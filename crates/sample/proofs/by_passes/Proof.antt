@@ -15,30 +15,6 @@ use Rattle.sample.proofs.by_passes.Tie as tie
 whole : (z : List ℕ) → take (length z - 0) z ≡ z
 whole z = take-all (length z - 0) z (omega arith)
 
-sub-under-roots : tie.Need-sub-under-roots
-sub-under-roots c = search needs
-
-part-under-roots-start : tie.Need-part-under-roots-start
-part-under-roots-start c = search needs
-
-part-under-roots-end : tie.Need-part-under-roots-end
-part-under-roots-end c = search needs
-
-under-roots-requires : tie.Need-under-roots-requires
-under-roots-requires c κs = search needs
-
-root-each-requires : tie.Need-root-each-requires
-root-each-requires c κs = search needs
-
-sub-sample-each : tie.Need-sub-sample-each
-sub-sample-each c = search needs
-
-part-sample-each-start : tie.Need-part-sample-each-start
-part-sample-each-start c = search needs
-
-part-sample-each-end : tie.Need-part-sample-each-end
-part-sample-each-end c = search needs
-
 sample-each-requires : tie.Need-sample-each-requires
 sample-each-requires c κs =
     let start = c .before .before .before .before .before .before .before .before .before .before .before .before .before .before .before .before in
@@ -48,34 +24,12 @@ sample-each-requires c κs =
     let roots = c .before .before .before .before .before .root-each .ensures in
     (roots ∙ ap (map wholeRoot) under, omega (arith, size, start .pre))
 
-same-length : tie.Need-same-length
-same-length c = search needs
-
-same-length-2 : tie.Need-same-length-2
-same-length-2 c = search needs
-
-same-length-3 : tie.Need-same-length-3
-same-length-3 c = search needs
-
 returns : tie.Need-returns
 returns c =
     let start = c .before .before .before .before .before .before .before .before .before .before .before .before .before .before .before .before .before .before in
     c .before .sample-each .ensures ∙ ap (samplesAt (bitsOf (start .args .in18))) (whole (start .args .z .now))
 
 pub by-passes-spec : {M : Type 1} → statement M
-by-passes-spec =
-    tie.close
-    (tie.spec
-    sub-under-roots
-    part-under-roots-start
-    part-under-roots-end
-    under-roots-requires
-    root-each-requires
-    sub-sample-each
-    part-sample-each-start
-    part-sample-each-end
-    sample-each-requires
-    same-length
-    same-length-2
-    same-length-3
-    returns)
+by-passes-spec = tie.close
+    (tie.spec (λ c. search needs) (λ c. search needs) (λ c. search needs) (λ c κs. search needs) (λ c κs. search needs) (λ c. search needs)
+    (λ c. search needs) (λ c. search needs) sample-each-requires (λ c. search needs) (λ c. search needs) (λ c. search needs) returns)

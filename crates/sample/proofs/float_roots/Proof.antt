@@ -3,31 +3,12 @@ use borrow.Author.Needs.{needs}
 use Rattle.sample.proofs.float_roots.Statement.{statement}
 use Rattle.sample.proofs.float_roots.Tie as tie
 
-guesses-requires : tie.Need-guesses-requires
-guesses-requires c κs = search needs
-
-same-length : tie.Need-same-length
-same-length c = search needs
-
 returns : tie.Need-returns
 returns c = c .before .before .before .guesses .ensures (c .if1 .taken)
-
-settle-requires : tie.Need-settle-requires
-settle-requires c κs = search needs
-
-same-length-2 : tie.Need-same-length-2
-same-length-2 c = search needs
 
 returns-2 : tie.Need-returns-2
 returns-2 c = c .before .before .settle .ensures
 
 pub float-roots-spec : {M : Type 1} → statement M
-float-roots-spec =
-    tie.close
-    (tie.spec
-    guesses-requires
-    same-length
-    returns
-    settle-requires
-    same-length-2
-    returns-2)
+float-roots-spec = tie.close
+    (tie.spec (λ c κs. search needs) (λ c. search needs) returns (λ c κs. search needs) (λ c. search needs) returns-2)

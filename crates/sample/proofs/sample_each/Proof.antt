@@ -35,24 +35,12 @@ loop-holds : tie.Need-loop-holds Inv-loop μ-loop
 unfolding filled
 loop-holds c = record { within = omega arith; kept = refl; done = refl }
 
-mul-loop : tie.Need-mul-loop Inv-loop μ-loop
-mul-loop c = search needs
-
-add-loop : tie.Need-add-loop Inv-loop μ-loop
-add-loop c = search needs
-
-mul-pair-of : tie.Need-mul-pair-of Inv-loop μ-loop
-mul-pair-of c = search needs
-
 shared-slice-read-pair-of : tie.Need-shared-slice-read-pair-of Inv-loop μ-loop
 shared-slice-read-pair-of c =
     let start = c .before .before .before .before .before in
     let z = start .args .z .now in
     let size = ap length (start .pre .0) ∙ length-map (map underRootAt z) wholeRoot ∙ length-map z underRootAt in
     omega (arith, size, inside (c .before))
-
-mul-pair-of-2 : tie.Need-mul-pair-of-2 Inv-loop μ-loop
-mul-pair-of-2 c = search needs
 
 shared-slice-read-pair-of-2 : tie.Need-shared-slice-read-pair-of-2 Inv-loop μ-loop
 shared-slice-read-pair-of-2 c = omega (arith, inside (c .before .before))
@@ -68,29 +56,8 @@ pair-of-requires : tie.Need-pair-of-requires Inv-loop μ-loop
 pair-of-requires c κs =
     rw (radius (c .before .before)) (radius-of-range _)
 
-mul-first : tie.Need-mul-first Inv-loop μ-loop
-mul-first c = search needs
-
-mul-first-2 : tie.Need-mul-first-2 Inv-loop μ-loop
-mul-first-2 c = search needs
-
-slice-set-from-first : tie.Need-slice-set-from-first Inv-loop μ-loop
-slice-set-from-first c = search needs
-
-mul-second : tie.Need-mul-second Inv-loop μ-loop
-mul-second c = search needs
-
-add-second : tie.Need-add-second Inv-loop μ-loop
-add-second c = search needs
-
-mul-second-2 : tie.Need-mul-second-2 Inv-loop μ-loop
-mul-second-2 c = search needs
-
 slice-set-from-second : tie.Need-slice-set-from-second Inv-loop μ-loop
 slice-set-from-second c = simp length-set (omega (arith, c .before .before .before .before .before .loop-test .taken))
-
-add-i : tie.Need-add-i Inv-loop μ-loop
-add-i c = search needs
 
 loop-less : tie.Need-loop-less Inv-loop μ-loop
 loop-less c = omega (arith, inside (c .before .before .before .before .before))
@@ -133,28 +100,7 @@ returns c =
     inv .done ∙ ap (λ (l : List ℕ). filled f l out) all ∙ filled-whole f z out (start .pre .1)
 
 pub sample-each-spec : {M : Type 1} → statement M
-sample-each-spec =
-    tie.close
-    (tie.spec
-    Inv-loop
-    μ-loop
-    loop-holds
-    mul-loop
-    add-loop
-    mul-pair-of
-    shared-slice-read-pair-of
-    mul-pair-of-2
-    shared-slice-read-pair-of-2
-    pair-of-requires
-    mul-first
-    mul-first-2
-    slice-set-from-first
-    mul-second
-    add-second
-    mul-second-2
-    slice-set-from-second
-    add-i
-    loop-less
-    loop-again
-    same-length
-    returns)
+sample-each-spec = tie.close
+    (tie.spec Inv-loop μ-loop loop-holds (λ c. search needs) (λ c. search needs) (λ c. search needs) shared-slice-read-pair-of (λ c. search needs)
+    shared-slice-read-pair-of-2 pair-of-requires (λ c. search needs) (λ c. search needs) (λ c. search needs) (λ c. search needs)
+    (λ c. search needs) (λ c. search needs) slice-set-from-second (λ c. search needs) loop-less loop-again same-length returns)

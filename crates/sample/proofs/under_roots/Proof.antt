@@ -17,52 +17,21 @@ abbrev μ-loop : tie.MeasureT-loop
 loop-holds : tie.Need-loop-holds Inv-loop μ-loop
 loop-holds c = begun _ _
 
-mul-under-root-at : tie.Need-mul-under-root-at Inv-loop μ-loop
-mul-under-root-at c = search needs
-
-shared-slice-read-under-root-at : tie.Need-shared-slice-read-under-root-at Inv-loop μ-loop
-shared-slice-read-under-root-at c = search needs
-
-under-root-at-requires : tie.Need-under-root-at-requires Inv-loop μ-loop
-under-root-at-requires c κs = search needs
-
-mul-x : tie.Need-mul-x Inv-loop μ-loop
-mul-x c = search needs
-
-slice-write-x : tie.Need-slice-write-x Inv-loop μ-loop
-slice-write-x c = search needs
-
-add-i : tie.Need-add-i Inv-loop μ-loop
-add-i c = search needs
-
-loop-less : tie.Need-loop-less Inv-loop μ-loop
-loop-less c = search needs
-
 loop-again : tie.Need-loop-again Inv-loop μ-loop
 loop-again c =
     let head = c .before .before .before in
-    again (head .before .before .before .pre) (head .loop .inv) (c .before .before .loop-test .taken) (λ s. s) (λ _. c .under-root-at .ensures)
+    let same = head .before .before .before .pre in
+    again same (head .loop .inv) (omega (arith, c .before .before .loop-test .taken, head .loop .inv .kept, same)) (λ s. s) (λ _. c .under-root-at .ensures)
 
 same-length : tie.Need-same-length Inv-loop μ-loop
 same-length c = c .before .loop .inv .kept
 
 returns : tie.Need-returns Inv-loop μ-loop
-returns c = ended (c .before .before .before .before .pre) (c .before .loop .inv) (c .loop-test .left) (omega arith)
+returns c =
+    let same = c .before .before .before .before .pre in
+    ended same (c .before .loop .inv) (omega (arith, c .loop-test .left, c .before .loop .inv .kept, same)) (omega arith)
 
 pub under-roots-spec : {M : Type 1} → statement M
-under-roots-spec =
-    tie.close
-    (tie.spec
-    Inv-loop
-    μ-loop
-    loop-holds
-    mul-under-root-at
-    shared-slice-read-under-root-at
-    under-root-at-requires
-    mul-x
-    slice-write-x
-    add-i
-    loop-less
-    loop-again
-    same-length
-    returns)
+under-roots-spec = tie.close
+    (tie.spec Inv-loop μ-loop loop-holds (λ c. search needs) (λ c. search needs) (λ c κs. search needs) (λ c. search needs) (λ c. search needs)
+    (λ c. search needs) (λ c. search needs) loop-again same-length returns)
