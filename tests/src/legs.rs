@@ -340,8 +340,8 @@ fn positions(folder: &std::path::Path, text: &str) -> Option<HashMap<String, (f6
 /// with both sigmas 0, is where it puts it. A bearing is at most half a step off, pi / 65536 of the distance; a position is printed to 0.01 m, so
 /// that two are at most 0.01 m off.
 pub fn peer(tables: &Tables, random: &mut Random) -> String {
-    if Command::new("cavern").arg("--version").output().is_err() {
-        return "Survex is not installed: its cavern was not run beside the converter".to_string();
+    if let Some(missing) = ["cavern", "survexport"].iter().find(|program| Command::new(program).arg("--version").output().is_err()) {
+        return format!("Survex's {missing} is not installed (Debian's survex and survex-aven): Survex was not run beside the converter");
     }
     let folder = std::env::temp_dir().join(format!("jabulghi-survex-{}", std::process::id()));
     std::fs::create_dir_all(&folder).unwrap();

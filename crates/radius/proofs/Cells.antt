@@ -47,14 +47,14 @@ module _ (x h R : ℕ) (is : R ≡ entryOf reciprocals 256 h) (few : x < 65536) 
 
 -- ---- The divisor and the remainder, for any i
 pub record Parts (M h i : ℕ) : Type 0 where
-  pub divisor-some : 0 < h * (65536 + i)
-  pub divisor-small : h * (65536 + i) < 2 ^ 27
+  pub divisor-least : 2 ^ 24 ≤ h * (65536 + i)
+  pub divisor-small : h * (65536 + i) < 2 ^ 25
   pub divisor-low : h * (65536 + i) * 2 ^ 24 ≤ M
   pub remainder-small : M - h * (65536 + i) * 2 ^ 24 < 2 ^ 33
 
 parts-of : (M h i : ℕ) → h ≡ M / 2 ^ 40 → 256 ≤ h → h < 512 → i * h ≤ M % 2 ^ 40 / 2 ^ 24 → M % 2 ^ 40 / 2 ^ 24 - i * h < h → Parts M h i
 parts-of M h i at least most le left = record {
-  divisor-some = omega arith;
+  divisor-least = omega arith;
   divisor-small = omega arith;
   divisor-low = omega arith;
   remainder-small = omega arith;

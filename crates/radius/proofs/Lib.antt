@@ -1,6 +1,7 @@
 -- The laws of the steps, and how far F is from the exact radius.
 pub mod StepLaws
-mod MantissaLaws
+mod FloatBits
+pub mod NormalLaws
 mod Cells
 pub mod Ranges
 mod LastCell

@@ -1,3 +1,3 @@
--- The whole-number steps from k to the radius.
+-- The whole-number steps from k to the radius, and the two numbers of a k that 2Q is made of.
 pub mod Steps
-pub mod Private
+pub mod Normal

@@ -4,8 +4,7 @@ ghost use mathlib.Core.Path.{_≡_};
 ghost use Prim.Native.Nat.{_+_, _-_, _*_, _/_, _%_, _^_, _≤_, _<_};
 ghost use Rattle.tables.specs.Tables.{logFine, entryOf};
 ghost use Rattle.radius.specs.Steps.{numberBits, width, numerator, topBit, mantissa, coarseIndex, fineIndex, correction};
-ghost use Rattle.radius.specs.Steps.{underRoot};
-ghost use Rattle.radius.specs.Private.{logarithmOf};
+ghost use Rattle.radius.specs.Normal.{floatBits, doublingsOf, underNormal};
 
 // The bits of k and the first number beyond them; the width of the numerator 2k + 1, and the powers of 2 in steps 2, 3 and 4.
 const NUMBER_BITS: u32 = 48;
@@ -29,6 +28,18 @@ const RECIPROCAL: u64 = 1 << 39;
 const INVERSE: u64 = 1 << 32;
 
 const BOTH: u64 = 1 << 39;
+
+// The bits of the float 2^52, what the exponent of a float counts in its bits, and the exponent of 2^49 there.
+const BITS: u64 = 0x4330_0000_0000_0000;
+
+const EXPONENT: u64 = 1 << 52;
+
+const WIDTH_EXPONENT: u64 = 1072;
+
+// What M counts in the bits of the float 2k + 1, and its top bit, which they do not have.
+const PLACE: u64 = 1 << (53 - WIDTH);
+
+const TOP_BIT: u64 = 1 << TOP;
 
 // The number under the logarithm.
 fn numerator(k: u64) -> u64
@@ -64,9 +75,23 @@ fn about(remainder: u64, reciprocal: u64, inverse: u64) -> u64
     remainder * (reciprocal * inverse / INVERSE) / BOTH
 }
 
+// What a divisor of S is from on, and by how much it and its dividend are multiplied.
+const DIVISORS: u64 = 1 << 24;
+
+const MULTIPLE: u64 = 1 << 8;
+
+// n / d by division. (That d is from 2^24 to 2^25 is said again: the compiler then sees that the multiple of d has more than 32 bits, and divides
+// without a test whether 32 bits will do.)
+fn divided(n: u64, d: u64) -> u64
+    requires { ⌜ (n < 2 ^ 56) × (2 ^ 24 ≤ d) × (d < 2 ^ 25) ⌝ }
+    ensures { λ r. ⌜ r ≡ n / d ⌝ }
+{
+    n * MULTIPLE / ((d % DIVISORS + DIVISORS) * MULTIPLE)
+}
+
 // n / d with no division, unless the guess is far off: one that passes the test is the quotient, and so is the next number where that passes.
 fn guessed_quotient(n: u64, d: u64, guess: u64) -> u64
-    requires { ⌜ (0 < d) × (d < 2 ^ 27) × (guess < 2 ^ 32) ⌝ }
+    requires { ⌜ (n < 2 ^ 56) × (2 ^ 24 ≤ d) × (d < 2 ^ 25) × (guess < 2 ^ 32) ⌝ }
     ensures { λ r. ⌜ r ≡ n / d ⌝ }
 {
     let product = guess * d;
@@ -90,11 +115,11 @@ fn divides() -> bool {
 
 // n / d. What the guess is does not matter.
 fn quotient(n: u64, d: u64, guess: u64) -> u64
-    requires { ⌜ (0 < d) × (d < 2 ^ 27) × (guess < 2 ^ 32) ⌝ }
+    requires { ⌜ (n < 2 ^ 56) × (2 ^ 24 ≤ d) × (d < 2 ^ 25) × (guess < 2 ^ 32) ⌝ }
     ensures { λ r. ⌜ r ≡ n / d ⌝ }
 {
     if divides() {
-        return n / d;
+        return divided(n, d);
     }
     guessed_quotient(n, d, guess)
 }
@@ -135,23 +160,53 @@ fn difference_or_zero(x: u64, y: u64) -> u64
     if x < y { 0 } else { x - y }
 }
 
-// Q, the logarithm of 2^49 / (2k + 1) at 2^40, from 49 - e and M.
-fn logarithm(doublings: u64, scaled: u64) -> u64
-    requires { ⌜ (doublings < 64) × (2 ^ 48 ≤ scaled) × (scaled < 2 ^ 49) ⌝ }
-    ensures { λ r. ⌜ (r ≡ logarithmOf doublings scaled) × (r < 2 ^ 47) ⌝ }
-{
-    let ln2 = tables::ln_two();
-    let cell = cell_of(scaled);
-    difference_or_zero(
-        doublings * ln2,
-        log_coarse_lookup::entry(cell.coarse) + cell.fine + cell.correction,
-    )
+// 2^49 / (2k + 1) is 2^(49-e) times 2^48 / M: (49 - e) K, the logarithm of the first factor, and M.
+pub struct Normal {
+    pub doublings: u64,
+    pub mantissa: u64,
 }
 
-// 2Q, the number under the root, of k mod 2^48.
-pub fn under_root(k: u64) -> u64
-    ensures { λ r. ⌜ r ≡ underRoot (k % 2 ^ numberBits) ⌝ }
+// The bits of the float 2k + 1: of the float that has 2k + 1 in its last bits, less 2^52. No zeros are counted, so that the compiler makes
+// several at a time.
+fn float_bits(k: u64) -> u64
+    requires { ⌜ k < 2 ^ numberBits ⌝ }
+    ensures { λ r. ⌜ r ≡ floatBits k ⌝ }
 {
-    let doublings = (WIDTH - top_bit(k % LIMIT)) as u64;
-    2 * logarithm(doublings, mantissa(k % LIMIT))
+    f64::to_bits(f64::from_bits(BITS + numerator(k)) - 4503599627370496.0)
+}
+
+// The two numbers of the k of z = 65536 k + v, from the bits of a float. (49 - e mod 64 is itself; the compiler sees so that it is small.)
+pub fn float_normal(z: u64) -> Normal
+    ensures { λ r. ⌜ (r .doublings ≡ doublingsOf (z / 65536)) × (r .mantissa ≡ mantissa width (numerator (z / 65536))) ⌝ }
+{
+    let bits = float_bits(z / 65536);
+    let ln2 = tables::ln_two();
+    Normal {
+        doublings: (WIDTH_EXPONENT - bits / EXPONENT) % 64 * ln2,
+        mantissa: bits / PLACE % TOP_BIT + TOP_BIT,
+    }
+}
+
+// The same from leading zeros: of a few k it is faster, and on processors without floating point always.
+pub fn whole_normal(z: u64) -> Normal
+    ensures { λ r. ⌜ (r .doublings ≡ doublingsOf (z / 65536)) × (r .mantissa ≡ mantissa width (numerator (z / 65536))) ⌝ }
+{
+    let doublings = (WIDTH - top_bit(z / 65536)) as u64;
+    let ln2 = tables::ln_two();
+    Normal {
+        doublings: doublings * ln2,
+        mantissa: mantissa(z / 65536),
+    }
+}
+
+// 2Q, the number under the root, from (49 - e) K and M.
+pub fn under_root(doublings: u64, mantissa: u64) -> u64
+    ensures { λ r. ⌜ r ≡ underNormal doublings mantissa ⌝ }
+{
+    let cell = cell_of(mantissa % TOP_BIT + TOP_BIT);
+    difference_or_zero(
+        doublings,
+        log_coarse_lookup::entry(cell.coarse) + cell.fine + cell.correction,
+    )
+        << 1
 }

@@ -17,7 +17,7 @@ ghost use Rattle.box_muller.specs.Sample.{samplesOf, as18, nineSixteenths};
 ghost use Rattle.box_muller.specs.DataSheet.{thirtyThreeSixtyFourths};
 ghost use Rattle.roots.specs.Root.{wholeRoot};
 ghost use Rattle.sample.specs.Chunk.{chunkHolds, samplesAt};
-ghost use Rattle.sample.specs.Private.{scaleOf, underRootAt};
+ghost use Rattle.sample.specs.Private.{scaleOf, doublingsAt, mantissaAt, underNormals, underRootAt};
 
 // The fraction bits of a sample of 16 bits, its unit in the product of F and a sine or cosine, and half of it.
 const FRACTION_BITS: u32 = 11;
@@ -70,21 +70,60 @@ fn pair_of(in18: bool, f: u64, v: u64) -> Pair
     }
 }
 
-// 2Q of z = 65536 k + v.
-fn under_root_at(z: u64) -> u64
-    ensures { λ r. ⌜ r ≡ underRootAt z ⌝ }
-{
-    radius::under_root(z / 65536)
-}
-
-// 2Q of each z.
-fn under_roots(z: &[u64], x: &mut [u64])
-    requires { ⌜ length (now x) ≡ length (now z) ⌝ }
-    ensures { λ r. ⌜ now (x .exit) ≡ map underRootAt (now (z .entry)) ⌝ }
+// (49 - e) K and M of each z, into x and f, by floats.
+fn float_normals(z: &[u64], x: &mut [u64], f: &mut [u64])
+    requires { ⌜ (length (now x) ≡ length (now z)) × (length (now f) ≡ length (now z)) ⌝ }
+    ensures { λ _. ⌜ now (x .exit) ≡ map doublingsAt (now (z .entry)) ⌝ }
+    ensures { λ _. ⌜ now (f .exit) ≡ map mantissaAt (now (z .entry)) ⌝ }
 {
     let mut i = 0;
     while i < z.len() {
-        x[i] = under_root_at(z[i]);
+        let normal = radius::float_normal(z[i]);
+        x[i] = normal.doublings;
+        f[i] = normal.mantissa;
+        i += 1;
+    }
+}
+
+// The same in whole numbers, of the same type and contract, so that either may stand for the other.
+fn whole_normals(z: &[u64], x: &mut [u64], f: &mut [u64])
+    requires { ⌜ (length (now x) ≡ length (now z)) × (length (now f) ≡ length (now z)) ⌝ }
+    ensures { λ _. ⌜ now (x .exit) ≡ map doublingsAt (now (z .entry)) ⌝ }
+    ensures { λ _. ⌜ now (f .exit) ≡ map mantissaAt (now (z .entry)) ⌝ }
+{
+    let mut i = 0;
+    while i < z.len() {
+        let normal = radius::whole_normal(z[i]);
+        x[i] = normal.doublings;
+        f[i] = normal.mantissa;
+        i += 1;
+    }
+}
+
+// The most pairs that go by whole numbers alone.
+const FEW: usize = 4;
+
+// (49 - e) K and M of each z, into x and f.
+fn normal_each(z: &[u64], x: &mut [u64], f: &mut [u64])
+    requires { ⌜ (length (now x) ≡ length (now z)) × (length (now f) ≡ length (now z)) ⌝ }
+    ensures { λ _. ⌜ now (x .exit) ≡ map doublingsAt (now (z .entry)) ⌝ }
+    ensures { λ _. ⌜ now (f .exit) ≡ map mantissaAt (now (z .entry)) ⌝ }
+{
+    if z.len() <= FEW {
+        whole_normals(z, x, f);
+        return;
+    }
+    float_normals(z, x, f)
+}
+
+// 2Q from each (49 - e) K and M, in its place.
+fn under_roots(f: &[u64], x: &mut [u64])
+    requires { ⌜ length (now x) ≡ length (now f) ⌝ }
+    ensures { λ _. ⌜ now (x .exit) ≡ underNormals (now (x .entry)) (now (f .entry)) ⌝ }
+{
+    let mut i = 0;
+    while i < f.len() {
+        x[i] = radius::under_root(x[i], f[i]);
         i += 1;
     }
 }
@@ -160,9 +199,6 @@ fn whole_roots(x: &[u64], f: &mut [u64])
     }
 }
 
-// The most pairs whose roots are guessed in whole numbers.
-const FEW: usize = 4;
-
 // The root of each x.
 fn root_each(x: &[u64], f: &mut [u64])
     requires { ⌜ length (now f) ≡ length (now x) ⌝ }
@@ -175,14 +211,15 @@ fn root_each(x: &[u64], f: &mut [u64])
     float_roots(x, f)
 }
 
-// The samples of each z, by passes over them all: 2Q of each, the root of that, and the samples. What x and f hold does not matter. A single pair goes this way too: nothing else calls the passes, so that the compiler puts them into one function. (z is lent
+// The samples of each z, by passes over them all: (49 - e) K and M, 2Q from these, its root, and the samples. What x and f hold does not matter. A single pair goes this way too: nothing else calls the passes, so that the compiler puts them into one function. (z is lent
 // on as a part, the whole of it: the compiler then reads its place once.)
 fn by_passes(in18: bool, z: &[u64], x: &mut [u64], f: &mut [u64], out: &mut [i32])
     requires { ⌜ (length (now x) ≡ length (now z)) × (length (now f) ≡ length (now z)) × (length (now out) ≡ 2 * length (now z)) ⌝ }
     ensures { λ r. ⌜ now (out .exit) ≡ samplesAt (bitsOf in18) (now (z .entry)) ⌝ }
 {
     let n = z.len();
-    under_roots(&z[0..n], x);
+    normal_each(&z[0..n], x, f);
+    under_roots(f, x);
     root_each(x, f);
     sample_each(in18, &z[0..n], f, out)
 }

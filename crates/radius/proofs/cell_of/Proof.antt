@@ -6,7 +6,7 @@ use native.Mathlib.Omega.{arith}
 use borrow.Author.Needs.{needs}
 use Rattle.tables.specs.Tables.{entryOf, logFine}
 use Rattle.radius.specs.Steps.{coarseIndex, rest, fineIndex, remainder, correction}
-use Rattle.radius.proofs.MantissaLaws.{mantissa-again}
+use Rattle.radius.proofs.NormalLaws.{mantissa-again}
 use Rattle.radius.proofs.Cells.{Parts, reciprocal-small, product-fits, sum-fits, divisor-fits, parts, shifted-fits, fine-is, correction-is}
 use Rattle.radius.proofs.cell_of.Statement.{statement}
 use Rattle.radius.proofs.cell_of.Tie as tie
@@ -70,7 +70,7 @@ mul-quotient c = omega (arith, cell-parts (c .before .before) .remainder-small)
 quotient-requires : tie.Need-quotient-requires
 quotient-requires c κs =
     let cell = cell-parts (c .before .before) in
-    (cell .divisor-some, cell .divisor-small, c .about .ensures)
+    (omega (arith, cell .remainder-small), cell .divisor-least, cell .divisor-small, c .about .ensures)
 
 returns : tie.Need-returns
 unfolding coarseIndex rest fineIndex remainder correction

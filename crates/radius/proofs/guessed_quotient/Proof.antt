@@ -13,7 +13,7 @@ unique n d q some low high =
     let below : n / d < q + 1 = div-lt-iff-lt-mul some .1 high in
     le-antisymm (le-div-iff-mul-le some .1 low) (omega (arith, below))
 
-fits : (g d : ℕ) → g < 2 ^ 32 → d < 2 ^ 27 → g * d < 2 ^ 64
+fits : (g d : ℕ) → g < 2 ^ 32 → d < 2 ^ 25 → g * d < 2 ^ 64
 fits g d few small = omega (arith, mul-le-mul few small)
 
 mul-product : tie.Need-mul-product

@@ -1,37 +1,38 @@
--- `sample::under_roots` is a pass.
-use Prim.Native.Nat.{_-_, _≤_}
+-- `sample::under_roots` is a pass in place.
+use Prim.Native.Nat.{_-_}
 use native.Mathlib.Omega.{arith}
 use lib.ListN.{length}
 use borrow.Author.Needs.{needs}
-use Rattle.sample.proofs.Passes.{Passed, begun, again, ended}
-use Rattle.sample.specs.Private.{underRootAt}
+use Rattle.sample.proofs.NormalPass.{Replaced, none, one-more, all}
 use Rattle.sample.proofs.under_roots.Statement.{statement}
 use Rattle.sample.proofs.under_roots.Tie as tie
 
 abbrev Inv-loop : tie.InvT-loop
-Inv-loop z x₀ i₀ x i = Passed (0 ≤ 0) underRootAt z x₀ x i
+Inv-loop f x₀ i₀ x i = Replaced f x₀ x i
 
 abbrev μ-loop : tie.MeasureT-loop
-μ-loop z x₀ i₀ x i = length z - i
+μ-loop f x₀ i₀ x i = length f - i
 
 loop-holds : tie.Need-loop-holds Inv-loop μ-loop
-loop-holds c = begun _ _
+loop-holds c = none _ _
+
+slice-read-under-root : tie.Need-slice-read-under-root Inv-loop μ-loop
+slice-read-under-root c =
+    let head = c .before .before in
+    omega (arith, c .before .loop-test .taken, head .loop .inv .kept, head .before .before .before .pre)
 
 loop-again : tie.Need-loop-again Inv-loop μ-loop
 loop-again c =
-    let head = c .before .before .before in
-    let same = head .before .before .before .pre in
-    again same (head .loop .inv) (omega (arith, c .before .before .loop-test .taken, head .loop .inv .kept, same)) (λ s. s) (λ _. c .under-root-at .ensures)
+    let head = c .before .before .before .before in
+    one-more (head .before .before .before .pre) (head .loop .inv) (c .before .before .before .loop-test .taken) (c .under-root .ensures)
 
 same-length : tie.Need-same-length Inv-loop μ-loop
 same-length c = c .before .loop .inv .kept
 
 returns : tie.Need-returns Inv-loop μ-loop
-returns c =
-    let same = c .before .before .before .before .pre in
-    ended same (c .before .loop .inv) (omega (arith, c .loop-test .left, c .before .loop .inv .kept, same)) (omega arith)
+returns c = all (c .before .before .before .before .pre) (c .before .loop .inv) (c .loop-test .left)
 
 pub under-roots-spec : {M : Type 1} → statement M
 under-roots-spec = tie.close
-    (tie.spec Inv-loop μ-loop loop-holds (λ c. search needs) (λ c. search needs) (λ c κs. search needs) (λ c. search needs) (λ c. search needs)
-    (λ c. search needs) (λ c. search needs) loop-again same-length returns)
+    (tie.spec Inv-loop μ-loop loop-holds (λ c. search needs) slice-read-under-root (λ c. search needs) (λ c. search needs) (λ c κs. search needs)
+    (λ c. search needs) (λ c. search needs) (λ c. search needs) (λ c. search needs) loop-again same-length returns)
