@@ -30,10 +30,10 @@ mul-t7 c = record { fits = few _ _ (omega arith) (omega (arith, c .ln-two .ensur
 returns : tie.Need-returns
 unfolding doublingsOf
 returns c =
-    let at = k (c .before) in
-    let few-doublings : (1072 - c .before .float-bits .result / 2 ^ 52) % 64 ≡ 49 - topBit (numerator at) =
-    omega (arith, exponent (c .before), top-at at (below (c .before))) in
-    (ap₂ _*_ few-doublings (c .ln-two .ensures), rw (c .before .float-bits .ensures) (digits-are at (below (c .before))))
+    let at = c .before in (
+      ap₂ _*_ (omega (arith, exponent at, top-at (k at) (below at))) (c .ln-two .ensures),
+      rw (at .float-bits .ensures) (digits-are (k at) (below at)),
+    )
 
 pub float-normal-spec : {M : Type 1} → statement M
 float-normal-spec = tie.close (tie.spec (λ c κs. search needs) (λ c κs. search needs) sub-t5 mul-t7 (λ c. search needs) returns)

@@ -18,7 +18,7 @@ mul-t5 c = record { fits = few _ _ (omega arith) (omega (arith, c .ln-two .ensur
 
 returns : tie.Need-returns
 unfolding doublingsOf
-returns c = (ap₂ (λ e K. (49 - e) * K) (c .before .before .top-bit .ensures .0) (c .before .ln-two .ensures), c .mantissa .ensures)
+returns c = (ap₂ _*_ (omega (arith, c .before .before .top-bit .ensures .0)) (c .before .ln-two .ensures), c .mantissa .ensures)
 
 pub whole-normal-spec : {M : Type 1} → statement M
 whole-normal-spec =
