@@ -1,7 +1,7 @@
 #!/usr/bin/env python3
 """Recomputes the seven tables with mpmath at 200 bits and compares them with the sources: crate `tables` (src/logarithms.rt,
 cosines.rt, sines.rt, specs/Values.antt), and the matches of crates `log_coarse_lookup`, `log_fine_lookup` and `reciprocal_lookup` (with
-specs/Private.antt), and `rotation_lookup`. The cells of the root in crate `roots` too.
+specs/Private.antt), and `rotation_lookup`. The cells of the root in crate `root_lookup` too.
 
   python3 tools/tables.py           compare the sources with the recomputed tables
   python3 tools/tables.py --write   write the tables and the arms of the matches anew (then run `rt fmt`)
@@ -95,7 +95,7 @@ def parted_cell(x):
     return f"0x{x >> 36:07x}_{x >> 12 & 0xFFFFFF:06x}_{x & 0xFFF:03x}"
 
 
-MATCHES.append(("roots", "cells", "cell", 64, parted_cell, [root_cell(n) for n in range(64, 256)]))
+MATCHES.append(("root_lookup", "lib", "cell", 64, parted_cell, [root_cell(n) for n in range(64, 256)]))
 
 
 def rows(words, between, indent, width=120):

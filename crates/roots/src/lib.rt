@@ -1,7 +1,5 @@
 // The whole part of a square root: two guesses, in floating point and in whole numbers, which promise no more than a bound; a test of a guess that has
 // no jump; and the root from any guess, which is right whatever the guess is.
-mod cells;
-
 ghost use mathlib.Core.Path.{_≡_};
 ghost use mathlib.Core.Bool.{not};
 ghost use Prim.Native.Nat.{_%_, _^_, _<_};
@@ -106,7 +104,7 @@ pub fn near(x: u64) -> u64
 {
     let places = u64::leading_zeros(x | 1) % 64 / 2;
     let scaled = x << (2 * places);
-    let cell = cells::cell(scaled >> 56);
+    let cell = root_lookup::cell(scaled >> 56);
     let along = (scaled >> 32) % SLOPE;
     let fall = product(cell % FALLS, along) / FALL;
     let slope = std::num::wrapping_sub_u64(cell / FALLS % SLOPE, fall) % SLOPE;

@@ -1,6 +1,8 @@
-// The root of a number y from 2^62 on in cells, by its upper 8 bits, from 64 to 255. A cell is three numbers as one: 28 bits of the root at
-// its start, 24 of the slope from there and 12 of how fast the slope falls. tools/tables.py works them out. There is no contract: whatever a
-// cell holds, no root depends on it.
+// Cells of the square root for a guess, by one match.
+
+// The root of a number from 2^62 on, by its upper 8 bits n, from 64 to 255. A cell is three numbers as one: 28 bits of the root at its start, 24
+// of the slope from there and 12 of how fast the slope falls. tools/tables.py works them out. Which number a cell is, is left to the program,
+// so there is no contract: whatever it is, no root depends on it.
 pub fn cell(n: u64) -> u64 {
     match n {
         64 => 0x000001f_fffeec_fd1,
