@@ -15,9 +15,9 @@ ghost use Rattle.angle.specs.Steps.{signedOf};
 ghost use Rattle.box_muller.specs.Steps.{fractionBits, bitsOf, size, rounded};
 ghost use Rattle.box_muller.specs.Sample.{samplesOf, as18, nineSixteenths};
 ghost use Rattle.box_muller.specs.DataSheet.{thirtyThreeSixtyFourths};
-ghost use Rattle.roots.specs.Root.{wholeRoot};
+ghost use Rattle.radii.specs.Radii.{radiusAt};
 ghost use Rattle.sample.specs.Chunk.{chunkHolds, samplesAt};
-ghost use Rattle.sample.specs.Private.{scaleOf, doublingsAt, mantissaAt, underNormals, underRootAt};
+ghost use Rattle.sample.specs.Private.{scaleOf};
 
 // The fraction bits of a sample of 16 bits, its unit in the product of F and a sine or cosine, and half of it.
 const FRACTION_BITS: u32 = 11;
@@ -70,67 +70,9 @@ fn pair_of(in18: bool, f: u64, v: u64) -> Pair
     }
 }
 
-// (49 - e) K and M of each z, into x and f, by floats.
-fn float_normals(z: &[u64], x: &mut [u64], f: &mut [u64])
-    requires { ⌜ (length (now x) ≡ length (now z)) × (length (now f) ≡ length (now z)) ⌝ }
-    ensures { λ _. ⌜ now (x .exit) ≡ map doublingsAt (now (z .entry)) ⌝ }
-    ensures { λ _. ⌜ now (f .exit) ≡ map mantissaAt (now (z .entry)) ⌝ }
-{
-    let mut i = 0;
-    while i < z.len() {
-        let normal = radius::float_normal(z[i]);
-        x[i] = normal.doublings;
-        f[i] = normal.mantissa;
-        i += 1;
-    }
-}
-
-// The same in whole numbers, of the same type and contract, so that either may stand for the other.
-fn whole_normals(z: &[u64], x: &mut [u64], f: &mut [u64])
-    requires { ⌜ (length (now x) ≡ length (now z)) × (length (now f) ≡ length (now z)) ⌝ }
-    ensures { λ _. ⌜ now (x .exit) ≡ map doublingsAt (now (z .entry)) ⌝ }
-    ensures { λ _. ⌜ now (f .exit) ≡ map mantissaAt (now (z .entry)) ⌝ }
-{
-    let mut i = 0;
-    while i < z.len() {
-        let normal = radius::whole_normal(z[i]);
-        x[i] = normal.doublings;
-        f[i] = normal.mantissa;
-        i += 1;
-    }
-}
-
-// The most pairs that go by whole numbers alone.
-const FEW: usize = 4;
-
-// (49 - e) K and M of each z, into x and f.
-fn normal_each(z: &[u64], x: &mut [u64], f: &mut [u64])
-    requires { ⌜ (length (now x) ≡ length (now z)) × (length (now f) ≡ length (now z)) ⌝ }
-    ensures { λ _. ⌜ now (x .exit) ≡ map doublingsAt (now (z .entry)) ⌝ }
-    ensures { λ _. ⌜ now (f .exit) ≡ map mantissaAt (now (z .entry)) ⌝ }
-{
-    if z.len() <= FEW {
-        whole_normals(z, x, f);
-        return;
-    }
-    float_normals(z, x, f)
-}
-
-// 2Q from each (49 - e) K and M, in its place.
-fn under_roots(f: &[u64], x: &mut [u64])
-    requires { ⌜ length (now x) ≡ length (now f) ⌝ }
-    ensures { λ _. ⌜ now (x .exit) ≡ underNormals (now (x .entry)) (now (f .entry)) ⌝ }
-{
-    let mut i = 0;
-    while i < f.len() {
-        x[i] = radius::under_root(x[i], f[i]);
-        i += 1;
-    }
-}
-
 // The samples of each z, from its radius F.
 fn sample_each(in18: bool, z: &[u64], f: &[u64], out: &mut [i32])
-    requires { ⌜ (now f ≡ map wholeRoot (map underRootAt (now z))) × (length (now out) ≡ 2 * length (now z)) ⌝ }
+    requires { ⌜ (now f ≡ map radiusAt (now z)) × (length (now out) ≡ 2 * length (now z)) ⌝ }
     ensures { λ r. ⌜ now (out .exit) ≡ samplesAt (bitsOf in18) (now (z .entry)) ⌝ }
 {
     let mut i = 0;
@@ -144,83 +86,14 @@ fn sample_each(in18: bool, z: &[u64], f: &[u64], out: &mut [i32])
     }
 }
 
-// A guess at the root of each x, and the doubts of all, with no jump, so that the compiler makes several at a time.
-fn guesses(x: &[u64], f: &mut [u64]) -> u64
-    requires { ⌜ length (now f) ≡ length (now x) ⌝ }
-    ensures { λ r. ⌜ (r < 2 ^ 63 → now (f .exit) ≡ map wholeRoot (now (x .entry))) ⌝ }
-{
-    let mut doubts = 0;
-    let mut i = 0;
-    while i < f.len() {
-        let guess = roots::guess(x[i]);
-        f[i] = guess;
-        doubts = doubts | roots::doubt(x[i], guess);
-        i += 1;
-    }
-    doubts
-}
-
-// The root of each x, from any guess that stands in its place.
-fn settle(x: &[u64], f: &mut [u64])
-    requires { ⌜ length (now f) ≡ length (now x) ⌝ }
-    ensures { λ _. ⌜ now (f .exit) ≡ map wholeRoot (now (x .entry)) ⌝ }
-{
-    let mut i = 0;
-    while i < f.len() {
-        f[i] = roots::root(x[i], f[i]);
-        i += 1;
-    }
-}
-
-// What doubts are below where there is none.
-const DOUBTS: u64 = 1 << 63;
-
-// The root of each x by guesses in floating point. They are tested all at once; where one is in doubt, which is rare, each is tested by itself.
-fn float_roots(x: &[u64], f: &mut [u64])
-    requires { ⌜ length (now f) ≡ length (now x) ⌝ }
-    ensures { λ _. ⌜ now (f .exit) ≡ map wholeRoot (now (x .entry)) ⌝ }
-{
-    if guesses(x, f) < DOUBTS {
-        return;
-    }
-    settle(x, f)
-}
-
-// The root of each x by guesses in whole numbers, of the same type and contract as `float_roots`, so that either may stand for the other: of a few x
-// it is faster, and on processors without floating point always.
-fn whole_roots(x: &[u64], f: &mut [u64])
-    requires { ⌜ length (now f) ≡ length (now x) ⌝ }
-    ensures { λ _. ⌜ now (f .exit) ≡ map wholeRoot (now (x .entry)) ⌝ }
-{
-    let mut i = 0;
-    while i < f.len() {
-        f[i] = roots::root(x[i], roots::near(x[i]));
-        i += 1;
-    }
-}
-
-// The root of each x.
-fn root_each(x: &[u64], f: &mut [u64])
-    requires { ⌜ length (now f) ≡ length (now x) ⌝ }
-    ensures { λ _. ⌜ now (f .exit) ≡ map wholeRoot (now (x .entry)) ⌝ }
-{
-    if x.len() <= FEW {
-        whole_roots(x, f);
-        return;
-    }
-    float_roots(x, f)
-}
-
-// The samples of each z, by passes over them all: (49 - e) K and M, 2Q from these, its root, and the samples. What x and f hold does not matter. A single pair goes this way too: nothing else calls the passes, so that the compiler puts them into one function. (z is lent
-// on as a part, the whole of it: the compiler then reads its place once.)
+// The samples of each z. What x and f hold does not matter. A single pair goes this way too: nothing else calls `radii`, so that the compiler
+// puts its passes and the last one into one function. (z is lent on as a part, the whole of it: the compiler then reads its place once.)
 fn by_passes(in18: bool, z: &[u64], x: &mut [u64], f: &mut [u64], out: &mut [i32])
     requires { ⌜ (length (now x) ≡ length (now z)) × (length (now f) ≡ length (now z)) × (length (now out) ≡ 2 * length (now z)) ⌝ }
     ensures { λ r. ⌜ now (out .exit) ≡ samplesAt (bitsOf in18) (now (z .entry)) ⌝ }
 {
     let n = z.len();
-    normal_each(&z[0..n], x, f);
-    under_roots(f, x);
-    root_each(x, f);
+    radii::radii(&z[0..n], x, f);
     sample_each(in18, &z[0..n], f, out)
 }
 

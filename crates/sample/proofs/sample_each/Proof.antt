@@ -1,7 +1,7 @@
 -- `sample::sample_each` meets its contract. The invariant of its loop: the slice is filled for the first i of the z. The measure is
 -- what is left of it.
 use mathlib.Core.Path.{_≡_, refl, ap, _∙_}
-use mathlib.Core.List.{List, map}
+use mathlib.Core.List.{List}
 use Prim.Native.Nat.{ℕ, _+_, _*_, _-_, _/_, _%_, _<_}
 use native.Mathlib.Omega.{arith}
 use lib.ListN.{length, length-map, getD, length-set}
@@ -9,15 +9,15 @@ use lib.Seq.{take-all}
 use borrow.Author.Needs.{needs}
 use mir.Syntax.{w32}
 use mir.Facts.{toZ-ofZ}
-use Rattle.roots.specs.Root.{wholeRoot}
 use Rattle.radius.specs.Steps.{radiusOf}
 use Rattle.radius.proofs.Ranges.{radius-of-range}
 use Rattle.angle.specs.Steps.{signedOf}
 use Rattle.box_muller.specs.Steps.{bitsOf, rounded}
 use Rattle.box_muller.specs.Sample.{firstOf, secondOf}
-use Rattle.sample.specs.Private.{underRootAt}
+use Rattle.radii.specs.Radii.{radiusAt}
+use Rattle.radii.proofs.RadiiLaws.{mapped-at}
 use Rattle.sample.proofs.ChunkLaws.{filled, filled-whole, filled-next}
-use Rattle.sample.proofs.PassLaws.{Reached, radius-is}
+use Rattle.sample.proofs.PassLaws.{Reached}
 use Rattle.sample.proofs.sample_each.Statement.{statement}
 use Rattle.sample.proofs.sample_each.Tie as tie
 
@@ -39,7 +39,7 @@ shared-slice-read-pair-of : tie.Need-shared-slice-read-pair-of Inv-loop μ-loop
 shared-slice-read-pair-of c =
     let start = c .before .before .before .before .before in
     let z = start .args .z .now in
-    let size = ap length (start .pre .0) ∙ length-map (map underRootAt z) wholeRoot ∙ length-map z underRootAt in
+    let size = ap length (start .pre .0) ∙ length-map z radiusAt in
     omega (arith, size, inside (c .before))
 
 shared-slice-read-pair-of-2 : tie.Need-shared-slice-read-pair-of-2 Inv-loop μ-loop
@@ -50,7 +50,7 @@ radius : (c : tie.In-loop Inv-loop μ-loop) → getD (c .before .before .before 
     ≡ radiusOf (getD (c .before .before .before .before .args .z .now) (c .before .loop .i) 0 / 65536)
 radius c =
     let start = c .before .before .before .before in
-    radius-is (start .args .z .now) (start .args .f .now) _ (start .pre .0) (inside c)
+    rw (start .pre .0) (mapped-at radiusAt (start .args .z .now) _ (inside c))
 
 pair-of-requires : tie.Need-pair-of-requires Inv-loop μ-loop
 pair-of-requires c κs =

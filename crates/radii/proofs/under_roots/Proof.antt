@@ -1,11 +1,11 @@
--- `sample::under_roots` is a pass in place.
+-- `radii::under_roots` is a pass in place.
 use Prim.Native.Nat.{_-_}
 use native.Mathlib.Omega.{arith}
 use lib.ListN.{length}
 use borrow.Author.Needs.{needs}
-use Rattle.sample.proofs.NormalPass.{Replaced, none, one-more, all}
-use Rattle.sample.proofs.under_roots.Statement.{statement}
-use Rattle.sample.proofs.under_roots.Tie as tie
+use Rattle.radii.proofs.NormalPass.{Replaced, none, one-more, all}
+use Rattle.radii.proofs.under_roots.Statement.{statement}
+use Rattle.radii.proofs.under_roots.Tie as tie
 
 abbrev Inv-loop : tie.InvT-loop
 Inv-loop f x₀ i₀ x i = Replaced f x₀ x i

@@ -1,7 +1,7 @@
--- `sample::float_roots` meets its contract: guesses of which there is no doubt are the roots, and of any others each is settled.
+-- `radii::float_roots` meets its contract: guesses of which there is no doubt are the roots, and of any others each is settled.
 use borrow.Author.Needs.{needs}
-use Rattle.sample.proofs.float_roots.Statement.{statement}
-use Rattle.sample.proofs.float_roots.Tie as tie
+use Rattle.radii.proofs.float_roots.Statement.{statement}
+use Rattle.radii.proofs.float_roots.Tie as tie
 
 returns : tie.Need-returns
 returns c = c .before .before .before .guesses .ensures (c .if1 .taken)

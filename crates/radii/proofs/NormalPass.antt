@@ -8,8 +8,9 @@ use lib.ListN.{length, take, drop, getD, set, length-set, drop-of-length-le}
 use lib.Seq.{drop-cons, take-all, take-suc-set, drop-set-lt, append-snoc}
 use Rattle.radius.specs.Normal.{underNormal}
 use Rattle.radius.proofs.NormalLaws.{under-normal}
-use Rattle.sample.specs.Private.{doublingsAt, mantissaAt, underNormals, underRootAt}
-use Rattle.sample.proofs.Passes.{Passed, again, ended}
+use Rattle.radii.specs.Radii.{underRootAt}
+use Rattle.radii.specs.Private.{doublingsAt, mantissaAt, underNormals}
+use Rattle.radii.proofs.Passes.{Passed, again, ended}
 
 -- both lists, as far as the first i
 pub record Normals (z x₀ f₀ x f : List ℕ) (i : ℕ) : Type 0 where
@@ -33,12 +34,14 @@ module _ {z x₀ f₀ x f : List ℕ} {i : ℕ} (sizes : (length x₀ ≡ length
     ended (sizes .1) (r .mantissas) (omega (arith, r .mantissas .kept)) (omega arith),
   )
 
--- 2Q from the two numbers of each z of 64 bits
+-- 2Q from the two numbers of a z of 64 bits, and of each
+pub under-root-at : (z : ℕ) {d M : ℕ} → z < 2 ^ 64 → (d ≡ doublingsAt z) × (M ≡ mantissaAt z) → underNormal d M ≡ underRootAt z
+under-root-at z fits e = ap₂ underNormal (e .0) (e .1) ∙ under-normal (z / 65536) (omega arith)
+
 pub under-normals : (zs : List ℕ) → ((i : ℕ) → getD zs i 0 < 2 ^ 64) → underNormals (map doublingsAt zs) (map mantissaAt zs) ≡ map underRootAt zs
 unfolding underNormals
 under-normals [] fits = refl
-under-normals (z ∷ zs) fits =
-    ap₂ _∷_ (under-normal (z / 65536) (omega (arith, fits 0))) (under-normals zs (λ i. fits (suc i)))
+under-normals (z ∷ zs) fits = ap₂ _∷_ (under-root-at z (fits 0) (refl, refl)) (under-normals zs (λ i. fits (suc i)))
 
 -- the first i in place are done, and the rest are as they were
 pub record Replaced (f x₀ x : List ℕ) (i : ℕ) : Type 0 where

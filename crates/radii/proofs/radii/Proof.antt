@@ -1,0 +1,33 @@
+-- `radii::radii` meets its contract: each of its three returns is a case of the lengths.
+use mathlib.Core.Path.{_≡_, sym, ap, _∙_}
+use mathlib.Core.List.{map}
+use native.Mathlib.Omega.{arith}
+use lib.ListN.{length}
+use borrow.Author.Needs.{needs}
+use Rattle.roots.specs.Root.{wholeRoot}
+use Rattle.radii.proofs.RadiiLaws.{x-other, f-other, held, roots-are}
+use Rattle.radii.proofs.radii.Statement.{statement}
+use Rattle.radii.proofs.radii.Tie as tie
+
+returns : tie.Need-returns
+returns c = x-other _ _ _ (omega arith)
+
+returns-2 : tie.Need-returns-2
+returns-2 c = f-other _ _ _ (omega arith) (omega arith)
+
+returns-3 : tie.Need-returns-3
+returns-3 c =
+    let made = c .before .before .before .before .before .before .before .before .before in
+    let start = made .before .before .before .before .before .before .before .before in
+    let z = start .args .z .now in
+    let x = start .args .x .now in
+    let f = start .args .f .now in
+    let x-size : length x ≡ length z = omega (arith, made .before .before .before .before) in
+    let f-size : length f ≡ length z = omega (arith, made .before .before .before) in
+    let same = held z x f x-size f-size in
+    let under = made .under-root-each .ensures in
+    (under ∙ sym (same .0), c .before .before .root-each .ensures ∙ ap (map wholeRoot) under ∙ roots-are z ∙ sym (same .1))
+
+pub radii-spec : {M : Type 1} → statement M
+radii-spec = tie.close
+    (tie.spec returns returns-2 (λ c κs. search needs) (λ c κs. search needs) (λ c. search needs) (λ c. search needs) returns-3)

@@ -1,0 +1,188 @@
+// The radius F of each of some numbers z = 65536 k + v, by passes over them all that have no jump: (49 - e) K and M of each k, 2Q from these, and its root.
+ghost use mathlib.Core.Path.{_≡_};
+ghost use mathlib.Core.List.{map};
+ghost use Prim.Native.Nat.{_^_, _<_};
+ghost use lib.ListN.{length};
+ghost use Rattle.roots.specs.Root.{wholeRoot};
+ghost use Rattle.radii.specs.Radii.{underRootAt, underRootsHold, radiiHold};
+ghost use Rattle.radii.specs.Private.{doublingsAt, mantissaAt, underNormals};
+
+// (49 - e) K and M of each z, into x and f, by floats.
+fn float_normals(z: &[u64], x: &mut [u64], f: &mut [u64])
+    requires { ⌜ (length (now x) ≡ length (now z)) × (length (now f) ≡ length (now z)) ⌝ }
+    ensures { λ _. ⌜ now (x .exit) ≡ map doublingsAt (now (z .entry)) ⌝ }
+    ensures { λ _. ⌜ now (f .exit) ≡ map mantissaAt (now (z .entry)) ⌝ }
+{
+    let mut i = 0;
+    while i < z.len() {
+        let normal = radius::float_normal(z[i]);
+        x[i] = normal.doublings;
+        f[i] = normal.mantissa;
+        i += 1;
+    }
+}
+
+// The same in whole numbers, of the same type and contract, so that either may stand for the other.
+fn whole_normals(z: &[u64], x: &mut [u64], f: &mut [u64])
+    requires { ⌜ (length (now x) ≡ length (now z)) × (length (now f) ≡ length (now z)) ⌝ }
+    ensures { λ _. ⌜ now (x .exit) ≡ map doublingsAt (now (z .entry)) ⌝ }
+    ensures { λ _. ⌜ now (f .exit) ≡ map mantissaAt (now (z .entry)) ⌝ }
+{
+    let mut i = 0;
+    while i < z.len() {
+        let normal = radius::whole_normal(z[i]);
+        x[i] = normal.doublings;
+        f[i] = normal.mantissa;
+        i += 1;
+    }
+}
+
+// The most pairs that go by whole numbers alone.
+const FEW: usize = 4;
+
+// (49 - e) K and M of each z, into x and f.
+fn normal_each(z: &[u64], x: &mut [u64], f: &mut [u64])
+    requires { ⌜ (length (now x) ≡ length (now z)) × (length (now f) ≡ length (now z)) ⌝ }
+    ensures { λ _. ⌜ now (x .exit) ≡ map doublingsAt (now (z .entry)) ⌝ }
+    ensures { λ _. ⌜ now (f .exit) ≡ map mantissaAt (now (z .entry)) ⌝ }
+{
+    if z.len() <= FEW {
+        whole_normals(z, x, f);
+        return;
+    }
+    float_normals(z, x, f)
+}
+
+// 2Q from each (49 - e) K and M, in its place.
+fn under_roots(f: &[u64], x: &mut [u64])
+    requires { ⌜ length (now x) ≡ length (now f) ⌝ }
+    ensures { λ _. ⌜ now (x .exit) ≡ underNormals (now (x .entry)) (now (f .entry)) ⌝ }
+{
+    let mut i = 0;
+    while i < f.len() {
+        x[i] = radius::under_root(x[i], f[i]);
+        i += 1;
+    }
+}
+
+// 2Q of each z, by way of (49 - e) K and M of all.
+fn passed_under_roots(z: &[u64], x: &mut [u64], f: &mut [u64])
+    requires { ⌜ (length (now x) ≡ length (now z)) × (length (now f) ≡ length (now z)) ⌝ }
+    ensures { λ _. ⌜ now (x .exit) ≡ map underRootAt (now (z .entry)) ⌝ }
+{
+    normal_each(z, x, f);
+    under_roots(f, x)
+}
+
+// The same one by one, of the same type and contract. What f holds stays.
+fn single_under_roots(z: &[u64], x: &mut [u64], f: &mut [u64])
+    requires { ⌜ (length (now x) ≡ length (now z)) × (length (now f) ≡ length (now z)) ⌝ }
+    ensures { λ _. ⌜ now (x .exit) ≡ map underRootAt (now (z .entry)) ⌝ }
+{
+    let mut i = 0;
+    while i < x.len() {
+        let normal = radius::whole_normal(z[i]);
+        x[i] = radius::under_root(normal.doublings, normal.mantissa);
+        i += 1;
+    }
+}
+
+// Whether 2Q is made by passes. Nothing is promised of it, so that `under_root_each` is proved both ways: its other way is there so that the module
+// has `single_under_roots`, which tools/target names in place of `passed_under_roots` for a processor that does not make two floats at a time.
+fn in_passes() -> bool {
+    true
+}
+
+// 2Q of each z. What f holds does not matter.
+fn under_root_each(z: &[u64], x: &mut [u64], f: &mut [u64])
+    requires { ⌜ (length (now x) ≡ length (now z)) × (length (now f) ≡ length (now z)) ⌝ }
+    ensures { λ _. ⌜ now (x .exit) ≡ map underRootAt (now (z .entry)) ⌝ }
+{
+    if in_passes() {
+        passed_under_roots(z, x, f);
+        return;
+    }
+    single_under_roots(z, x, f)
+}
+
+// A guess at the root of each x, and the doubts of all, with no jump, so that the compiler makes several at a time.
+fn guesses(x: &[u64], f: &mut [u64]) -> u64
+    requires { ⌜ length (now f) ≡ length (now x) ⌝ }
+    ensures { λ r. ⌜ (r < 2 ^ 63 → now (f .exit) ≡ map wholeRoot (now (x .entry))) ⌝ }
+{
+    let mut doubts = 0;
+    let mut i = 0;
+    while i < f.len() {
+        let guess = roots::guess(x[i]);
+        f[i] = guess;
+        doubts = doubts | roots::doubt(x[i], guess);
+        i += 1;
+    }
+    doubts
+}
+
+// The root of each x, from any guess that stands in its place.
+fn settle(x: &[u64], f: &mut [u64])
+    requires { ⌜ length (now f) ≡ length (now x) ⌝ }
+    ensures { λ _. ⌜ now (f .exit) ≡ map wholeRoot (now (x .entry)) ⌝ }
+{
+    let mut i = 0;
+    while i < f.len() {
+        f[i] = roots::root(x[i], f[i]);
+        i += 1;
+    }
+}
+
+// What doubts are below where there is none.
+const DOUBTS: u64 = 1 << 63;
+
+// The root of each x by guesses in floating point. They are tested all at once; where one is in doubt, which is rare, each is tested by itself.
+fn float_roots(x: &[u64], f: &mut [u64])
+    requires { ⌜ length (now f) ≡ length (now x) ⌝ }
+    ensures { λ _. ⌜ now (f .exit) ≡ map wholeRoot (now (x .entry)) ⌝ }
+{
+    if guesses(x, f) < DOUBTS {
+        return;
+    }
+    settle(x, f)
+}
+
+// The root of each x by guesses in whole numbers, of the same type and contract as `float_roots`, so that either may stand for the other: of a few x
+// it is faster, and on processors without floating point always.
+fn whole_roots(x: &[u64], f: &mut [u64])
+    requires { ⌜ length (now f) ≡ length (now x) ⌝ }
+    ensures { λ _. ⌜ now (f .exit) ≡ map wholeRoot (now (x .entry)) ⌝ }
+{
+    let mut i = 0;
+    while i < f.len() {
+        f[i] = roots::root(x[i], roots::near(x[i]));
+        i += 1;
+    }
+}
+
+// The root of each x.
+fn root_each(x: &[u64], f: &mut [u64])
+    requires { ⌜ length (now f) ≡ length (now x) ⌝ }
+    ensures { λ _. ⌜ now (f .exit) ≡ map wholeRoot (now (x .entry)) ⌝ }
+{
+    if x.len() <= FEW {
+        whole_roots(x, f);
+        return;
+    }
+    float_roots(x, f)
+}
+
+// 2Q of each z in x and its radius F in f, where both have as many elements as z; else both stay. Public for `sample` alone.
+pub fn radii(z: &[u64], x: &mut [u64], f: &mut [u64])
+    ensures { λ _. ⌜ now (x .exit) ≡ underRootsHold (now (z .entry)) (now (x .entry)) (now (f .entry)) ⌝ }
+    ensures { λ _. ⌜ now (f .exit) ≡ radiiHold (now (z .entry)) (now (x .entry)) (now (f .entry)) ⌝ }
+{
+    if x.len() != z.len() {
+        return;
+    }
+    if f.len() != z.len() {
+        return;
+    }
+    under_root_each(z, x, f);
+    root_each(x, f)
+}
