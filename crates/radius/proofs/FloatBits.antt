@@ -8,9 +8,9 @@ use native.Mathlib.Omega.{arith}
 use lib.Dec.{T}
 use lib.IntN.{pos}
 use lib.Pow.{pow-pos, pow-mono, pow-add, shl-lt}
-use lib.Ieee.{Float, nan, inf, fin, binary64, isNan, nanBits, ofFields, ofBits, toBits, round, sum, neg, add, sub, up, down}
-use lib.Ieee.Bits.{ofBits-fits, toBits-ofBits, nanBits-is}
-use lib.Ieee.Fits.{down-pos, sub-fits}
+use lib.Ieee.{Float, nan, inf, fin, binary64, isNan, nanBits, fits, ofFields, ofBits, toBits, round, sum, neg, add, sub, up, down}
+use lib.Ieee.Bits.{ofBits-fits, toBits-ofBits, toBits-lt, nanBits-is}
+use lib.Ieee.Fits.{down-pos, sub-fits, neg-fits}
 use lib.Ieee.Exact.{HasValue, odd-sign, round-exact}
 use lib.Ieee.Back.{whole-unique}
 use borrow.Author.Tests.{le-ltb, lt-leb, ne-eqb}
@@ -64,11 +64,21 @@ less (fin false n e) m h (sign, value) =
     small : (m : ℕ) → m < 2 ^ 52 → m * 2 ^ 1074 < 2 ^ (1074 + 1024)
     small m h = lt-of-lt-of-le (shl-lt 52 1074 h) (pow-mono {i = 52 + 1074} {j = 1074 + 1024} (omega arith))
 
+-- a float that is not negative has no bit of a sign
+pub bits-positive : (v : Float) (a c : ℕ) → T (fits binary64 v) → HasValue v false a c → toBits binary64 v < 2 ^ 63
+unfolding toBits neg
+bits-positive nan a c h value = absurd value
+bits-positive (inf t) a c h value = absurd value
+bits-positive (fin true m e) a c h (sign, value) = absurd (false≢true (sym sign))
+bits-positive (fin false m e) a c h value =
+    let negated = toBits-lt binary64 (fin true m e) (neg-fits binary64 (fin false m e) h) in
+    omega (arith, negated)
+
 -- both in one
 abbrev pub difference : ℕ → Float
 difference m = sub binary64 (ofBits binary64 (0x4330_0000_0000_0000 + m)) (fin false 1 (pos 52))
 
-difference-value : (m : ℕ) → m < 2 ^ 52 → HasValue (difference m) false m 1
+pub difference-value : (m : ℕ) → m < 2 ^ 52 → HasValue (difference m) false m 1
 difference-value m h = less (ofBits binary64 (0x4330_0000_0000_0000 + m)) m h (last-bits m h)
 
 pub difference-real : (m : ℕ) → m < 2 ^ 52 → T (not (isNan (difference m)))

@@ -1,6 +1,6 @@
 -- The laws of the steps, and how far F is from the exact radius.
 pub mod StepLaws
-mod FloatBits
+pub mod FloatBits
 pub mod NormalLaws
 mod Cells
 pub mod Ranges

@@ -1,10 +1,7 @@
-// The whole part of a square root: two guesses, in floating point and in whole numbers, which promise no more than a bound; a test of a guess that has
-// no jump; and the root from any guess, which is right whatever the guess is.
+// The whole part of a square root: a guess in whole numbers, which promises no more than a bound; a test of a guess that has no jump; and the root
+// from any guess, which is right whatever the guess is.
 ghost use mathlib.Core.Path.{_≡_};
-ghost use mathlib.Core.Bool.{not};
 ghost use Prim.Native.Nat.{_%_, _^_, _<_};
-ghost use lib.Dec.{T};
-ghost use lib.Ieee.{isNan};
 ghost use Rattle.roots.specs.Root.{wholeRoot, Guess};
 
 // What a guess is below.
@@ -12,44 +9,6 @@ const GUESSES: u64 = 1 << 24;
 
 // What a root of a number of 64 bits is below.
 const ROOTS: u64 = 1 << 32;
-
-// The bits of the float 2^52, and the first number that has no place in its last bits.
-const BITS: u64 = 0x4330_0000_0000_0000;
-
-const PLACES: u64 = 1 << 52;
-
-// x mod 2^52 as a float: the float that has x in its last bits, less 2^52. (A cast waits for the one before it.)
-fn float_of(x: u64) -> f64
-    ensures { λ r. ⌜ T (not (isNan r)) ⌝ }
-{
-    f64::from_bits(BITS + x % PLACES) - 4503599627370496.0
-}
-
-// About 0.7 over the root of the float that has these bits: half of its exponent, taken from a constant.
-fn about_inverse_root(bits: u64) -> f64 {
-    f64::from_bits(0x5fde_973b_e000_0000 - bits / 2 % 0x4000_0000_0000_0000)
-}
-
-// The bits of a float, or 0 where it is not above 0.
-fn bits_of(x: f64) -> u64 {
-    if 0.0 < x { f64::to_bits(x) } else { 0 }
-}
-
-// Near the root of x, for x below 2^48: about 0.7 over the root, one step of Newton's, which gives about 0.68 over it, then one of the third
-// order with the product. The constants make the greatest error least. The last sum has the rounded root in its last 24 bits. The contract is a
-// bound alone: which guess it is, is left to the program.
-pub fn guess(x: u64) -> u64
-    ensures { λ r. ⌜ Guess r ⌝ }
-{
-    let f = float_of(x);
-    let start = about_inverse_root(f64::to_bits(f));
-    let inverse = start * (1.4625 - f * start * start);
-    let product = f * inverse;
-    let square = product * inverse;
-    let near = product
-        * (2.756500333768153 - square * (3.9717338201824877 - 2.5752206987046584 * square));
-    bits_of(near - 0.5 + 4503599644147712.0) % GUESSES
-}
 
 // A number that is below 2^63 only where the guess, mod 2^24, is the root of x: then neither x less the square is below 0, nor twice the guess less that.
 pub fn doubt(x: u64, guess: u64) -> u64
@@ -98,7 +57,7 @@ fn product(a: u64, b: u64) -> u64
 }
 
 // Near the root of x, from below, for x below 2^48, in whole numbers: the root or one less. x is moved up by an even number of places; its
-// upper 8 bits are then its cell, and the next 24 are how far it lies in the cell. The contract is a bound alone, as that of `guess`.
+// upper 8 bits are then its cell, and the next 24 are how far it lies in the cell. The contract is a bound alone: which guess it is, is left to the program.
 pub fn near(x: u64) -> u64
     ensures { λ r. ⌜ Guess r ⌝ }
 {

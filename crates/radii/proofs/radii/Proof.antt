@@ -5,7 +5,7 @@ use native.Mathlib.Omega.{arith}
 use lib.ListN.{length}
 use borrow.Author.Needs.{needs}
 use Rattle.roots.specs.Root.{wholeRoot}
-use Rattle.radii.proofs.RadiiLaws.{x-other, f-other, held, roots-are}
+use Rattle.radii.proofs.RadiiLaws.{x-other, f-other, held, under-roots-small, roots-are}
 use Rattle.radii.proofs.radii.Statement.{statement}
 use Rattle.radii.proofs.radii.Tie as tie
 
@@ -14,6 +14,12 @@ returns c = x-other _ _ _ (omega arith)
 
 returns-2 : tie.Need-returns-2
 returns-2 c = f-other _ _ _ (omega arith) (omega arith)
+
+root-each-requires : tie.Need-root-each-requires
+root-each-requires c κs =
+    let made = c .before .before .before .before .before .before in
+    let z = made .before .before .before .before .before .before .before .before .args .z .now in
+    (search needs, λ i. rw (made .under-root-each .ensures) (under-roots-small z i))
 
 returns-3 : tie.Need-returns-3
 returns-3 c =
@@ -30,4 +36,4 @@ returns-3 c =
 
 pub radii-spec : {M : Type 1} → statement M
 radii-spec = tie.close
-    (tie.spec returns returns-2 (λ c κs. search needs) (λ c κs. search needs) (λ c. search needs) (λ c. search needs) returns-3)
+    (tie.spec returns returns-2 (λ c κs. search needs) root-each-requires (λ c. search needs) (λ c. search needs) returns-3)

@@ -22,10 +22,10 @@ loop-again c =
     let turn = c .before .before .before .before in
     let head = turn .before in
     let start = head .before .before .before in
-    again (start .pre) (head .loop .inv) (turn .loop-test .taken) (λ s. s) (λ _. c .root .ensures)
+    again (start .pre .0) (head .loop .inv) (turn .loop-test .taken) (λ s. s) (λ _. c .root .ensures)
 
 returns : tie.Need-returns Inv-loop μ-loop
-returns c = ended (c .before .before .before .before .pre) (c .before .loop .inv) (c .loop-test .left) (omega arith)
+returns c = ended (c .before .before .before .before .pre .0) (c .before .loop .inv) (c .loop-test .left) (omega arith)
 
 pub whole-roots-spec : {M : Type 1} → statement M
 whole-roots-spec = tie.close
