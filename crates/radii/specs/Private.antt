@@ -1,6 +1,7 @@
 -- For private functions; no public contract cites these.
 use mathlib.Core.List.{List, [], _∷_}
-use Prim.Native.Nat.{ℕ, _/_}
+use Prim.Native.Nat.{ℕ, _/_, _^_, _<_}
+use lib.ListN.{getD}
 use Rattle.radius.specs.Steps.{width, numerator, mantissa}
 use Rattle.radius.specs.Normal.{doublingsOf, underNormal}
 
@@ -16,3 +17,7 @@ unfoldable pub underNormals : List ℕ → List ℕ → List ℕ
 underNormals [] Ms = []
 underNormals (d ∷ ds) [] = []
 underNormals (d ∷ ds) (M ∷ Ms) = underNormal d M ∷ underNormals ds Ms
+
+-- each number has a place in the last bits of a float
+abbrev pub InFloats : List ℕ → Type 0
+InFloats xs = (i : ℕ) → getD xs i 0 < 2 ^ 52

@@ -2,13 +2,13 @@
 ghost use mathlib.Core.Path.{_≡_};
 ghost use mathlib.Core.Bool.{not};
 ghost use mathlib.Core.List.{map};
-ghost use Prim.Native.Nat.{ℕ, _^_, _<_};
+ghost use Prim.Native.Nat.{_^_, _<_};
 ghost use lib.Dec.{T};
 ghost use lib.Ieee.{binary64, isNan, toBits};
-ghost use lib.ListN.{length, getD};
+ghost use lib.ListN.{length};
 ghost use Rattle.roots.specs.Root.{wholeRoot};
 ghost use Rattle.radii.specs.Radii.{underRootAt, underRootsHold, radiiHold};
-ghost use Rattle.radii.specs.Private.{doublingsAt, mantissaAt, underNormals};
+ghost use Rattle.radii.specs.Private.{doublingsAt, mantissaAt, underNormals, InFloats};
 
 // (49 - e) K and M of each z, into x and f, by floats.
 fn float_normals(z: &[u64], x: &mut [u64], f: &mut [u64])
@@ -153,7 +153,7 @@ fn guess(x: u64) -> u64
 
 // A guess at the root of each x, and the doubts of all, with no jump, so that the compiler makes several at a time.
 fn guesses(x: &[u64], f: &mut [u64]) -> u64
-    requires { ⌜ (length (now f) ≡ length (now x)) × ((i : ℕ) → getD (now x) i 0 < 2 ^ 52) ⌝ }
+    requires { ⌜ (length (now f) ≡ length (now x)) × InFloats (now x) ⌝ }
     ensures { λ r. ⌜ (r < 2 ^ 63 → now (f .exit) ≡ map wholeRoot (now (x .entry))) ⌝ }
 {
     let mut doubts = 0;
@@ -184,7 +184,7 @@ const DOUBTS: u64 = 1 << 63;
 
 // The root of each x by guesses in floating point. They are tested all at once; where one is in doubt, which is rare, each is tested by itself.
 fn float_roots(x: &[u64], f: &mut [u64])
-    requires { ⌜ (length (now f) ≡ length (now x)) × ((i : ℕ) → getD (now x) i 0 < 2 ^ 52) ⌝ }
+    requires { ⌜ (length (now f) ≡ length (now x)) × InFloats (now x) ⌝ }
     ensures { λ _. ⌜ now (f .exit) ≡ map wholeRoot (now (x .entry)) ⌝ }
 {
     if guesses(x, f) < DOUBTS {
@@ -196,7 +196,7 @@ fn float_roots(x: &[u64], f: &mut [u64])
 // The root of each x by guesses in whole numbers, of the same type and contract as `float_roots`, so that either may stand for the other: of a few x
 // it is faster, and on processors without floating point always.
 fn whole_roots(x: &[u64], f: &mut [u64])
-    requires { ⌜ (length (now f) ≡ length (now x)) × ((i : ℕ) → getD (now x) i 0 < 2 ^ 52) ⌝ }
+    requires { ⌜ (length (now f) ≡ length (now x)) × InFloats (now x) ⌝ }
     ensures { λ _. ⌜ now (f .exit) ≡ map wholeRoot (now (x .entry)) ⌝ }
 {
     let mut i = 0;
@@ -208,7 +208,7 @@ fn whole_roots(x: &[u64], f: &mut [u64])
 
 // The root of each x.
 fn root_each(x: &[u64], f: &mut [u64])
-    requires { ⌜ (length (now f) ≡ length (now x)) × ((i : ℕ) → getD (now x) i 0 < 2 ^ 52) ⌝ }
+    requires { ⌜ (length (now f) ≡ length (now x)) × InFloats (now x) ⌝ }
     ensures { λ _. ⌜ now (f .exit) ≡ map wholeRoot (now (x .entry)) ⌝ }
 {
     if x.len() <= FEW {
