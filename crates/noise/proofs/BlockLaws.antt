@@ -1,4 +1,4 @@
--- A block, a look and a take: what an accepted one asks of the chunks, and what each returns and leaves, over f and so for either width.
+-- A block, a look and a take: what each returns and leaves, over f and so for either width.
 use mathlib.Core.Path.{_≡_, refl, sym, ap, _∙_}
 use mathlib.Core.List.{List}
 use Prim.Native.Nat.{ℕ, _+_, _*_, _/_, _%_, _≤_}
@@ -15,31 +15,34 @@ use Rattle.streams.proofs.Theorems.{sound, pairs-accepted, after-moved}
 use Rattle.lanes.specs.declared.Lanes.{Lanes}
 use Rattle.lanes.specs.Lanes.{upper, lower}
 use Rattle.noise.specs.Noise.{samples, blockCode, blockOf, blockHolds, lookOf, lookHolds, takeOf, takeHolds}
-use Rattle.noise.specs.Private.{LanesDrawn, PairsDrawn}
+use Rattle.chunks.specs.Chunks.{Filled}
+use Rattle.noise.specs.Private.{PairsDrawn}
 use Rattle.noise.proofs.Laws.{block-accepted, take-accepted, taken-pairs, samples-words}
 
 -- ---- The pairs of an accepted record
 
--- its streams are in range, and n pairs are drawn from them side by side
-abbrev StreamsDrawn : (f n : ℕ) → Generator → (u state : Lanes) → List ℤ → Type 0
-StreamsDrawn f n g u state out = (InRange (g .a) × InRange (g .b)) × ((upper u ≡ g .a) × (lower u ≡ g .b)) × LanesDrawn f n u state out
+-- its streams are in range, and memory is filled from them, side by side
+abbrev StreamsFilled : (f : ℕ) → Generator → (u state : Lanes) → (old out : List ℤ) → Type 0
+StreamsFilled f g u state old out = (InRange (g .a) × InRange (g .b)) × ((upper u ≡ g .a) × (lower u ≡ g .b)) × Filled f u state old out
 
--- these give the samples of its pairs, and then the record after them
-module _ (f n : ℕ) (g : Generator) {u state : Lanes} {out : List ℤ} (accepted : pairsCode g n ≡ 0) (drawn : StreamsDrawn f n g u state out) where
+-- memory of even length then holds the samples of its pairs; and the record after them
+module _ (f : ℕ) (g : Generator) {u state : Lanes} {old out : List ℤ} (even : length old % 2 ≡ 0) (accepted : pairsCode g (length old / 2) ≡ 0)
+    (filled : StreamsFilled f g u state old out) where
   reached : Sound g
-  reached = sound g (drawn .0 .0) (drawn .0 .1) (pairs-accepted g n .0 accepted .0)
+  reached = sound g (filled .0 .0) (filled .0 .1) (pairs-accepted g (length old / 2) .0 accepted .0)
 
-  drawn-samples : out ≡ samples f n g
+  drawn-samples : out ≡ samples f (length old / 2) g
   drawn-samples =
-      let (_, room, none) = pairs-accepted g n .0 accepted in
-      let (_, same, lanes) = drawn in
-      lanes .written ∙ rw (same .0, same .1) (sym (samples-words f n g reached none room))
+      let (_, room, none) = pairs-accepted g (length old / 2) .0 accepted in
+      let (_, same, lanes) = filled in
+      lanes .even even .written ∙ rw (same .0, same .1) (sym (samples-words f (length old / 2) g reached none room))
 
-  drawn-pairs : {next : Generator} → next ≡ onward g (upper state) (lower state) n → PairsDrawn f n g next out
+  drawn-pairs : {next : Generator} → next ≡ onward g (upper state) (lower state) (length old / 2) → PairsDrawn f (length old / 2) g next out
   drawn-pairs next-is =
-      let (_, room, none) = pairs-accepted g n .0 accepted in
-      let (_, same, lanes) = drawn in
-      (next-is ∙ rw (lanes .now-at .a-at, lanes .now-at .b-at, same .0, same .1) (sym (after-moved n g reached none room)), drawn-samples)
+      let (_, room, none) = pairs-accepted g (length old / 2) .0 accepted in
+      let (_, same, lanes) = filled in
+      let moved = lanes .even even .now-at in
+      (next-is ∙ rw (moved .a-at, moved .b-at, same .0, same .1) (sym (after-moved (length old / 2) g reached none room)), drawn-samples)
 
 -- ---- A refusal code that a call has worked out
 
@@ -62,7 +65,7 @@ module _ (g : Generator) (n : ℕ) {code : ℕ} (code-is : code ≡ blockCode g 
   block-pairs : pairsCode g (n / 2) ≡ 0
   block-pairs = block-accepted g n .0 (sym code-is ∙ none) .0
 
-  pub block-even : n % 2 ≡ 0
+  block-even : n % 2 ≡ 0
   block-even = block-accepted g n .0 (sym code-is ∙ none) .1
 
   pub block-room : g .count + n / 2 ≤ mostCount
@@ -73,10 +76,11 @@ module _ (f : ℕ) (g : Generator) (old : List ℤ) {code : ℕ} (code-is : code
   unfolding blockOf blockHolds
   block-refused = refused _ _ _ _ code-is
 
-  pub block-drawn : {u state : Lanes} {next : Generator} {out : List ℤ} → code ≡ 0 → StreamsDrawn f (length old / 2) g u state out
+  pub block-drawn : {u state : Lanes} {next : Generator} {out : List ℤ} → code ≡ 0 → StreamsFilled f g u state old out
       → next ≡ onward g (upper state) (lower state) (length old / 2) → (answer code next ≡ blockOf g (length old)) × (out ≡ blockHolds f g old)
   unfolding blockOf blockHolds
-  block-drawn none drawn next-is = accepted _ _ _ _ code-is none (drawn-pairs f _ g (block-pairs g _ code-is none) drawn next-is)
+  block-drawn none filled next-is =
+      accepted _ _ _ _ code-is none (drawn-pairs f g (block-even g _ code-is none) (block-pairs g _ code-is none) filled next-is)
 
 -- ---- A look
 
@@ -89,10 +93,11 @@ module _ (f : ℕ) (g : Generator) (old : List ℤ) {code : ℕ} {free : Generat
   unfolding lookHolds
   look-refused some = (returned, rw (← free-is) (block-refused f free old code-is some .1))
 
-  pub look-drawn : {u state : Lanes} {out : List ℤ} → code ≡ 0 → StreamsDrawn f (length old / 2) free u state out
+  pub look-drawn : {u state : Lanes} {out : List ℤ} → code ≡ 0 → StreamsFilled f free u state old out
       → (answer code g ≡ lookOf g (length old)) × (out ≡ lookHolds f g old)
   unfolding lookHolds blockHolds
-  look-drawn none drawn = (returned, rw (← free-is, ← code-is, none) (drawn-samples f _ free (block-pairs free _ code-is none) drawn))
+  look-drawn none filled =
+      (returned, rw (← free-is, ← code-is, none) (drawn-samples f free (block-even free _ code-is none) (block-pairs free _ code-is none) filled))
 
 -- ---- A take
 
@@ -104,7 +109,7 @@ module _ (g : Generator) (n : ℕ) {code : ℕ} (code-is : code ≡ codeOf (a-ta
   half : n / 2 ≡ g .asked
   half = omega (arith, just)
 
-  pub take-even : n % 2 ≡ 0
+  take-even : n % 2 ≡ 0
   take-even = omega (arith, just)
 
   take-pairs : (free : Generator) → free ≡ cleared g → pairsCode free (n / 2) ≡ 0
@@ -119,9 +124,9 @@ module _ (f : ℕ) (g : Generator) (old : List ℤ) {code : ℕ} (code-is : code
   take-refused = refused _ _ _ _ code-is
 
   pub take-drawn : (free : Generator) {u state : Lanes} {next : Generator} {out : List ℤ} → code ≡ 0 → free ≡ cleared g
-      → StreamsDrawn f (length old / 2) free u state out → next ≡ onward free (upper state) (lower state) (length old / 2)
+      → StreamsFilled f free u state old out → next ≡ onward free (upper state) (lower state) (length old / 2)
       → (answer code next ≡ takeOf g (length old)) × (out ≡ takeHolds f g old)
   unfolding takeOf takeHolds
-  take-drawn free none free-is drawn next-is =
-      let pairs = drawn-pairs f _ free (take-pairs g _ code-is none free free-is) drawn next-is in
+  take-drawn free none free-is filled next-is =
+      let pairs = drawn-pairs f free (take-even g _ code-is none) (take-pairs g _ code-is none free free-is) filled next-is in
       accepted _ _ _ _ code-is none (rw (← free-is, ← half g _ code-is none) pairs)

@@ -1,7 +1,6 @@
 pub mod Drawn
 pub mod Laws
 pub mod Notes
-mod ChunkLaws
 mod BlockLaws
 pub mod Requests
 pub mod Runs

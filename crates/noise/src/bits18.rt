@@ -1,21 +1,16 @@
 // The calls whose samples have 18 bits, line for line like those of 16.
 use crate::PairAnswer18;
-use crate::chunk;
-use crate::chunk_end;
 use crate::onward;
 use crate::side_by_side;
 use crate::without_note;
-use lanes::Lanes;
+use chunks::chunks18;
 use streams::Generator;
 use streams::RecordAnswer;
 use streams::Uniforms;
 ghost use mathlib.Core.Path.{_≡_};
-ghost use Prim.Native.Nat.{_/_, _%_, _≤_};
 ghost use lib.ListN.{length};
-ghost use Rattle.streams.specs.Streams.{pairsCode};
 ghost use Rattle.box_muller.specs.Steps.{fractionBits18};
 ghost use Rattle.noise.specs.Noise.{sampledOf, pairAs18, blockOf, blockHolds, lookOf, lookHolds, takeOf, takeHolds};
-ghost use Rattle.noise.specs.Private.{chunkSamples, LanesDrawn, PairsDrawn};
 
 // The samples of two numbers drawn, and the record after them.
 pub fn sampled18(drawn: Uniforms) -> PairAnswer18
@@ -37,22 +32,6 @@ pub fn sampled18(drawn: Uniforms) -> PairAnswer18
         second: s.second,
         next,
     }
-}
-
-// The samples of as many pairs as a slice of even length has room for, chunk by chunk.
-fn chunks18(streams: Lanes, out: &mut [i32]) -> Lanes
-    requires { ⌜ length (now out) % 2 ≡ 0 ⌝ }
-    ensures { λ r. ⌜ LanesDrawn fractionBits18 (length (now (out .entry)) / 2) streams r (now (out .exit)) ⌝ }
-{
-    let mut state = streams;
-    let mut at = 0;
-    let n = out.len();
-    while at < n {
-        let end = chunk_end(at, n);
-        state = chunk(state, true, &mut out[at..end]);
-        at = end;
-    }
-    state
 }
 
 // A block of samples, first and second of each pair alternating.

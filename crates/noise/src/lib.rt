@@ -6,20 +6,20 @@ pub use bits18::block18;
 pub use bits18::look18;
 pub use bits18::sampled18;
 pub use bits18::take18;
+use chunks::chunks;
+use chunks::filled;
 use lanes::Both;
 use lanes::Lanes;
-use lanes::draw_pairs;
 use streams::Generator;
 use streams::RecordAnswer;
 use streams::Uniforms;
 ghost use mathlib.Core.Path.{_≡_};
-ghost use Prim.Native.Nat.{_+_, _*_, _/_, _%_, _≤_, min};
+ghost use Prim.Native.Nat.{_+_, _≤_};
 ghost use lib.ListN.{length};
-ghost use Rattle.streams.specs.Streams.{cleared, pairsCode, onward, mostCount};
+ghost use Rattle.streams.specs.Streams.{cleared, onward, mostCount};
 ghost use Rattle.lanes.specs.Lanes.{upper, lower};
-ghost use Rattle.box_muller.specs.Steps.{fractionBits, bitsOf};
+ghost use Rattle.box_muller.specs.Steps.{fractionBits};
 ghost use Rattle.noise.specs.Noise.{sampledOf, pairOf, blockOf, blockHolds, lookOf, lookHolds, takeOf, takeHolds};
-ghost use Rattle.noise.specs.Private.{chunkSamples, shortSamples, LanesDrawn, PairsDrawn, Small};
 
 pub struct PairAnswer {
     pub code: u32,
@@ -63,120 +63,6 @@ pub fn pair(g: Generator) -> PairAnswer
 {
     let drawn = g.uniforms();
     sampled(drawn)
-}
-
-// The samples of as many pairs as z has elements, by way of their words in z: both streams are drawn side by side.
-fn draw_samples(streams: Lanes, in18: bool, z: &mut [u64], out: &mut [i32]) -> Lanes
-    requires { ⌜ (length (now out) ≡ 2 * length (now z)) × (length (now out) ≤ chunkSamples) ⌝ }
-    ensures { λ r. ⌜ LanesDrawn (bitsOf in18) (length (now (z .entry))) streams r (now (out .exit)) ⌝ }
-{
-    let after = draw_pairs(streams, z);
-    sample::chunk(in18, z, out);
-    after
-}
-
-// The most samples in a chunk.
-const CHUNK_SAMPLES: usize = 2 * sample::CHUNK;
-
-// A chunk: its words stand in a local array, which is no longer than that, since it is zeroed at each call.
-fn chunk(streams: Lanes, in18: bool, out: &mut [i32]) -> Lanes
-    requires { ⌜ (length (now out) % 2 ≡ 0) × (length (now out) ≤ chunkSamples) ⌝ }
-    ensures { λ r. ⌜ LanesDrawn (bitsOf in18) (length (now (out .entry)) / 2) streams r (now (out .exit)) ⌝ }
-{
-    let mut z = [0u64; sample::CHUNK];
-    let n = out.len() / 2;
-    draw_samples(streams, in18, &mut z[0..n], out)
-}
-
-// The samples of 16 bits among numbers of 32.
-fn narrowed(samples: &[i32], out: &mut [i16])
-    requires { ⌜ (length (now samples) ≡ length (now out)) × Small (now samples) ⌝ }
-    ensures { λ r. ⌜ now (out .exit) ≡ now (samples .entry) ⌝ }
-{
-    let mut i = 0;
-    while i < out.len() {
-        let sample = samples[i] as i16;
-        out[i] = sample;
-        i += 1;
-    }
-}
-
-// A chunk of samples of 16 bits.
-fn chunk16(streams: Lanes, out: &mut [i16]) -> Lanes
-    requires { ⌜ (length (now out) % 2 ≡ 0) × (length (now out) ≤ chunkSamples) ⌝ }
-    ensures { λ r. ⌜ LanesDrawn fractionBits (length (now (out .entry)) / 2) streams r (now (out .exit)) ⌝ }
-{
-    let mut samples = [0i32; CHUNK_SAMPLES];
-    let n = out.len();
-    let after = chunk(streams, false, &mut samples[0..n]);
-    narrowed(&samples[0..n], out);
-    after
-}
-
-// Where the chunk that begins at a place of n ends.
-fn chunk_end(at: usize, n: usize) -> usize
-    requires { ⌜ at ≤ n ⌝ }
-    ensures { λ r. ⌜ r ≡ min n (at + chunkSamples) ⌝ }
-{
-    if n - at < CHUNK_SAMPLES {
-        n
-    } else {
-        at + CHUNK_SAMPLES
-    }
-}
-
-// The samples of as many pairs as a slice of even length has room for, chunk by chunk.
-fn chunks(streams: Lanes, out: &mut [i16]) -> Lanes
-    requires { ⌜ length (now out) % 2 ≡ 0 ⌝ }
-    ensures { λ r. ⌜ LanesDrawn fractionBits (length (now (out .entry)) / 2) streams r (now (out .exit)) ⌝ }
-{
-    let mut state = streams;
-    let mut at = 0;
-    let n = out.len();
-    while at < n {
-        let end = chunk_end(at, n);
-        state = chunk16(state, &mut out[at..end]);
-        at = end;
-    }
-    state
-}
-
-// The most pairs, and the most samples, in a short block.
-const SHORT: usize = 8;
-
-const SHORT_SAMPLES: usize = 2 * SHORT;
-
-// A short block: a chunk whose words and samples of 32 bits stand in shorter arrays.
-fn short(streams: Lanes, in18: bool, out: &mut [i32]) -> Lanes
-    requires { ⌜ (length (now out) % 2 ≡ 0) × (length (now out) ≤ shortSamples) ⌝ }
-    ensures { λ r. ⌜ LanesDrawn (bitsOf in18) (length (now (out .entry)) / 2) streams r (now (out .exit)) ⌝ }
-{
-    let mut z = [0u64; SHORT];
-    let n = out.len() / 2;
-    draw_samples(streams, in18, &mut z[0..n], out)
-}
-
-// The same in 16 bits.
-fn short16(streams: Lanes, out: &mut [i16]) -> Lanes
-    requires { ⌜ (length (now out) % 2 ≡ 0) × (length (now out) ≤ shortSamples) ⌝ }
-    ensures { λ r. ⌜ LanesDrawn fractionBits (length (now (out .entry)) / 2) streams r (now (out .exit)) ⌝ }
-{
-    let mut samples = [0i32; SHORT_SAMPLES];
-    let n = out.len();
-    let after = short(streams, false, &mut samples[0..n]);
-    narrowed(&samples[0..n], out);
-    after
-}
-
-// A block of even length: a short one at once, another chunk by chunk.
-fn filled(streams: Lanes, out: &mut [i16]) -> Lanes
-    requires { ⌜ length (now out) % 2 ≡ 0 ⌝ }
-    ensures { λ r. ⌜ LanesDrawn fractionBits (length (now (out .entry)) / 2) streams r (now (out .exit)) ⌝ }
-{
-    if out.len() <= SHORT_SAMPLES {
-        return short16(streams, out);
-    }
-    chunks(streams, out)
 }
 
 // The streams of a record, side by side.

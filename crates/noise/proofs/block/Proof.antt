@@ -1,15 +1,12 @@
 -- `block` is `blockOf`, and leaves `blockHolds`.
 use native.Mathlib.Omega.{arith}
 use borrow.Author.Needs.{needs}
-use Rattle.noise.proofs.BlockLaws.{block-refused, block-even, block-room, block-drawn}
+use Rattle.noise.proofs.BlockLaws.{block-refused, block-room, block-drawn}
 use Rattle.noise.proofs.block.Statement.{statement}
 use Rattle.noise.proofs.block.Tie as tie
 
 returns : tie.Need-returns
 returns c = block-refused _ _ _ (c .before .block-code .ensures) (c .if1 .taken)
-
-filled-requires : tie.Need-filled-requires
-filled-requires c κs = block-even _ _ (c .before .before .before .block-code .ensures) (c .before .before .if1 .left)
 
 onward-requires : tie.Need-onward-requires
 onward-requires c κs = let tested = c .before .before .before .before in block-room _ _ (tested .before .block-code .ensures) (tested .if1 .left)
@@ -22,4 +19,4 @@ returns-2 c =
 
 pub block-spec : {M : Type 1} → statement M
 block-spec = tie.close
-    (tie.spec (λ c κs. search needs) returns (λ c κs. search needs) filled-requires onward-requires (λ c. search needs) returns-2)
+    (tie.spec (λ c κs. search needs) returns (λ c κs. search needs) (λ c κs. search needs) onward-requires (λ c. search needs) returns-2)

@@ -1,7 +1,7 @@
 -- `look` is `lookOf`, and leaves `lookHolds`.
 use native.Mathlib.Omega.{arith}
 use borrow.Author.Needs.{needs}
-use Rattle.noise.proofs.BlockLaws.{look-refused, block-even, look-drawn}
+use Rattle.noise.proofs.BlockLaws.{look-refused, look-drawn}
 use Rattle.noise.proofs.look.Statement.{statement}
 use Rattle.noise.proofs.look.Tie as tie
 
@@ -10,9 +10,6 @@ returns c =
     let cleared = c .before .before in
     let args = cleared .before .args in
     look-refused _ (args .g) (args .out .now) (cleared .without-note .ensures) (c .before .block-code .ensures) (c .if1 .taken)
-
-chunks-requires : tie.Need-chunks-requires
-chunks-requires c κs = block-even _ _ (c .before .before .before .block-code .ensures) (c .before .before .if1 .left)
 
 returns-2 : tie.Need-returns-2
 returns-2 c =
@@ -25,4 +22,4 @@ returns-2 c =
 
 pub look-spec : {M : Type 1} → statement M
 look-spec = tie.close
-    (tie.spec (λ c κs. search needs) (λ c κs. search needs) returns (λ c κs. search needs) chunks-requires (λ c. search needs) returns-2)
+    (tie.spec (λ c κs. search needs) (λ c κs. search needs) returns (λ c κs. search needs) (λ c κs. search needs) (λ c. search needs) returns-2)

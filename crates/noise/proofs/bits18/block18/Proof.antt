@@ -1,15 +1,12 @@
 -- `block18` is `blockOf`, and leaves `blockHolds`.
 use native.Mathlib.Omega.{arith}
 use borrow.Author.Needs.{needs}
-use Rattle.noise.proofs.BlockLaws.{block-refused, block-even, block-room, block-drawn}
+use Rattle.noise.proofs.BlockLaws.{block-refused, block-room, block-drawn}
 use Rattle.noise.proofs.bits18.block18.Statement.{statement}
 use Rattle.noise.proofs.bits18.block18.Tie as tie
 
 returns : tie.Need-returns
 returns c = block-refused _ _ _ (c .before .block-code .ensures) (c .if1 .taken)
-
-chunks18-requires : tie.Need-chunks18-requires
-chunks18-requires c κs = block-even _ _ (c .before .before .before .block-code .ensures) (c .before .before .if1 .left)
 
 onward-requires : tie.Need-onward-requires
 onward-requires c κs = let tested = c .before .before .before .before in block-room _ _ (tested .before .block-code .ensures) (tested .if1 .left)
@@ -22,4 +19,4 @@ returns-2 c =
 
 pub block18-spec : {M : Type 1} → statement M
 block18-spec = tie.close
-    (tie.spec (λ c κs. search needs) returns (λ c κs. search needs) chunks18-requires onward-requires (λ c. search needs) returns-2)
+    (tie.spec (λ c κs. search needs) returns (λ c κs. search needs) (λ c κs. search needs) onward-requires (λ c. search needs) returns-2)

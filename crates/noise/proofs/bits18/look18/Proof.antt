@@ -1,7 +1,7 @@
 -- `look18` is `lookOf`, and leaves `lookHolds`.
 use native.Mathlib.Omega.{arith}
 use borrow.Author.Needs.{needs}
-use Rattle.noise.proofs.BlockLaws.{look-refused, block-even, look-drawn}
+use Rattle.noise.proofs.BlockLaws.{look-refused, look-drawn}
 use Rattle.noise.proofs.bits18.look18.Statement.{statement}
 use Rattle.noise.proofs.bits18.look18.Tie as tie
 
@@ -10,9 +10,6 @@ returns c =
     let cleared = c .before .before in
     let args = cleared .before .args in
     look-refused _ (args .g) (args .out .now) (cleared .without-note .ensures) (c .before .block-code .ensures) (c .if1 .taken)
-
-chunks18-requires : tie.Need-chunks18-requires
-chunks18-requires c κs = block-even _ _ (c .before .before .before .block-code .ensures) (c .before .before .if1 .left)
 
 returns-2 : tie.Need-returns-2
 returns-2 c =
@@ -25,4 +22,4 @@ returns-2 c =
 
 pub look18-spec : {M : Type 1} → statement M
 look18-spec = tie.close
-    (tie.spec (λ c κs. search needs) (λ c κs. search needs) returns (λ c κs. search needs) chunks18-requires (λ c. search needs) returns-2)
+    (tie.spec (λ c κs. search needs) (λ c κs. search needs) returns (λ c κs. search needs) (λ c κs. search needs) (λ c. search needs) returns-2)

@@ -1,9 +1,9 @@
--- `chunk` passes on as many words as its slice has pairs.
+-- `short` passes on as many words as its slice has pairs.
 use native.Mathlib.Omega.{arith}
 use borrow.Author.Needs.{needs}
-use Rattle.noise.proofs.ChunkLaws.{asked-words, words-drawn}
-use Rattle.noise.proofs.chunk.Statement.{statement}
-use Rattle.noise.proofs.chunk.Tie as tie
+use Rattle.chunks.proofs.ChunkLaws.{asked-words, words-drawn}
+use Rattle.chunks.proofs.short.Statement.{statement}
+use Rattle.chunks.proofs.short.Tie as tie
 
 draw-samples-requires : tie.Need-draw-samples-requires
 draw-samples-requires c κs = let start = c .before .before in asked-words _ (start .args .out .now) (start .pre) (omega arith)
@@ -13,6 +13,6 @@ returns c =
     let start = c .before .before .before .before .before in
     words-drawn _ (start .args .out .now) (start .pre) (c .before .before .draw-samples .ensures)
 
-pub chunk-spec : {M : Type 1} → statement M
-chunk-spec = tie.close
+pub short-spec : {M : Type 1} → statement M
+short-spec = tie.close
     (tie.spec (λ c. search needs) (λ c. search needs) (λ c. search needs) draw-samples-requires (λ c. search needs) returns)

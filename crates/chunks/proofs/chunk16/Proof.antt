@@ -1,8 +1,8 @@
 -- `chunk16` narrows what `chunk` leaves in as much of the local array as the slice has elements.
 use borrow.Author.Needs.{needs}
-use Rattle.noise.proofs.ChunkLaws.{asked-array, array-room, asked-narrow, narrow-drawn}
-use Rattle.noise.proofs.chunk16.Statement.{statement}
-use Rattle.noise.proofs.chunk16.Tie as tie
+use Rattle.chunks.proofs.ChunkLaws.{asked-array, array-room, asked-narrow, narrow-drawn}
+use Rattle.chunks.proofs.chunk16.Statement.{statement}
+use Rattle.chunks.proofs.chunk16.Tie as tie
 
 chunk-requires : tie.Need-chunk-requires
 chunk-requires c κs = asked-array _ _ (c .before .pre)

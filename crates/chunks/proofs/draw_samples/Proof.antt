@@ -4,9 +4,9 @@ use lib.ListN.{length}
 use borrow.Author.Needs.{needs}
 use Rattle.lanes.specs.Lanes.{upper, lower}
 use Rattle.box_muller.specs.Steps.{bitsOf}
-use Rattle.noise.proofs.ChunkLaws.{words-samples}
-use Rattle.noise.proofs.draw_samples.Statement.{statement}
-use Rattle.noise.proofs.draw_samples.Tie as tie
+use Rattle.chunks.proofs.ChunkLaws.{words-samples}
+use Rattle.chunks.proofs.draw_samples.Statement.{statement}
+use Rattle.chunks.proofs.draw_samples.Tie as tie
 
 returns : tie.Need-returns
 returns c =

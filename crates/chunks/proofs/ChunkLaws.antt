@@ -18,7 +18,8 @@ use Rattle.box_muller.specs.Steps.{fractionBits}
 use Rattle.box_muller.proofs.RoundingLaws.{first-small, second-small}
 use Rattle.sample.specs.Chunk.{chunkLength, chunkHolds, samplesAt}
 use Rattle.sample.proofs.ChunkLaws.{chunk-held, samples-append, samples-length}
-use Rattle.noise.specs.Private.{chunkSamples, LanesDrawn, Small}
+use Rattle.chunks.specs.Chunks.{LanesDrawn, Filled}
+use Rattle.chunks.specs.Private.{chunkSamples, Small}
 
 -- ---- One chunk
 
@@ -161,3 +162,11 @@ ended {f} {out₀} {out} {u} {state} {place} r all =
       now-at = subst (λ (n : ℕ). LanesAfter (n / 2) u state) whole (r .now-at);
       written = sym (take-all place out (omega (arith, r .kept))) ∙ r .done ∙ rw whole;
     }
+
+-- ---- Any length
+
+pub filled-even : {f : ℕ} {u next : Lanes} {old new : List ℤ} → length old % 2 ≡ 0 → LanesDrawn f (length old / 2) u next new → Filled f u next old new
+filled-even e drawn = record { even = λ _. drawn; odd = λ other. absurd (other e) }
+
+pub filled-odd : {f : ℕ} {u : Lanes} {old : List ℤ} → (length old % 2 ≡ 0 → ⊥) → Filled f u u old old
+filled-odd other = record { even = λ e. absurd (other e); odd = λ _. (refl, refl) }

@@ -1,8 +1,8 @@
 -- `short16` narrows what `short` leaves in as much of the local array as the slice has elements.
 use borrow.Author.Needs.{needs}
-use Rattle.noise.proofs.ChunkLaws.{asked-array, array-room, asked-narrow, narrow-drawn}
-use Rattle.noise.proofs.short16.Statement.{statement}
-use Rattle.noise.proofs.short16.Tie as tie
+use Rattle.chunks.proofs.ChunkLaws.{asked-array, array-room, asked-narrow, narrow-drawn}
+use Rattle.chunks.proofs.short16.Statement.{statement}
+use Rattle.chunks.proofs.short16.Tie as tie
 
 short-requires : tie.Need-short-requires
 short-requires c κs = asked-array _ _ (c .before .pre)

@@ -10,8 +10,8 @@ use lib.Seq.{take-all, take-suc, take-suc-set}
 use borrow.Author.Needs.{needs}
 use mir.Syntax.{w16, w32}
 use Rattle.signs.proofs.Sizes.{cast-fits, cast-reads}
-use Rattle.noise.proofs.narrowed.Statement.{statement}
-use Rattle.noise.proofs.narrowed.Tie as tie
+use Rattle.chunks.proofs.narrowed.Statement.{statement}
+use Rattle.chunks.proofs.narrowed.Tie as tie
 
 record Reached (samples out₀ out : List ℤ) (i : ℕ) : Type 0 where
   within : i ≤ length samples

@@ -1,0 +1,2 @@
+-- What holds of a chunk, and between two of them.
+mod ChunkLaws
