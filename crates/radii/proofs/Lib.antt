@@ -1,5 +1,3 @@
--- Which floats are no NaN, laws of a pass, of those that make two lists and one of them, and of the lengths.
+-- Which floats are no NaN, and the laws of roots of 2Q.
 mod Real
-mod Passes
-mod NormalPass
 pub mod RadiiLaws

@@ -1,29 +1,31 @@
--- The cases of the lengths, and the radius at a place.
-use mathlib.Core.Path.{_≡_, refl}
+-- The cases of the lengths, 2Q as a float, its root, and an element at a place.
+use mathlib.Core.Path.{_≡_, refl, sym}
 use mathlib.Core.List.{List, [], _∷_, map}
 use Prim.Native.Nat.{ℕ, zero, suc, _/_, _^_, _<_}
 use native.Mathlib.Nat.{le-of-suc-le-suc}
 use native.Mathlib.Omega.{arith}
 use lib.ListN.{length, getD}
-use borrow.Author.Tests.{eq-eqb, ne-eqb}
 use Rattle.tables.proofs.Bounds.{bounds}
 use Rattle.roots.specs.Root.{wholeRoot}
 use Rattle.radius.specs.Steps.{radiusOf}
 use Rattle.radius.proofs.Ranges.{under-root-range}
-use Rattle.radii.specs.Radii.{underRootAt, radiusAt, underRootsHold, radiiHold}
+use Rattle.under_roots.specs.UnderRoots.{underRootAt}
+use Rattle.under_roots.proofs.Lengths.{x-other, f-other, held}
+use Rattle.radii.specs.Radii.{radiusAt, radiiHold}
 
+-- the cases of the lengths
 module _ (zs x f : List ℕ) where
-  pub x-other : (length x ≡ length zs → ⊥) → (x ≡ underRootsHold zs x f) × (f ≡ radiiHold zs x f)
-  unfolding underRootsHold radiiHold
-  x-other h = rw (ne-eqb (length x) (length zs) h) (refl, refl)
+  pub f-stays-for-x : (length x ≡ length zs → ⊥) → f ≡ radiiHold zs x f
+  unfolding radiiHold
+  f-stays-for-x h = sym (x-other zs x f (map radiusAt zs) f h)
 
-  pub f-other : length x ≡ length zs → (length f ≡ length zs → ⊥) → (x ≡ underRootsHold zs x f) × (f ≡ radiiHold zs x f)
-  unfolding underRootsHold radiiHold
-  f-other e h = rw (eq-eqb (length x) (length zs) e, ne-eqb (length f) (length zs) h) (refl, refl)
+  pub f-stays : length x ≡ length zs → (length f ≡ length zs → ⊥) → f ≡ radiiHold zs x f
+  unfolding radiiHold
+  f-stays e h = sym (f-other zs x f (map radiusAt zs) f e h)
 
-  pub held : length x ≡ length zs → length f ≡ length zs → (underRootsHold zs x f ≡ map underRootAt zs) × (radiiHold zs x f ≡ map radiusAt zs)
-  unfolding underRootsHold radiiHold
-  held e h = rw (eq-eqb (length x) (length zs) e, eq-eqb (length f) (length zs) h) (refl, refl)
+  pub f-held : length x ≡ length zs → length f ≡ length zs → radiiHold zs x f ≡ map radiusAt zs
+  unfolding radiiHold
+  f-held = held zs x f (map radiusAt zs) f
 
 -- 2Q has a place in the last bits of a float
 pub under-roots-small : (zs : List ℕ) (i : ℕ) → getD (map underRootAt zs) i 0 < 2 ^ 52

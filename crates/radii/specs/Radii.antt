@@ -1,25 +1,14 @@
--- 2Q and the radius of each of some z = 65536 k + v, in the caller's memory.
-use mathlib.Core.Bool.{Bool, cond, _&&_}
+-- The radius of each of some z = 65536 k + v, in the caller's memory.
+use mathlib.Core.Bool.{cond}
 use mathlib.Core.List.{List, map}
 use Prim.Native.Nat.{ℕ, _/_}
-use lib.Dec.{eqb}
-use lib.ListN.{length}
-use Rattle.radius.specs.Steps.{underRoot, radiusOf}
+use Rattle.radius.specs.Steps.{radiusOf}
+use Rattle.under_roots.specs.UnderRoots.{alike}
 
--- 2Q and F of z
-abbrev pub underRootAt : ℕ → ℕ
-underRootAt z = underRoot (z / 65536)
-
+-- F of z
 abbrev pub radiusAt : ℕ → ℕ
 radiusAt z = radiusOf (z / 65536)
 
--- x and f have as many elements as z
-abbrev pub alike : List ℕ → List ℕ → List ℕ → Bool
-alike zs x f = eqb (length x) (length zs) && eqb (length f) (length zs)
-
--- What x and f hold: 2Q and F of each z, where they have as many elements; else what they held.
-unfoldable pub underRootsHold : List ℕ → List ℕ → List ℕ → List ℕ
-underRootsHold zs x f = cond (alike zs x f) (map underRootAt zs) x
-
+-- What f holds: F of each z, where x and f have as many elements; else what it held.
 unfoldable pub radiiHold : List ℕ → List ℕ → List ℕ → List ℕ
 radiiHold zs x f = cond (alike zs x f) (map radiusAt zs) f

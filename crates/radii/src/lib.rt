@@ -1,4 +1,6 @@
-// The radius F of each of some numbers z = 65536 k + v, by passes over them all that have no jump: (49 - e) K and M of each k, 2Q from these, and its root.
+// The radius F of each of some numbers z = 65536 k + v, by passes over them all that have no jump: 2Q of each, and its root.
+use under_roots::FEW;
+use under_roots::under_roots;
 ghost use mathlib.Core.Path.{_≡_};
 ghost use mathlib.Core.Bool.{not};
 ghost use mathlib.Core.List.{map};
@@ -7,106 +9,9 @@ ghost use lib.Dec.{T};
 ghost use lib.Ieee.{binary64, isNan, toBits};
 ghost use lib.ListN.{length};
 ghost use Rattle.roots.specs.Root.{wholeRoot};
-ghost use Rattle.radii.specs.Radii.{underRootAt, underRootsHold, radiiHold};
-ghost use Rattle.radii.specs.Private.{doublingsAt, mantissaAt, underNormals, InFloats};
-
-// (49 - e) K and M of each z, into x and f, by floats.
-fn float_normals(z: &[u64], x: &mut [u64], f: &mut [u64])
-    requires { ⌜ (length (now x) ≡ length (now z)) × (length (now f) ≡ length (now z)) ⌝ }
-    ensures { λ _. ⌜ now (x .exit) ≡ map doublingsAt (now (z .entry)) ⌝ }
-    ensures { λ _. ⌜ now (f .exit) ≡ map mantissaAt (now (z .entry)) ⌝ }
-{
-    let mut i = 0;
-    while i < z.len() {
-        let normal = radius::float_normal(z[i]);
-        x[i] = normal.doublings;
-        f[i] = normal.mantissa;
-        i += 1;
-    }
-}
-
-// The same in whole numbers, of the same type and contract, so that either may stand for the other.
-fn whole_normals(z: &[u64], x: &mut [u64], f: &mut [u64])
-    requires { ⌜ (length (now x) ≡ length (now z)) × (length (now f) ≡ length (now z)) ⌝ }
-    ensures { λ _. ⌜ now (x .exit) ≡ map doublingsAt (now (z .entry)) ⌝ }
-    ensures { λ _. ⌜ now (f .exit) ≡ map mantissaAt (now (z .entry)) ⌝ }
-{
-    let mut i = 0;
-    while i < z.len() {
-        let normal = radius::whole_normal(z[i]);
-        x[i] = normal.doublings;
-        f[i] = normal.mantissa;
-        i += 1;
-    }
-}
-
-// The most pairs that go by whole numbers alone.
-const FEW: usize = 4;
-
-// (49 - e) K and M of each z, into x and f.
-fn normal_each(z: &[u64], x: &mut [u64], f: &mut [u64])
-    requires { ⌜ (length (now x) ≡ length (now z)) × (length (now f) ≡ length (now z)) ⌝ }
-    ensures { λ _. ⌜ now (x .exit) ≡ map doublingsAt (now (z .entry)) ⌝ }
-    ensures { λ _. ⌜ now (f .exit) ≡ map mantissaAt (now (z .entry)) ⌝ }
-{
-    if z.len() <= FEW {
-        whole_normals(z, x, f);
-        return;
-    }
-    float_normals(z, x, f)
-}
-
-// 2Q from each (49 - e) K and M, in its place.
-fn under_roots(f: &[u64], x: &mut [u64])
-    requires { ⌜ length (now x) ≡ length (now f) ⌝ }
-    ensures { λ _. ⌜ now (x .exit) ≡ underNormals (now (x .entry)) (now (f .entry)) ⌝ }
-{
-    let mut i = 0;
-    while i < f.len() {
-        x[i] = radius::under_root(x[i], f[i]);
-        i += 1;
-    }
-}
-
-// 2Q of each z, by way of (49 - e) K and M of all.
-fn passed_under_roots(z: &[u64], x: &mut [u64], f: &mut [u64])
-    requires { ⌜ (length (now x) ≡ length (now z)) × (length (now f) ≡ length (now z)) ⌝ }
-    ensures { λ _. ⌜ now (x .exit) ≡ map underRootAt (now (z .entry)) ⌝ }
-{
-    normal_each(z, x, f);
-    under_roots(f, x)
-}
-
-// The same one by one, of the same type and contract. What f holds stays.
-fn single_under_roots(z: &[u64], x: &mut [u64], f: &mut [u64])
-    requires { ⌜ (length (now x) ≡ length (now z)) × (length (now f) ≡ length (now z)) ⌝ }
-    ensures { λ _. ⌜ now (x .exit) ≡ map underRootAt (now (z .entry)) ⌝ }
-{
-    let mut i = 0;
-    while i < x.len() {
-        let normal = radius::whole_normal(z[i]);
-        x[i] = radius::under_root(normal.doublings, normal.mantissa);
-        i += 1;
-    }
-}
-
-// Whether 2Q is made by passes. Nothing is promised of it, so that `under_root_each` is proved both ways: its other way is there so that the module
-// has `single_under_roots`, which tools/target names in place of `passed_under_roots` for a processor that does not make two floats at a time.
-fn in_passes() -> bool {
-    true
-}
-
-// 2Q of each z. What f holds does not matter.
-fn under_root_each(z: &[u64], x: &mut [u64], f: &mut [u64])
-    requires { ⌜ (length (now x) ≡ length (now z)) × (length (now f) ≡ length (now z)) ⌝ }
-    ensures { λ _. ⌜ now (x .exit) ≡ map underRootAt (now (z .entry)) ⌝ }
-{
-    if in_passes() {
-        passed_under_roots(z, x, f);
-        return;
-    }
-    single_under_roots(z, x, f)
-}
+ghost use Rattle.under_roots.specs.UnderRoots.{underRootsHold};
+ghost use Rattle.radii.specs.Radii.{radiiHold};
+ghost use Rattle.radii.specs.Private.{InFloats};
 
 // What a guess is below.
 const GUESSES: u64 = 1 << 24;
@@ -229,6 +134,6 @@ pub fn radii(z: &[u64], x: &mut [u64], f: &mut [u64])
     if f.len() != z.len() {
         return;
     }
-    under_root_each(z, x, f);
+    under_roots(z, x, f);
     root_each(x, f)
 }

@@ -7,7 +7,7 @@ use lib.ListN.{length, take}
 use lib.Seq.{take-all}
 use borrow.Author.Needs.{needs}
 use Rattle.box_muller.specs.Steps.{bitsOf}
-use Rattle.radii.proofs.RadiiLaws.{held}
+use Rattle.radii.proofs.RadiiLaws.{f-held}
 use Rattle.sample.specs.Chunk.{samplesAt}
 use Rattle.sample.proofs.by_passes.Statement.{statement}
 use Rattle.sample.proofs.by_passes.Tie as tie
@@ -21,8 +21,8 @@ sample-each-requires c κs =
     let start = made .before .before .before .before .before .before .before in
     let z = start .args .z .now in
     let size = ap length (whole z) in
-    let radii = held (take (length z - 0) z) (start .args .x .now) (start .args .f .now) (omega (arith, size, start .pre)) (omega (arith, size, start .pre)) in
-    (made .radii .ensures .1 ∙ radii .1, omega (arith, size, start .pre))
+    let radii = f-held (take (length z - 0) z) (start .args .x .now) (start .args .f .now) (omega (arith, size, start .pre)) (omega (arith, size, start .pre)) in
+    (made .radii .ensures .1 ∙ radii, omega (arith, size, start .pre))
 
 returns : tie.Need-returns
 returns c =

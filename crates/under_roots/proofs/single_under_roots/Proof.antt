@@ -1,14 +1,14 @@
--- `radii::single_under_roots` is a pass.
+-- `single_under_roots` is a pass.
 use mathlib.Core.Path.{_∙_}
 use Prim.Native.Nat.{_-_, _≤_}
 use native.Mathlib.Omega.{arith}
 use lib.ListN.{length, getD}
 use borrow.Author.Needs.{needs}
-use Rattle.radii.specs.Radii.{underRootAt}
-use Rattle.radii.proofs.Passes.{Passed, begun, again, ended}
-use Rattle.radii.proofs.NormalPass.{under-root-at}
-use Rattle.radii.proofs.single_under_roots.Statement.{statement}
-use Rattle.radii.proofs.single_under_roots.Tie as tie
+use Rattle.under_roots.specs.UnderRoots.{underRootAt}
+use Rattle.under_roots.proofs.Passes.{Passed, begun, again, ended}
+use Rattle.under_roots.proofs.NormalPass.{under-root-at}
+use Rattle.under_roots.proofs.single_under_roots.Statement.{statement}
+use Rattle.under_roots.proofs.single_under_roots.Tie as tie
 
 abbrev Inv-loop : tie.InvT-loop
 Inv-loop z x₀ f i₀ x i = Passed (0 ≤ 0) underRootAt z x₀ x i

@@ -8,9 +8,9 @@ use lib.ListN.{length, take, drop, getD, set, length-set, drop-of-length-le}
 use lib.Seq.{drop-cons, take-all, take-suc-set, drop-set-lt, append-snoc}
 use Rattle.radius.specs.Normal.{underNormal}
 use Rattle.radius.proofs.NormalLaws.{under-normal}
-use Rattle.radii.specs.Radii.{underRootAt}
-use Rattle.radii.specs.Private.{doublingsAt, mantissaAt, underNormals}
-use Rattle.radii.proofs.Passes.{Passed, again, ended}
+use Rattle.under_roots.specs.UnderRoots.{underRootAt}
+use Rattle.under_roots.specs.Private.{doublingsAt, mantissaAt, underNormals}
+use Rattle.under_roots.proofs.Passes.{Passed, again, ended}
 
 -- both lists, as far as the first i
 pub record Normals (z x₀ f₀ x f : List ℕ) (i : ℕ) : Type 0 where

@@ -1,11 +1,11 @@
--- `radii::under_roots` is a pass in place.
+-- `from_normals` is a pass in place.
 use Prim.Native.Nat.{_-_}
 use native.Mathlib.Omega.{arith}
 use lib.ListN.{length}
 use borrow.Author.Needs.{needs}
-use Rattle.radii.proofs.NormalPass.{Replaced, none, one-more, all}
-use Rattle.radii.proofs.under_roots.Statement.{statement}
-use Rattle.radii.proofs.under_roots.Tie as tie
+use Rattle.under_roots.proofs.NormalPass.{Replaced, none, one-more, all}
+use Rattle.under_roots.proofs.from_normals.Statement.{statement}
+use Rattle.under_roots.proofs.from_normals.Tie as tie
 
 abbrev Inv-loop : tie.InvT-loop
 Inv-loop f x₀ i₀ x i = Replaced f x₀ x i
@@ -32,7 +32,7 @@ same-length c = c .before .loop .inv .kept
 returns : tie.Need-returns Inv-loop μ-loop
 returns c = all (c .before .before .before .before .pre) (c .before .loop .inv) (c .loop-test .left)
 
-pub under-roots-spec : {M : Type 1} → statement M
-under-roots-spec = tie.close
+pub from-normals-spec : {M : Type 1} → statement M
+from-normals-spec = tie.close
     (tie.spec Inv-loop μ-loop loop-holds (λ c. search needs) slice-read-under-root (λ c. search needs) (λ c. search needs) (λ c κs. search needs)
     (λ c. search needs) (λ c. search needs) (λ c. search needs) (λ c. search needs) loop-again same-length returns)

@@ -1,11 +1,11 @@
--- `radii::float_normals` is a pass that writes two lists.
+-- `whole_normals` is a pass that writes two lists.
 use Prim.Native.Nat.{_-_}
 use lib.ListN.{length}
 use borrow.Author.Needs.{needs}
-use Rattle.radii.proofs.Passes.{begun}
-use Rattle.radii.proofs.NormalPass.{Normals, room, both-again, both-ended}
-use Rattle.radii.proofs.float_normals.Statement.{statement}
-use Rattle.radii.proofs.float_normals.Tie as tie
+use Rattle.under_roots.proofs.Passes.{begun}
+use Rattle.under_roots.proofs.NormalPass.{Normals, room, both-again, both-ended}
+use Rattle.under_roots.proofs.whole_normals.Statement.{statement}
+use Rattle.under_roots.proofs.whole_normals.Tie as tie
 
 abbrev Inv-loop : tie.InvT-loop
 Inv-loop z x₀ f₀ i₀ x f i = Normals z x₀ f₀ x f i
@@ -29,7 +29,7 @@ slice-write-f c =
 loop-again : tie.Need-loop-again Inv-loop μ-loop
 loop-again c =
     let head = c .before .before .before in
-    both-again (head .before .before .before .before .pre) (head .loop .inv) (c .before .before .loop-test .taken) (c .float-normal .ensures)
+    both-again (head .before .before .before .before .pre) (head .loop .inv) (c .before .before .loop-test .taken) (c .whole-normal .ensures)
 
 same-length : tie.Need-same-length Inv-loop μ-loop
 same-length c = c .before .loop .inv .doublings .kept
@@ -40,7 +40,7 @@ same-length-2 c = c .before .loop .inv .mantissas .kept
 returns : tie.Need-returns Inv-loop μ-loop
 returns c = both-ended (c .before .before .before .before .before .pre) (c .before .loop .inv) (c .loop-test .left)
 
-pub float-normals-spec : {M : Type 1} → statement M
-float-normals-spec = tie.close
+pub whole-normals-spec : {M : Type 1} → statement M
+whole-normals-spec = tie.close
     (tie.spec Inv-loop μ-loop loop-holds (λ c. search needs) (λ c. search needs) (λ c κs. search needs) (λ c. search needs) slice-write-x
     (λ c. search needs) slice-write-f (λ c. search needs) (λ c. search needs) loop-again same-length same-length-2 returns)

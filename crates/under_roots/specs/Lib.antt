@@ -1,0 +1,3 @@
+-- What the caller's memory holds after a call.
+pub mod UnderRoots
+pub mod Private
