@@ -29,8 +29,9 @@ use Rattle.text.specs.Fields.{partOf}
 use Rattle.text.proofs.Decimal.{decimal-length}
 use Rattle.job.specs.Private.{Steady, rowOf, Ready, Printing}
 use Rattle.job_refusals.specs.Refusals.{formless, misplaced, refusal}
+use Rattle.job_setting.specs.Setting.{settingOn}
 use Rattle.job.specs.Job.{settingAfter, printed}
-use Rattle.job.specs.declared.setting.Setting.{Setting}
+use Rattle.job_setting.specs.declared.Setting.{Setting}
 use Rattle.job.specs.declared.state.State.{State}
 use Rattle.job_refusals.proofs.Accepted.{accepted-line, line-few, sigma-within, shot-within}
 use Rattle.listing_writer.proofs.Rows.{row-length, end-length}
@@ -84,7 +85,7 @@ pub record Steps (k : ℕ) (x : Form) (s : Setting) : Type 0 where
 
 pub steps : (k : ℕ) (l : List ℕ) (s : Setting) → Steady (s .distance) (s .bearing) → refusal k (readLine l) ≡ 0 → Steps
     k (readLine l) s
-unfolding misplaced formless settingAfter printed noisyRow
+unfolding misplaced formless settingOn settingAfter printed noisyRow
 steps k l s steady h = go (readLine l) refl h (line-few k (readLine l) h)
   where
     go : (x : Form) → readLine l ≡ x → refusal k x ≡ 0 → k ≤ lastLine → Steps k x s

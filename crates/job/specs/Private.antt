@@ -16,7 +16,7 @@ use Rattle.listing_writer.specs.Listing.{header, noisyRow, rowRoom}
 use Rattle.job.specs.Job.{Outcome, refused, listed, onto, outcome, listingOf, answerOf, printed, settingAfter}
 use Rattle.listing_writer.specs.declared.Row.{Row}
 use Rattle.noise.specs.declared.PairAnswer.{PairAnswer}
-use Rattle.job.specs.declared.setting.Setting.{Setting}
+use Rattle.job_setting.specs.declared.Setting.{Setting}
 use Rattle.job.specs.declared.state.State.{State}
 use Rattle.job.specs.declared.JobAnswer.{JobAnswer}
 

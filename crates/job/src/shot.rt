@@ -1,7 +1,7 @@
 // The row of a shot with its noise, and a row after the listing so far.
-use crate::setting::Setting;
 use buffer::put;
 use job_lines::Shot;
+use job_setting::Setting;
 use listing_writer::Row;
 use listing_writer::noisy_bearing;
 use listing_writer::noisy_distance;

@@ -1,15 +1,15 @@
 // A job, line by line: what each accepted line does to the state.
-use crate::setting::Setting;
-use crate::setting::settle;
 use crate::shot::add_shot;
 use job_lines::Line;
 use job_lines::Shot;
 use job_lines::read_line;
+use job_setting::Setting;
+use job_setting::settle;
 ghost use Prim.Native.Nat.{_≤_};
 ghost use mathlib.Core.Path.{_≡_};
 ghost use Rattle.job_refusals.specs.Limits.{lastLine};
 ghost use Rattle.job_lines.specs.Forms.{shotIn, said, readLine};
-ghost use Rattle.job.specs.Job.{settingOn};
+ghost use Rattle.job_setting.specs.Setting.{settingOn};
 ghost use Rattle.job.specs.Private.{refusedState, nextState, acceptedState, acceptedBuffer, takenOf, bufferOf, Ready, Printing};
 
 // The refusal code of a line, 0 while all are accepted; the number of the next line, or of that one; the listing's length so far; the setting.

@@ -1,10 +1,10 @@
 // All lines of a job, and the listing.
 use crate::JobAnswer;
 use crate::refused_job;
-use crate::setting::first_setting;
 use crate::shot::add_row;
 use crate::state::State;
 use crate::state::take_line;
+use job_setting::first_setting;
 use listing_writer::HEADER_LENGTH;
 use listing_writer::end_row;
 use listing_writer::put_header;
@@ -12,7 +12,8 @@ use text::line::line_end;
 ghost use mathlib.Core.Path.{_≡_};
 ghost use lib.ListN.{length};
 ghost use Rattle.listing_writer.specs.Listing.{header};
-ghost use Rattle.job.specs.Job.{start, listingOf};
+ghost use Rattle.job_setting.specs.Setting.{start};
+ghost use Rattle.job.specs.Job.{listingOf};
 ghost use Rattle.job.specs.Private.{Going, Ended, Wrote};
 
 // Before line 1, after the header.

@@ -2,7 +2,7 @@
 use native.Mathlib.Omega.{arith}
 use mathlib.Core.Path.{refl}
 use borrow.Author.Needs.{needs}
-use Rattle.job.specs.Job.{printed, settingOn}
+use Rattle.job.specs.Job.{printed, settingAfter}
 use Rattle.job_refusals.proofs.Refused.{none-6}
 use Rattle.job_refusals.proofs.Accepted.{line-few}
 use Rattle.job.proofs.Names.{state-same}
@@ -31,14 +31,14 @@ enum-told : tie.Need-enum-told
 enum-told c = search needs
 
 returns : tie.Need-returns
-unfolding printed settingOn
+unfolding printed settingAfter
 returns c =
     let at = c .before .before .before .before .before .before in
     let x = c .before .before .x .given .1 in
     rw x (state-same (at .args .s) _ _ refl _ _ (c .next-state .ensures) (rw x at (at .pre .1)))
 
 returns-2 : tie.Need-returns-2
-unfolding printed settingOn
+unfolding printed settingAfter
 returns-2 c =
     let at = c .before .before .before .before .before .before in
     let x = c .before .before .x2 .given .1 in

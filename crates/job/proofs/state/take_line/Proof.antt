@@ -2,7 +2,8 @@
 use mathlib.Core.Path.{sym, ap, _∙_}
 use Rattle.job_refusals.specs.Refusals.{refusal}
 use Rattle.job_refusals.proofs.Refused.{names-apart}
-use Rattle.job.proofs.Names.{taken-on, taken-off, settled-code, settled-next, setting-apart}
+use Rattle.job_setting.proofs.Settling.{settled-code, settled-next, setting-apart}
+use Rattle.job.proofs.Names.{taken-on, taken-off}
 use Rattle.job.proofs.Bounds.{printing}
 use Rattle.job.proofs.state.take_line.Statement.{statement}
 use Rattle.job.proofs.state.take_line.Tie as tie
