@@ -108,7 +108,7 @@ module _ (s : State) (x : Form) where
   taken-code = go (eqb (refusal (s .line) x) 0) refl
     where
       go : (b : Bool) → eqb (refusal (s .line) x) 0 ≡ b
-          → _≡_ {A = ℕ} (cond {A = State} b (acceptedState s x) (refusedState s (refusal (s .line) x)) .code) (refusal (s .line) x)
+          → _≡_ {A = ℕ} (cond {A = State} b (acceptedState (s .line) (s .used) (s .setting) x) (refusedState s (refusal (s .line) x)) .code) (refusal (s .line) x)
       go true e = sym (eqb-true (refusal (s .line) x) 0 e)
       go false e = refl
 
