@@ -11,13 +11,14 @@ use borrow.Author.Tests.{lt-ltb, le-ltb, le-leb, lt-leb, leb-true, eqb-false}
 use Rattle.buffer.specs.Buffer.{Puts}
 use Rattle.buffer.proofs.Writing.{position-fits, written-fits}
 use Rattle.job_refusals.specs.Limits.{mostBytes}
-use Rattle.job.specs.Job.{Outcome, refused, listed, onto, outcome, start, listingOf, jobOf, answerOf, bufferAfter, outputOf}
+use Rattle.job_setting.specs.Setting.{start}
+use Rattle.job.specs.Job.{Outcome, refused, listed, onto, outcome, listingOf, jobOf, answerOf, bufferAfter, outputOf}
 use Rattle.job.specs.Job.{printed, settingAfter}
 use Rattle.job_lines.specs.Forms.{readLine}
 use Rattle.job_refusals.specs.Refusals.{refusal, firstBad}
 use Rattle.job_refusals.specs.declared.first_bad.BadLine.{BadLine}
 use Rattle.listing_writer.specs.Listing.{header, endRow, refusedRow}
-use Rattle.job.specs.declared.setting.Setting.{Setting}
+use Rattle.job_setting.specs.declared.Setting.{Setting}
 use Rattle.text.specs.Scan.{lines}
 use Rattle.job.specs.Private.{Wrote, Decided}
 use Rattle.job.specs.declared.JobAnswer.{JobAnswer}

@@ -17,7 +17,7 @@ use Rattle.box_muller.specs.Steps.{fractionBits}
 use Rattle.noise.specs.Noise.{pairOf}
 use Rattle.noise.specs.declared.PairAnswer.{PairAnswer}
 use Rattle.job_refusals.specs.Limits.{lastLine, mostSigma, mostDistance, mostBearing}
-use Rattle.job_lines.specs.Forms.{Form, seeds, sigma, shot, noForm, readLine}
+use Rattle.job_lines.specs.Forms.{Form, seeds, sigma, shot, noForm, shotIn, readLine}
 use Rattle.job_lines.specs.declared.Shot.{Shot as ShotFields}
 use Rattle.buffer.specs.Buffer.{written, positionAfter, Puts}
 use Rattle.buffer.proofs.Writing.{written-out, room-holds}
@@ -29,12 +29,13 @@ use Rattle.text.specs.Fields.{partOf}
 use Rattle.text.proofs.Decimal.{decimal-length}
 use Rattle.job.specs.Private.{Steady, rowOf, Ready, Printing}
 use Rattle.job_refusals.specs.Refusals.{formless, misplaced, refusal}
+use Rattle.job_setting.specs.Setting.{settingOn}
 use Rattle.job.specs.Job.{settingAfter, printed}
-use Rattle.job.specs.declared.setting.Setting.{Setting}
+use Rattle.job_setting.specs.declared.Setting.{Setting}
 use Rattle.job.specs.declared.state.State.{State}
 use Rattle.job_refusals.proofs.Accepted.{accepted-line, line-few, sigma-within, shot-within}
 use Rattle.listing_writer.proofs.Rows.{row-length, end-length}
-use Rattle.job.proofs.Names.{names-short}
+use Rattle.job.proofs.Names.{printed-again, names-short}
 
 -- the most that 16 bits hold in size, and the noise that they give
 abbrev mostSize : ℕ
@@ -84,7 +85,7 @@ pub record Steps (k : ℕ) (x : Form) (s : Setting) : Type 0 where
 
 pub steps : (k : ℕ) (l : List ℕ) (s : Setting) → Steady (s .distance) (s .bearing) → refusal k (readLine l) ≡ 0 → Steps
     k (readLine l) s
-unfolding misplaced formless settingAfter printed noisyRow
+unfolding misplaced formless settingOn settingAfter printed noisyRow
 steps k l s steady h = go (readLine l) refl h (line-few k (readLine l) h)
   where
     go : (x : Form) → readLine l ≡ x → refusal k x ≡ 0 → k ≤ lastLine → Steps k x s
@@ -108,22 +109,33 @@ steps k l s steady h = go (readLine l) refl h (line-few k (readLine l) h)
     go noForm e a few = absurd (true≢false (accepted-line k noForm a .formed))
 
 -- an accepted line of a job half way prints no more than a row
-pub printing : (s : State) (l : List ℕ) → Ready s → refusal (s .line) (readLine l) ≡ 0 → Printing s (readLine l)
-printing s l r e =
-    record { accepted = e; row = steps (s .line) l (s .setting) (r .steady) e .row; short = r .short }
+pub printing : (s : State) (l : List ℕ) (t : Setting) → Ready s → refusal (s .line) (readLine l) ≡ 0 → t ≡ settingOn (readLine l) (s .setting)
+    → Printing (s .line) (s .used) t (readLine l)
+printing s l t r e f =
+    rw f
+    (record {
+      accepted = e;
+      row = rw (printed-again (readLine l) (s .setting)) (steps (s .line) l (s .setting) (r .steady) e .row);
+      short = r .short;
+    })
 
--- the row of a shot, from its parts; the samples as 16 bits hold them
-module _ (line : List ℕ) (x : ShotFields) (distance bearing : ℕ) (pair : PairAnswer) (from to : List ℕ) (mm step : ℕ)
+-- the row of a shot with its noise; the samples as 16 bits hold them
+pub noise-on : (line : List ℕ) (x : ShotFields) (s : Setting) (pair : PairAnswer) (mm step : ℕ) → pair ≡ pairOf fractionBits (s .generator)
+    → SFits w16 (pair .first) → mm ≡ noisyDistance (s .distance) (x .distance) (toZ w16 (ofZ w16 (pair .first)))
+    → SFits w16 (pair .second) → step ≡ noisyBearing (s .bearing) (x .bearing) (toZ w16 (ofZ w16 (pair .second)))
+    → rowOf line x mm step ≡ printed (shotIn line x) s
+unfolding printed noisyRow
+noise-on line x s pair mm step e first m second t = rw (m, toZ-ofZ first, t, toZ-ofZ second, e)
+
+-- the row of a shot, from its parts
+module _ (line : List ℕ) (x : ShotFields) (mm step : ℕ) (from to : List ℕ)
     (f : from ≡ partOf line (x .from)) (t : to ≡ partOf line (x .to))
-    (first : SFits w16 (pair .first)) (m : mm ≡ noisyDistance distance (x .distance) (toZ w16 (ofZ w16 (pair .first))))
-    (second : SFits w16 (pair .second)) (s : step ≡ noisyBearing bearing (x .bearing) (toZ w16 (ofZ w16 (pair .second))))
-    (short : length (rowOf line x distance bearing pair) ≤ rowRoom) where
+    (short : length (rowOf line x mm step) ≤ rowRoom) where
   abbrev bytes : List ℕ
-  bytes = rowOf line x distance bearing pair
+  bytes = rowOf line x mm step
 
   same-row : shotRow from to mm step ≡ bytes
-  unfolding noisyRow
-  same-row = rw (f, t, m, toZ-ofZ first, s, toZ-ofZ second)
+  same-row = rw (f, t)
 
   -- measured, where nothing of it fits
   pub row-measured : (out : List ℕ) (used n : ℕ) → n ≡ min (length (shotRow from to mm step)) rowRoom → length out ≤ used

@@ -16,9 +16,10 @@ use Rattle.job_lines.specs.Forms.{Form, readLine}
 use Rattle.listing_writer.specs.Listing.{header, endRow, rowRoom}
 use Rattle.listing_writer.specs.declared.Row.{Row}
 use Rattle.job_refusals.specs.Refusals.{refusal}
-use Rattle.job.specs.Job.{Outcome, refused, listed, onto, outcome, start, listingOf, settingAfter, printed}
+use Rattle.job_setting.specs.Setting.{start}
+use Rattle.job.specs.Job.{Outcome, refused, listed, onto, outcome, listingOf, settingAfter, printed}
 use Rattle.job.specs.Private.{refusedState, nextState, acceptedState, acceptedBuffer, takenOf, bufferOf, Ready, Adds, Going, Ended, Wrote}
-use Rattle.job.specs.declared.setting.Setting.{Setting}
+use Rattle.job_setting.specs.declared.Setting.{Setting}
 use Rattle.job.specs.declared.state.State.{State}
 use Rattle.job.proofs.Bounds.{end-short, steps}
 use Rattle.listing_writer.proofs.Rows.{header-length}
@@ -107,7 +108,7 @@ module _ (s : State) (x : Form) where
   taken-code = go (eqb (refusal (s .line) x) 0) refl
     where
       go : (b : Bool) → eqb (refusal (s .line) x) 0 ≡ b
-          → _≡_ {A = ℕ} (cond {A = State} b (acceptedState s x) (refusedState s (refusal (s .line) x)) .code) (refusal (s .line) x)
+          → _≡_ {A = ℕ} (cond {A = State} b (acceptedState (s .line) (s .used) (s .setting) x) (refusedState s (refusal (s .line) x)) .code) (refusal (s .line) x)
       go true e = sym (eqb-true (refusal (s .line) x) 0 e)
       go false e = refl
 

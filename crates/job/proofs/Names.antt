@@ -1,68 +1,82 @@
 -- What is known of a line once it is read, and what a line that prints nothing leaves.
 use Prim.Native.Nat.{ℕ, _≤_}
+use native.Mathlib.Omega.{arith}
 use native.Mathlib.Nat.{add-zero}
-use mathlib.Core.Path.{_≡_, refl, sym, ap, subst, _∙_}
-use mathlib.Core.List.{List, []}
+use mathlib.Core.Path.{_≡_, refl, sym, subst, _∙_}
+use mathlib.Core.Logic.{inl, inr}
+use mathlib.Core.List.{List, [], _∷_}
 use lib.ListN.{length}
 use Rattle.text.specs.Limits.{nameLength}
 use Rattle.text.proofs.Plain.{name-length}
 use Rattle.buffer.proofs.Writing.{written-none}
-use Rattle.job_lines.specs.Forms.{Form, shot, said, readLine, Printable}
+use Rattle.job_lines.specs.Forms.{Form, seeds, sigma, shot, noForm, said, readLine, Printable}
 use Rattle.job_lines.specs.declared.Line.{Line}
 use Rattle.job_lines.specs.declared.Line.the-variants.{Seeds, Sigma, Shot, NoForm}
+use Rattle.job_lines.proofs.Line.{the-type}
+use denote.Enum.Declared.{tagOf}
+use types.Run.{OneOf}
 use borrow.Author.Tests.{ne-eqb}
 use Rattle.job_refusals.specs.Refusals.{refusal}
-use Rattle.job.specs.Job.{printed, settingAfter, settingOn, settledOf}
+use Rattle.job_setting.specs.Setting.{settingOn}
+use Rattle.job.specs.Job.{printed, settingAfter}
 use Rattle.job.specs.Private.{refusedState, nextState, acceptedState, acceptedBuffer, takenOf, bufferOf}
-use Rattle.job.specs.declared.setting.Setting.{Setting}
-use Rattle.job.specs.declared.setting.Settled.{Settled}
+use Rattle.job_setting.specs.declared.Setting.{Setting}
 use Rattle.job.specs.declared.state.State.{State}
 use Rattle.job_lines.proofs.RoundTrip.{printed-read, shot-not-none}
 
 -- a line that prints nothing leaves the buffer and the length of the listing as they were
-module _ (s : State) (x : Form) (out : List ℕ) (e : printed x (s .setting) ≡ []) where
-  pub state-same : (r : State) (t : Setting) → r ≡ nextState (s .line) (s .used) t → t ≡ settingAfter x (s .setting)
-      → (r ≡ acceptedState s x) × (out ≡ acceptedBuffer s x out)
-  unfolding acceptedState acceptedBuffer
-  state-same r t f h = rw (e, add-zero (s .used), ← h) (f, written-none out (s .used) .1)
+pub state-same : (k used : ℕ) (s : Setting) (x : Form) (out : List ℕ) (r : State) → printed x s ≡ [] → settingAfter x s ≡ s → r ≡ nextState k used s
+    → (r ≡ acceptedState k used s x) × (out ≡ acceptedBuffer used s x out)
+unfolding acceptedState acceptedBuffer
+state-same k used s x out r e h f = rw (e, add-zero used, h) (f, written-none out used .1)
+
+-- and so does every line but a shot; the tags are those of the enum's cases
+pub unprinted : (text : List ℕ) (x : Line) (s : Setting) → OneOf (0 ∷ 1 ∷ 3 ∷ []) (tagOf the-type x)
+    → (printed (said text x) s ≡ []) × (settingAfter (said text x) s ≡ settingOn (said text x) s)
+unfolding printed settingAfter
+unprinted text (Seeds x) s h = (refl, refl)
+unprinted text (Sigma x) s h = (refl, refl)
+unprinted text (Shot x) s (inl e) = absurd (omega (arith, e))
+unprinted text (Shot x) s (inr (inl e)) = absurd (omega (arith, e))
+unprinted text (Shot x) s (inr (inr e)) = absurd (omega (arith, e))
+unprinted text NoForm s h = (refl, refl)
+
+-- once a line has set what it sets, it sets, prints and leaves the same
+twice : (x : Form) (s : Setting) → settingOn x (settingOn x s) ≡ settingOn x s
+unfolding settingOn
+twice (seeds a0 a1 a2 b0 b1 b2) s = refl
+twice (sigma d b) s = refl
+twice (shot from to d b) s = refl
+twice noForm s = refl
+
+pub set-again : (x : Form) (s t : Setting) → t ≡ settingOn x s → settingOn x t ≡ t
+set-again x s t e = rw e (twice x s)
+
+pub printed-again : (x : Form) (s : Setting) → printed x (settingOn x s) ≡ printed x s
+unfolding settingOn printed
+printed-again (seeds a0 a1 a2 b0 b1 b2) s = refl
+printed-again (sigma d b) s = refl
+printed-again (shot from to d b) s = refl
+printed-again noForm s = refl
+
+after-again : (x : Form) (s : Setting) → settingAfter x (settingOn x s) ≡ settingAfter x s
+unfolding settingOn settingAfter
+after-again (seeds a0 a1 a2 b0 b1 b2) s = refl
+after-again (sigma d b) s = refl
+after-again (shot from to d b) s = refl
+after-again noForm s = refl
 
 -- a line, accepted or refused with the code n
-module _ (s : State) (x : Form) (out : List ℕ) (r : State) where
-  pub taken-on : (out′ : List ℕ) → refusal (s .line) x ≡ 0 → (r ≡ acceptedState s x) × (out′ ≡ acceptedBuffer s x out)
-      → (r ≡ takenOf s x) × (out′ ≡ bufferOf s x out)
+module _ (s : State) (x : Form) (out : List ℕ) where
+  pub taken-on : (y : Form) (r : State) (out′ : List ℕ) (t : Setting) → y ≡ x → refusal (s .line) x ≡ 0 → t ≡ settingOn x (s .setting)
+      → (r ≡ acceptedState (s .line) (s .used) t y) × (out′ ≡ acceptedBuffer (s .used) t y out) → (r ≡ takenOf s x) × (out′ ≡ bufferOf s x out)
+  unfolding takenOf bufferOf acceptedState acceptedBuffer
+  taken-on y r out′ t f z e h = rw z (rw (f, e, printed-again x (s .setting), after-again x (s .setting)) at h)
+
+  pub taken-off : (n : ℕ) (t : Setting) → n ≡ refusal (s .line) x → (n ≡ 0 → ⊥) → t ≡ s .setting
+      → (record { code = n; line = s .line; used = s .used; setting = t } ≡ takenOf s x) × (out ≡ bufferOf s x out)
   unfolding takenOf bufferOf
-  taken-on out′ z h = rw z h
-
-  pub taken-off : (n : ℕ) → n ≡ refusal (s .line) x → (n ≡ 0 → ⊥) → r ≡ refusedState s n → (r ≡ takenOf s x) × (out ≡ bufferOf s x out)
-  unfolding takenOf bufferOf
-  taken-off n e z h = rw (← e, ne-eqb n 0 z) (h, refl)
-
--- a line of that code, accepted or refused, in the setting alone
-module _ (k : ℕ) (x : Form) (s : Setting) (n : ℕ) where
-  pub settled-on : (t : Setting) → n ≡ refusal k x → n ≡ 0 → t ≡ settingOn x s → record { code = n; next = t } ≡ settledOf k x s
-  unfolding settledOf
-  settled-on t e z h = rw (← e, z, h)
-
-  pub settled-off : n ≡ refusal k x → (n ≡ 0 → ⊥) → record { code = n; next = s } ≡ settledOf k x s
-  unfolding settledOf
-  settled-off e z = rw (← e, ne-eqb n 0 z)
-
-module _ (k : ℕ) (x : Form) (s : Setting) (r : Settled) (e : r ≡ settledOf k x s) where
-  pub settled-code : r .code ≡ refusal k x
-  unfolding settledOf
-  settled-code = ap (λ (t : Settled). t .code) e
-
-  pub settled-next : r .code ≡ 0 → r .next ≡ settingOn x s
-  unfolding settledOf
-  settled-next z = ap (λ (t : Settled). t .next) e ∙ rw (← settled-code, z)
-
--- no name in it matters
-pub setting-apart : (text : List ℕ) (x : Line) (s : Setting) → settingOn (said [] x) s ≡ settingOn (said text x) s
-unfolding settingOn
-setting-apart text (Seeds x) s = refl
-setting-apart text (Sigma x) s = refl
-setting-apart text (Shot x) s = refl
-setting-apart text NoForm s = refl
+  taken-off n t e z h = rw (← e, ne-eqb n 0 z, h) (refl, refl)
 
 -- the names of a shot that was read
 pub names-short : (l from to : List ℕ) (d b : ℕ) → readLine l ≡ shot from to d b → (length from ≤ nameLength) × (length to ≤ nameLength)

@@ -21,13 +21,14 @@ use Rattle.job_refusals.proofs.Refused.{seeds-within}
 use Rattle.job_refusals.proofs.Accepted.{accepted-line, line-few}
 use Rattle.job_lines.specs.Forms.{Form, seeds, sigma, shot, noForm}
 use Rattle.listing_writer.specs.Listing.{header, endRow}
-use Rattle.job.specs.Job.{start, printed, settingAfter}
+use Rattle.job_setting.specs.Setting.{start, settingOn}
+use Rattle.job.specs.Job.{printed, settingAfter}
 use Rattle.job.specs.Theorems.{Accepts, textOf, rows, ShotLine, formOf, rowsFrom, Drawn}
 
 -- the rows of shots, where the setting's record is i pairs on
 rows-pairs : (xs : List ShotLine) (i d b : ℕ) (g : Generator)
     → rows (record { generator = after i g; distance = d; bearing = b }) (map formOf xs) ≡ rowsFrom i d b g xs
-unfolding rows rowsFrom printed settingAfter pairOf after
+unfolding rows rowsFrom printed settingOn settingAfter pairOf after
 rows-pairs [] i d b g = refl
 rows-pairs (x ∷ xs) i d b g =
     ap (λ (r : List ℕ). printed (formOf x) (record { generator = after i g; distance = d; bearing = b }) ++ r)
@@ -87,7 +88,7 @@ module _ (text bytes : List ℕ) (xs : List Form) (r : Shots 3 xs) where
   from-heads : (a0 a1 a2 b0 b1 b2 d b : ℕ) → refusal 1 (seeds a0 a1 a2 b0 b1 b2) ≡ 0
       → textOf (seeds a0 a1 a2 b0 b1 b2 ∷ sigma d b ∷ xs) ≡ text
       → bytes ≡ header ++ (rows start (seeds a0 a1 a2 b0 b1 b2 ∷ sigma d b ∷ xs) ++ endRow (length xs)) → Drawn text bytes
-  unfolding rows printed settingAfter after
+  unfolding rows printed settingOn settingAfter after
   from-heads a0 a1 a2 b0 b1 b2 d b e t l =
       let g = seedOf a0 a1 a2 b0 b1 b2 .next in
       let count : length xs ≡ length (r .all) = omega (arith, length-map (r .all) formOf, ap length (r .same)) in

@@ -14,10 +14,11 @@ use Rattle.job_refusals.specs.Limits.{mostBytes, lastLine, listingRoom, longest
 use Rattle.job_lines.specs.Forms.{Form, seeds, sigma, shot, noForm, readLine, printLine}
 use Rattle.listing_writer.specs.Listing.{header, endRow, rowRoom}
 use Rattle.job_refusals.specs.Refusals.{formless, misplaced, tooMany, beyond, seedCode, refusal}
-use Rattle.job.specs.Job.{Outcome, refused, listed, onto, outcome, start, listingOf, jobOf, answerOf, settingAfter, printed}
+use Rattle.job_setting.specs.Setting.{start}
+use Rattle.job.specs.Job.{Outcome, refused, listed, onto, outcome, listingOf, jobOf, answerOf, settingAfter, printed}
 use Rattle.job.specs.Theorems.{Theorems, Accepts, textOf, rows, isShot, shots, Drawn}
 use Rattle.job.specs.Private.{Steady}
-use Rattle.job.specs.declared.setting.Setting.{Setting}
+use Rattle.job_setting.specs.declared.Setting.{Setting}
 use Rattle.job.specs.declared.JobAnswer.{JobAnswer}
 use Rattle.listing_writer.proofs.Rows.{header-length}
 use Rattle.job_refusals.proofs.Refused.{seed-apart}

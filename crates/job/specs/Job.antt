@@ -4,7 +4,6 @@ use mathlib.Core.Bool.{cond}
 use mathlib.Core.List.{List, [], _∷_, _++_}
 use lib.Dec.{leb, ltb, eqb}
 use lib.ListN.{length, drop}
-use Rattle.streams.specs.Streams.{ifAccepted, seedOf}
 use Rattle.box_muller.specs.Steps.{fractionBits}
 use Rattle.noise.specs.Noise.{pairOf}
 use Rattle.text.specs.Scan.{lines}
@@ -12,29 +11,17 @@ use Rattle.job_refusals.specs.Limits.{mostBytes}
 use Rattle.job_lines.specs.Forms.{Form, seeds, sigma, shot, noForm, readLine}
 use Rattle.listing_writer.specs.Listing.{header, endRow, refusedRow, noisyRow}
 use Rattle.job_refusals.specs.Refusals.{refusal}
-use Rattle.job.specs.declared.setting.Setting.{Setting}
-use Rattle.job.specs.declared.setting.Settled.{Settled}
+use Rattle.job_setting.specs.Setting.{start, settingOn}
+use Rattle.job_setting.specs.declared.Setting.{Setting}
 use Rattle.job.specs.declared.JobAnswer.{JobAnswer}
 
--- What a line leaves for those after it: the seeds give the record, the sigmas are kept, "each shot takes one pair"
+-- What a line leaves for those after it: "each shot takes one pair", and every other line leaves what it sets
 unfoldable pub settingAfter : Form → Setting → Setting
-settingAfter (seeds a0 a1 a2 b0 b1 b2) s =
-    record { generator = seedOf a0 a1 a2 b0 b1 b2 .next; distance = s .distance; bearing = s .bearing }
-settingAfter (sigma d b) s = record { generator = s .generator; distance = d; bearing = b }
+settingAfter (seeds a0 a1 a2 b0 b1 b2) s = settingOn (seeds a0 a1 a2 b0 b1 b2) s
+settingAfter (sigma d b) s = settingOn (sigma d b) s
 settingAfter (shot from to d b) s = record
     { generator = pairOf fractionBits (s .generator) .next; distance = s .distance; bearing = s .bearing }
-settingAfter noForm s = s
-
--- The same before its pair is drawn
-unfoldable pub settingOn : Form → Setting → Setting
-settingOn (seeds a0 a1 a2 b0 b1 b2) s = settingAfter (seeds a0 a1 a2 b0 b1 b2) s
-settingOn (sigma d b) s = settingAfter (sigma d b) s
-settingOn (shot from to d b) s = s
-settingOn noForm s = s
-
--- Line k: its refusal code, and the setting before its pair is drawn; refused, the setting before it
-unfoldable pub settledOf : ℕ → Form → Setting → Settled
-settledOf k x s = record { code = refusal k x; next = ifAccepted (refusal k x) (settingOn x s) s }
+settingAfter noForm s = settingOn noForm s
 
 -- What a line prints: "First sample to distance, second to bearing" of the one pair
 unfoldable pub printed : Form → Setting → List ℕ
@@ -60,10 +47,6 @@ outcome k s (l ∷ ls) =
     cond (eqb (refusal k (readLine l)) 0)
     (onto (printed (readLine l) s) (outcome (k + 1) (settingAfter (readLine l) s) ls))
     (refused (refusal k (readLine l)) k)
-
--- before line 1 there is no record and no sigma; no accepted job prints with these
-unfoldable pub start : Setting
-start = record { generator = seedOf 0 0 0 0 0 0 .next; distance = 0; bearing = 0 }
 
 -- the header, and then line by line
 unfoldable pub listingOf : List ℕ → Outcome

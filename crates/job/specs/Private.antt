@@ -8,15 +8,14 @@ use lib.ListN.{length, drop}
 use Rattle.text.specs.Fields.{partOf}
 use Rattle.text.specs.Scan.{lines}
 use Rattle.buffer.specs.Buffer.{written}
-use Rattle.job_refusals.specs.Limits.{lastLine, listingRoom, mostSigma, mostDistance, mostBearing}
+use Rattle.job_refusals.specs.Limits.{lastLine, listingRoom, mostSigma}
 use Rattle.job_lines.specs.Forms.{Form}
 use Rattle.job_lines.specs.declared.Shot.{Shot as ShotFields}
 use Rattle.job_refusals.specs.Refusals.{refusal}
-use Rattle.listing_writer.specs.Listing.{header, noisyRow, rowRoom}
+use Rattle.listing_writer.specs.Listing.{header, shotRow, rowRoom}
 use Rattle.job.specs.Job.{Outcome, refused, listed, onto, outcome, listingOf, answerOf, printed, settingAfter}
 use Rattle.listing_writer.specs.declared.Row.{Row}
-use Rattle.noise.specs.declared.PairAnswer.{PairAnswer}
-use Rattle.job.specs.declared.setting.Setting.{Setting}
+use Rattle.job_setting.specs.declared.Setting.{Setting}
 use Rattle.job.specs.declared.state.State.{State}
 use Rattle.job.specs.declared.JobAnswer.{JobAnswer}
 
@@ -27,15 +26,9 @@ pub record Steady (distance bearing : ℕ) : Type 0 where
   pub sigma-distance : distance ≤ mostSigma
   pub sigma-bearing : bearing ≤ mostSigma
 
--- a shot within its ranges
-pub record Ranged (x : ShotFields) : Type 0 where
-  pub distance : x .distance ≤ mostDistance
-  pub bearing : x .bearing ≤ mostBearing
-
--- the row of a shot of a line, with its noise
-abbrev pub rowOf : List ℕ → ShotFields → ℕ → ℕ → PairAnswer → List ℕ
-rowOf line x distance bearing pair =
-    noisyRow distance bearing (partOf line (x .from)) (partOf line (x .to)) (x .distance) (x .bearing) (pair .first) (pair .second)
+-- the row of a shot of a line, with these numbers
+abbrev pub rowOf : List ℕ → ShotFields → ℕ → ℕ → List ℕ
+rowOf line x mm step = shotRow (partOf line (x .from)) (partOf line (x .to)) mm step
 
 -- a refused line leaves the state as it was, but for its code
 abbrev pub refusedState : State → ℕ → State
@@ -45,19 +38,19 @@ refusedState s code = record { code = code; line = s .line; used = s .used; sett
 abbrev pub nextState : ℕ → ℕ → Setting → State
 nextState k used setting = record { code = 0; line = k + 1; used = used; setting = setting }
 
--- an accepted line that says x: the state after it, its listing as long as what was printed, and the buffer with what fits of that
-unfoldable pub acceptedState : State → Form → State
-acceptedState s x = nextState (s .line) (s .used + length (printed x (s .setting))) (settingAfter x (s .setting))
+-- line k, accepted, that says x: the state after it, its listing as long as what was printed, and the buffer with what fits of that
+unfoldable pub acceptedState : ℕ → ℕ → Setting → Form → State
+acceptedState k used s x = nextState k (used + length (printed x s)) (settingAfter x s)
 
-unfoldable pub acceptedBuffer : State → Form → List ℕ → List ℕ
-acceptedBuffer s x out = written out (s .used) (printed x (s .setting))
+unfoldable pub acceptedBuffer : ℕ → Setting → Form → List ℕ → List ℕ
+acceptedBuffer used s x out = written out used (printed x s)
 
 -- a line that says x, accepted or refused
 unfoldable pub takenOf : State → Form → State
-takenOf s x = cond (eqb (refusal (s .line) x) 0) (acceptedState s x) (refusedState s (refusal (s .line) x))
+takenOf s x = cond (eqb (refusal (s .line) x) 0) (acceptedState (s .line) (s .used) (s .setting) x) (refusedState s (refusal (s .line) x))
 
 unfoldable pub bufferOf : State → Form → List ℕ → List ℕ
-bufferOf s x out = cond (eqb (refusal (s .line) x) 0) (acceptedBuffer s x out) out
+bufferOf s x out = cond (eqb (refusal (s .line) x) 0) (acceptedBuffer (s .used) (s .setting) x out) out
 
 -- what a line may rely on: the sigmas are within their range, and the listing so far is no longer than any
 pub record Ready (s : State) : Type 0 where
@@ -70,17 +63,16 @@ pub record Adds (used : ℕ) (row : Row) : Type 0 where
   pub whole : row .length ≤ length (row .bytes)
   pub room : row .length ≤ rowRoom
 
--- a listing so far, and a shot within its ranges with that row
-pub record AddsShot (used : ℕ) (x : ShotFields) (row : List ℕ) : Type 0 where
+-- a listing so far, and the row of a shot after it
+pub record AddsShot (used : ℕ) (row : List ℕ) : Type 0 where
   pub short : used ≤ listingRoom
-  pub ranged : Ranged x
   pub room : length row ≤ rowRoom
 
--- a line that is accepted, and what it prints is no longer than a row
-pub record Printing (s : State) (x : Form) : Type 0 where
-  pub accepted : refusal (s .line) x ≡ 0
-  pub row : length (printed x (s .setting)) ≤ rowRoom
-  pub short : s .used ≤ listingRoom
+-- line k, accepted, prints no more than a row
+pub record Printing (k used : ℕ) (s : Setting) (x : Form) : Type 0 where
+  pub accepted : refusal k x ≡ 0
+  pub row : length (printed x s) ≤ rowRoom
+  pub short : used ≤ listingRoom
 
 -- ---- A job half way and at its end
 

@@ -14,8 +14,9 @@ use Rattle.job_refusals.specs.Limits.{mostBytes, listingRoom, longestListing}
 use Rattle.job_lines.specs.Forms.{Form, seeds, sigma, shot, noForm, readLine, printLine, Printable}
 use Rattle.listing_writer.specs.Listing.{header, endRow, noisyRow}
 use Rattle.job_refusals.specs.Refusals.{refusal}
-use Rattle.job.specs.Job.{refused, listed, start, jobOf, answerOf, printed, settingAfter}
-use Rattle.job.specs.declared.setting.Setting.{Setting}
+use Rattle.job_setting.specs.Setting.{start}
+use Rattle.job.specs.Job.{refused, listed, jobOf, answerOf, printed, settingAfter}
+use Rattle.job_setting.specs.declared.Setting.{Setting}
 
 -- the text that says these forms, a line each
 unfoldable pub textOf : List Form → List ℕ

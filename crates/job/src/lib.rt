@@ -1,5 +1,4 @@
 // Jobs and their listings (document 01, "A job and its listing").
-pub mod setting;
 mod shot;
 mod state;
 mod walk;

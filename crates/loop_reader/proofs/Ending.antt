@@ -10,6 +10,7 @@ use borrow.Author.Tests.{eqb-true, eqb-false, lt-ltb, le-ltb}
 use Rattle.text.specs.Scan.{lines}
 use Rattle.listing_writer.specs.Listing.{endRow}
 use Rattle.job_refusals.specs.Limits.{mostBytes}
+use Rattle.job_setting.specs.Setting.{start}
 use Rattle.job.specs.Job as job
 use Rattle.job.proofs.Answered.{Told, job-told, job-short, job-long}
 use Rattle.loop_reader.specs.Loop as loop
@@ -44,7 +45,7 @@ module _ (text old new : List ℕ) (short : length text ≤ mostBytes) (s : Stat
 
     verdict-is : (q : Bool) → ltb (s .line) 3 ≡ q → verdict (job.listingOf text) ≡ verdict (cond q (job.refused 8 (s .line)) (job.listed (endRow (s .line - 3))))
     unfolding job.outcome lines
-    verdict-is q p = g .verdicts job.start ∙ rw (over, p)
+    verdict-is q p = g .verdicts start ∙ rw (over, p)
 
     unlinked-is : loop.unlinkedLine 1 [] (loop.formsOf text) ≡ s .unlinked
     unfolding loop.unlinkedLine lines
@@ -54,7 +55,7 @@ module _ (text old new : List ℕ) (short : length text ≤ mostBytes) (s : Stat
         go true p = sym (eqb-true (s .unlinked) 0 p)
         go false p = refl
 
-    setting-is : loop.settingIn job.start (loop.formsOf text) ≡ s .setting
+    setting-is : loop.settingIn start (loop.formsOf text) ≡ s .setting
     unfolding loop.settingIn lines
     setting-is = g .setting ∙ rw over
 

@@ -15,8 +15,9 @@ use Rattle.job_lines.specs.Forms.{Form, seeds, sigma, shot, noForm, readLine}
 use Rattle.job_refusals.specs.Refusals.{formless, misplaced, refusal}
 use Rattle.job_refusals.proofs.Accepted.{accepted-line, line-few}
 use Rattle.listing_writer.specs.Listing.{header}
+use Rattle.job_setting.specs.Setting.{start}
 use Rattle.job.specs.Job as job
-use Rattle.job.specs.declared.setting.Setting.{Setting}
+use Rattle.job_setting.specs.declared.Setting.{Setting}
 use Rattle.job.proofs.Going as going
 use Rattle.loop_reader.specs.Loop as loop
 use Rattle.loop_reader.specs.Private.{firstUnlinked, startState, Takes, verdict, Going, Ended}
@@ -131,7 +132,7 @@ module _ (text old memory memory′ : List ℕ) (s : State) (before at end : ℕ
         size = ap length kept ∙ g .size;
         memory = kept ∙ sym (g .kept ∙ rw forms (kept-no k (readLine l) (loop.formsOf (drop end text)) memory bad));
         yes = λ y. absurd (z y);
-        no = λ _. g .verdicts job.start ∙ rw (ahead, going.outcome-no k job.start l (lines (drop end text)) bad, took .code, same);
+        no = λ _. g .verdicts start ∙ rw (ahead, going.outcome-no k start l (lines (drop end text)) bad, took .code, same);
       }
 
 pub all-taken : (text old memory : List ℕ) (s : State) (before at : ℕ) → Going text old memory s before at → length text ≤ at → Ended text old memory s
@@ -154,7 +155,7 @@ at-start text memory s e = rw e (record {
   within = omega arith;
   low = omega arith;
   line = omega arith;
-  verdicts = λ t. verdict-onto header (job.outcome 1 job.start (lines text)) ∙ same-verdict (lines text) 1 job.start t;
+  verdicts = λ t. verdict-onto header (job.outcome 1 start (lines text)) ∙ same-verdict (lines text) 1 start t;
   setting = refl;
   unlinked = ap (λ (l : List ℕ). loop.unlinkedLine 1 l (loop.formsOf text)) (sym (none-at _));
   count = sym (zero-add (length (loop.shotsIn (loop.formsOf text))));

@@ -14,9 +14,9 @@ use Rattle.job_lines.proofs.RoundTrip.{read-printed}
 use Rattle.job_refusals.specs.Limits.{lastLine, mostDistance, mostBearing}
 use Rattle.job_refusals.specs.Refusals.{formless, misplaced}
 use Rattle.job_refusals.proofs.Accepted.{accepted-line, line-few, shot-within}
-use Rattle.job.specs.Job as job
+use Rattle.job_setting.specs.Setting.{settingOn}
 use Rattle.job.specs.Theorems.{textOf, Accepts}
-use Rattle.job.specs.declared.setting.Setting.{Setting}
+use Rattle.job_setting.specs.declared.Setting.{Setting}
 use Rattle.job.proofs.Jobs.{lines-text}
 use Rattle.loop_reader.specs.Loop as loop
 use Rattle.loop_reader.proofs.Going.{kept-yes}
@@ -65,7 +65,7 @@ shots-count (noForm ∷ xs) h = absurd h
 
 -- shots leave the setting
 pub setting-kept : (xs : List Form) (s : Setting) → Shots xs → loop.settingIn s xs ≡ s
-unfolding Shots loop.settingIn job.settingOn
+unfolding Shots loop.settingIn settingOn
 setting-kept [] s h = refl
 setting-kept (shot from to d b ∷ xs) s h = setting-kept xs s (h .4)
 setting-kept (seeds a0 a1 a2 b0 b1 b2 ∷ xs) s h = absurd h

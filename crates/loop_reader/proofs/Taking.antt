@@ -11,8 +11,8 @@ use Rattle.text.specs.Fields.{partOf}
 use Rattle.job_lines.specs.Forms.{Form, shot}
 use Rattle.job_refusals.specs.Refusals.{refusal}
 use Rattle.job_refusals.proofs.Theorems.{theorems}
-use Rattle.job.specs.Job.{settingOn}
-use Rattle.job.specs.declared.setting.Setting.{Setting}
+use Rattle.job_setting.specs.Setting.{settingOn}
+use Rattle.job_setting.specs.declared.Setting.{Setting}
 use Rattle.loop_reader.specs.Loop.{stationAfter, linkCode, keptOn}
 use Rattle.loop_reader.specs.Private.{firstUnlinked, Keeps, Takes}
 use Rattle.loop_reader.specs.declared.line.State.{State}

@@ -13,10 +13,11 @@ use Rattle.streams.specs.Recurrence.{Sound}
 use Rattle.job_lines.specs.Forms.{Form, seeds, sigma, shot, noForm}
 use Rattle.job_refusals.specs.Limits.{mostBytes, mostShots, mostDistance}
 use Rattle.job_refusals.proofs.Accepted.{sigma-within}
+use Rattle.job_setting.specs.Setting.{start, settingOn}
 use Rattle.job.specs.Job as job
 use Rattle.job.specs.Private.{Steady}
 use Rattle.job.specs.Theorems.{textOf, Accepts}
-use Rattle.job.specs.declared.setting.Setting.{Setting}
+use Rattle.job_setting.specs.declared.Setting.{Setting}
 use Rattle.job.proofs.Pairs.{seeds-sound}
 use Rattle.job.proofs.Answered.{Told, job-told}
 use Rattle.job.proofs.Jobs.{refused-not-listed}
@@ -41,7 +42,7 @@ pub record Says (text : List ℕ) (s : Setting) (l : List Shot) : Type 0 where
   pub said : textOf forms ≡ text
   pub read : loop.formsOf text ≡ forms
   pub linked : loop.unlinkedLine 1 [] forms ≡ 0
-  pub setting : loop.settingIn job.start forms ≡ s
+  pub setting : loop.settingIn start forms ≡ s
   pub shots : loop.shotsIn forms ≡ l
 
 tagOf : loop.Outcome → ℕ
@@ -49,7 +50,7 @@ tagOf (loop.refused n k) = 0
 tagOf (loop.accepted s l) = 1
 
 heldOf : loop.Outcome → Setting
-heldOf (loop.refused n k) = job.start
+heldOf (loop.refused n k) = start
 heldOf (loop.accepted s l) = s
 
 ranOf : loop.Outcome → List Shot
@@ -74,7 +75,7 @@ job-few text bytes e = go (ltb mostBytes (length text)) refl e
 
 module _ (text : List ℕ) (s : Setting) (l : List Shot) where
   by-link : (bytes : List ℕ) → job.jobOf text ≡ job.listed bytes → (q : Bool) → eqb (loop.unlinkedLine 1 [] (loop.formsOf text)) 0 ≡ q
-      → _≡_ {A = loop.Outcome} (cond q (loop.accepted (loop.settingIn job.start (loop.formsOf text)) (loop.shotsIn (loop.formsOf text)))
+      → _≡_ {A = loop.Outcome} (cond q (loop.accepted (loop.settingIn start (loop.formsOf text)) (loop.shotsIn (loop.formsOf text)))
       (loop.refused 23 (loop.unlinkedLine 1 [] (loop.formsOf text)))) (loop.accepted s l)
       → Says text s l
   by-link bytes j true p e =
@@ -89,7 +90,7 @@ module _ (text : List ℕ) (s : Setting) (l : List Shot) where
         said = t;
         read = read;
         linked = ap (loop.unlinkedLine 1 []) (sym read) ∙ eqb-true _ 0 p;
-        setting = ap (loop.settingIn job.start) (sym read) ∙ setting;
+        setting = ap (loop.settingIn start) (sym read) ∙ setting;
         shots = ap loop.shotsIn (sym read) ∙ shots;
       }
   by-link bytes j false p e = absurd (not-accepted 23 _ s l e)
@@ -167,8 +168,8 @@ pub record Ready (s : Setting) (l : List Shot) : Type 0 where
   pub few : length l ≤ mostShots
 
 ready-heads : (a0 a1 a2 b0 b1 b2 d b : ℕ) (ys : List Form) → Accepts 1 (seeds a0 a1 a2 b0 b1 b2 ∷ sigma d b ∷ ys)
-    → Ready (loop.settingIn job.start (seeds a0 a1 a2 b0 b1 b2 ∷ sigma d b ∷ ys)) (loop.shotsIn (seeds a0 a1 a2 b0 b1 b2 ∷ sigma d b ∷ ys))
-unfolding Accepts loop.settingIn loop.shotsIn job.settingOn job.settingAfter
+    → Ready (loop.settingIn start (seeds a0 a1 a2 b0 b1 b2 ∷ sigma d b ∷ ys)) (loop.shotsIn (seeds a0 a1 a2 b0 b1 b2 ∷ sigma d b ∷ ys))
+unfolding Accepts loop.settingIn loop.shotsIn settingOn
 ready-heads a0 a1 a2 b0 b1 b2 d b ys a =
     let shots = later-shots ys 3 (omega arith) (a .2 .2) in
     let (same, sound) = seeds-sound a0 a1 a2 b0 b1 b2 (a .1) in
@@ -186,7 +187,7 @@ ready-heads a0 a1 a2 b0 b1 b2 d b ys a =
 pub ready : (text : List ℕ) (s : Setting) (l : List Shot) → loop.loopOf text ≡ loop.accepted s l → Ready s l
 ready text s l e =
     let w = says text s l e in
-    let held : Ready (loop.settingIn job.start (w .forms)) (loop.shotsIn (w .forms)) = by-heads (λ xs. Ready (loop.settingIn job.start xs) (loop.shotsIn xs)) ready-heads (w .forms) (w .accepts) (w .enough) in
+    let held : Ready (loop.settingIn start (w .forms)) (loop.shotsIn (w .forms)) = by-heads (λ xs. Ready (loop.settingIn start xs) (loop.shotsIn xs)) ready-heads (w .forms) (w .accepts) (w .enough) in
     subst (λ (m : List Shot). Ready s m) (w .shots) (subst (λ (t : Setting). Ready t (loop.shotsIn (w .forms))) (w .setting) held)
 
 -- ---- The memory
@@ -275,7 +276,7 @@ module _ (text bytes : List ℕ) (j : job.jobOf text ≡ job.listed bytes) where
   linked-job : (loop.unlinkedLine 1 [] (loop.formsOf text) ≡ 0) ↔ Following [] (loop.formsOf text)
   linked-job = by-forms (λ ys. (loop.unlinkedLine 1 [] ys ≡ 0) ↔ Following [] ys) link-heads
 
-  followed : Following [] (loop.formsOf text) → loop.loopOf text ≡ loop.accepted (loop.settingIn job.start (loop.formsOf text)) (loop.shotsIn (loop.formsOf text))
+  followed : Following [] (loop.formsOf text) → loop.loopOf text ≡ loop.accepted (loop.settingIn start (loop.formsOf text)) (loop.shotsIn (loop.formsOf text))
   unfolding loop.loopOf
   followed f = rw (j, linked-job .1 f)
 

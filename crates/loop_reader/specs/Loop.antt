@@ -8,8 +8,9 @@ use Rattle.text.specs.Scan.{lines}
 use Rattle.job_lines.specs.Forms.{Form, seeds, sigma, shot, noForm, readLine}
 use Rattle.job_refusals.specs.Limits.{mostBytes}
 use Rattle.job_refusals.specs.Refusals.{refusal}
+use Rattle.job_setting.specs.Setting.{start, settingOn}
 use Rattle.job.specs.Job as job
-use Rattle.job.specs.declared.setting.Setting.{Setting}
+use Rattle.job_setting.specs.declared.Setting.{Setting}
 use Rattle.sums.specs.Sums.{Shot}
 use Rattle.misclosure.specs.Misclosure.{stationCode}
 use Rattle.loop_reader.specs.declared.LoopAnswer.{LoopAnswer}
@@ -29,7 +30,7 @@ shotsIn (noForm ∷ xs) = shotsIn xs
 -- the record and the sigmas that they leave: no pair is drawn
 unfoldable pub settingIn : Setting → List Form → Setting
 settingIn s [] = s
-settingIn s (x ∷ xs) = settingIn (job.settingOn x s) xs
+settingIn s (x ∷ xs) = settingIn (settingOn x s) xs
 
 -- where a line leads: a shot to its second station, another line to none
 unfoldable pub stationAfter : Form → List ℕ
@@ -59,14 +60,14 @@ pub data Outcome : Type 0 where
 abbrev pub linked : List Form → job.Outcome → Outcome
 linked xs (job.refused code line) = refused code line
 linked xs (job.listed bytes) =
-    cond (eqb (unlinkedLine 1 [] xs) 0) (accepted (settingIn job.start xs) (shotsIn xs)) (refused 23 (unlinkedLine 1 [] xs))
+    cond (eqb (unlinkedLine 1 [] xs) 0) (accepted (settingIn start xs) (shotsIn xs)) (refused 23 (unlinkedLine 1 [] xs))
 
 unfoldable pub loopOf : List ℕ → Outcome
 loopOf text = linked (formsOf text) (job.jobOf text)
 
 -- The answer; refused, no shots and the setting before line 1
 unfoldable pub answerOf : Outcome → LoopAnswer
-answerOf (refused code line) = record { code = code; line = line; count = 0; setting = job.start }
+answerOf (refused code line) = record { code = code; line = line; count = 0; setting = start }
 answerOf (accepted s l) = record { code = 0; line = 0; count = length l; setting = s }
 
 -- ---- The caller's memory

@@ -10,8 +10,9 @@ use Rattle.text.specs.Scan.{lines}
 use Rattle.job_lines.specs.Forms.{Form}
 use Rattle.job_refusals.specs.Limits.{lastLine}
 use Rattle.job_refusals.specs.Refusals.{refusal}
+use Rattle.job_setting.specs.Setting.{start, settingOn}
 use Rattle.job.specs.Job as job
-use Rattle.job.specs.declared.setting.Setting.{Setting}
+use Rattle.job_setting.specs.declared.Setting.{Setting}
 use Rattle.loop_reader.specs.Loop as loop
 use Rattle.loop_reader.specs.declared.LoopAnswer.{LoopAnswer}
 use Rattle.loop_reader.specs.declared.line.State.{State}
@@ -22,13 +23,13 @@ unfoldable pub firstUnlinked : ℕ → ℕ → ℕ → ℕ
 firstUnlinked unlinked line link = cond (eqb unlinked 0) (cond (eqb link 0) 0 line) unlinked
 
 unfoldable pub startState : State
-startState = record { code = 0; line = 1; station = record { from = 0; to = 0 }; unlinked = 0; setting = job.start }
+startState = record { code = 0; line = 1; station = record { from = 0; to = 0 }; unlinked = 0; setting = start }
 
 -- an accepted line that says x, after a station: the state after it and the memory
 pub record Keeps (x : Form) (station bytes : List ℕ) (s t : State) (old new : List ℕ) : Type 0 where
   pub code : t .code ≡ 0
   pub line : t .line ≡ s .line + 1
-  pub setting : t .setting ≡ job.settingOn x (s .setting)
+  pub setting : t .setting ≡ settingOn x (s .setting)
   pub next : partOf bytes (t .station) ≡ loop.stationAfter x
   pub unlinked : t .unlinked ≡ firstUnlinked (s .unlinked) (s .line) (loop.linkCode station x)
   pub memory : new ≡ loop.keptOn (s .line) x old
@@ -54,7 +55,7 @@ pub record Going (text old memory : List ℕ) (s : State) (before at : ℕ) : Ty
   pub low : 1 ≤ s .line
   pub line : s .line ≤ lastLine + 1
   pub verdicts : (t : Setting) → verdict (job.listingOf text) ≡ verdict (job.outcome (s .line) t (lines (drop at text)))
-  pub setting : loop.settingIn job.start (loop.formsOf text) ≡ loop.settingIn (s .setting) (loop.formsOf (drop at text))
+  pub setting : loop.settingIn start (loop.formsOf text) ≡ loop.settingIn (s .setting) (loop.formsOf (drop at text))
   pub unlinked : loop.unlinkedLine 1 [] (loop.formsOf text)
       ≡ cond (eqb (s .unlinked) 0)
       (loop.unlinkedLine (s .line) (partOf (take (at - before) (drop before text)) (s .station)) (loop.formsOf (drop at text)))

@@ -4,8 +4,9 @@ use mathlib.Core.Path.{_≡_}
 use mathlib.Core.List.{List, [], _∷_, _++_, map}
 use lib.ListN.{length, take}
 use Rattle.job_lines.specs.Forms.{Form}
+use Rattle.job_setting.specs.Setting.{start}
 use Rattle.job.specs.Job as job
-use Rattle.job.specs.declared.setting.Setting.{Setting}
+use Rattle.job_setting.specs.declared.Setting.{Setting}
 use Rattle.sums.specs.Sums.{Shot}
 use Rattle.read_back.specs.ReadBack.{Following}
 use Rattle.loop_reader.specs.Loop.{formsOf, settingIn, shotsIn, refused, accepted, loopOf, packed, memoryAfter}
@@ -15,7 +16,7 @@ pub record Theorems : Type 0 where
   pub refused-job : (text : List ℕ) (code line : ℕ) → job.jobOf text ≡ job.refused code line → loopOf text ≡ refused code line
   -- a job that is listed is accepted just where its shots follow each other, and refused with 23 where they do not
   pub followed : (text bytes : List ℕ) → job.jobOf text ≡ job.listed bytes → Following [] (formsOf text)
-      → loopOf text ≡ accepted (settingIn job.start (formsOf text)) (shotsIn (formsOf text))
+      → loopOf text ≡ accepted (settingIn start (formsOf text)) (shotsIn (formsOf text))
   pub not-followed : (text bytes : List ℕ) → job.jobOf text ≡ job.listed bytes → (Following [] (formsOf text) → ⊥)
       → (line : ℕ) × (loopOf text ≡ refused 23 line)
   -- "23 for the first shot that does not start where the last one ended, with its line in the job": z, where the shots before it follow each other

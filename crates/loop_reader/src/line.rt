@@ -1,10 +1,10 @@
 // One line of a loop: its setting, its link to the line before, its shot.
-use job::setting::Setting;
-use job::setting::first_setting;
-use job::setting::settle;
 use job_lines::Line;
 use job_lines::Shot;
 use job_lines::read_line;
+use job_setting::Setting;
+use job_setting::first_setting;
+use job_setting::settle;
 use misclosure::station_code;
 use text::field::Place;
 use text::field::part;
@@ -15,7 +15,7 @@ ghost use Rattle.text.specs.Fields.{partOf};
 ghost use Rattle.job_lines.specs.Forms.{shotIn, said, readLine};
 ghost use Rattle.job_refusals.specs.Limits.{lastLine};
 ghost use Rattle.job_refusals.specs.Refusals.{refusal};
-ghost use Rattle.job.specs.Job.{settingOn};
+ghost use Rattle.job_setting.specs.Setting.{settingOn};
 ghost use Rattle.loop_reader.specs.Private.{firstUnlinked, startState, Keeps, Takes};
 
 // The refusal code of a line, 0 while all are accepted; the number of the next line, or of that one; where the last station stands in the line before;

@@ -14,7 +14,7 @@ use Rattle.streams.proofs.Causes.{count-room}
 use Rattle.streams.proofs.Theorems.{sound-accepted, pairs-accepted}
 use Rattle.job_refusals.specs.Limits as limits
 use Rattle.job.specs.Private.{Steady}
-use Rattle.job.specs.declared.setting.Setting.{Setting}
+use Rattle.job_setting.specs.declared.Setting.{Setting}
 use Rattle.sums.specs.Sums.{Shot}
 use Rattle.loop_reader.specs.Loop as loop
 use Rattle.loop_reader.specs.declared.LoopAnswer.{LoopAnswer}

@@ -17,7 +17,7 @@ use Rattle.noise.specs.Noise.{pairOf, samples, blockCode, blockOf, blockHolds}
 use Rattle.noise.proofs.Laws.{block-accepted, length-samples}
 use Rattle.noise.proofs.Theorems.{pair-sizes}
 use Rattle.job_refusals.specs.Limits as limits
-use Rattle.job.specs.declared.setting.Setting.{Setting}
+use Rattle.job_setting.specs.declared.Setting.{Setting}
 use Rattle.sums.specs.Sums.{Shot, sine, cosine, total}
 use Rattle.sums.proofs.SumLaws.{total-joined}
 use Rattle.play.specs.Play.{ahead, noisyShot, playedShots}

@@ -6,7 +6,7 @@ use lib.ListN.{length, getD}
 use Rattle.streams.specs.declared.Generator.{Generator}
 use Rattle.listing_writer.specs.Rounding.{noisyDistance, noisyBearing}
 use Rattle.job_refusals.specs.Limits as limits
-use Rattle.job.specs.declared.setting.Setting.{Setting}
+use Rattle.job_setting.specs.declared.Setting.{Setting}
 use Rattle.sums.specs.Sums.{Shot, mostDistance}
 use Rattle.play.specs.declared.sum.Sums.{Sums}
 

@@ -1,7 +1,7 @@
 // Plays, one after another.
 use crate::sum::CHUNK_SAMPLES;
 use crate::sum::one_play;
-use job::setting::Setting;
+use job_setting::Setting;
 use misclosure::millimetres;
 use streams::Generator;
 ghost use mathlib.Core.Path.{_≡_};

@@ -14,7 +14,7 @@ use Rattle.streams.specs.Streams.{after}
 use Rattle.job.specs.Job as job
 use Rattle.job.specs.Private.{Steady}
 use Rattle.job.specs.Theorems as jobs
-use Rattle.job.specs.declared.setting.Setting.{Setting}
+use Rattle.job_setting.specs.declared.Setting.{Setting}
 use Rattle.listing_reader.specs.Entries.{rowOf}
 use Rattle.sums.specs.Sums.{Shot}
 use Rattle.sums.specs.Spans.{lowShots}

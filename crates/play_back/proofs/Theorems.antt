@@ -24,10 +24,11 @@ use Rattle.job_refusals.specs.Refusals.{refusal}
 use Rattle.job_refusals.proofs.Theorems as refusals
 use Rattle.job_refusals.proofs.Accepted.{sigma-within}
 use Rattle.listing_reader.specs.Entries.{headerOf}
+use Rattle.job_setting.specs.Setting.{start, settingOn}
 use Rattle.job.specs.Job as job
 use Rattle.job.specs.Private.{Steady}
 use Rattle.job.specs.Theorems as jobs
-use Rattle.job.specs.declared.setting.Setting.{Setting}
+use Rattle.job_setting.specs.declared.Setting.{Setting}
 use Rattle.job.proofs.Pairs.{seeds-sound}
 use Rattle.job.proofs.Theorems as jobLaws
 use Rattle.sums.specs.Sums.{Shot, sine, cosine, total, rounded}
@@ -136,7 +137,7 @@ module _ (g : Generator) (h : Sound g) (none : g .waiting ≡ 0) (d b : ℕ) (ys
   count = let (p, q) = rows-count ys after-seeds shots in omega (arith, p, q)
 
   listing : job.jobOf (jobs.textOf forms) ≡ job.listed (listings.textOf false (noisyRows after-seeds ys))
-  unfolding jobs.rows job.printed job.settingAfter listings.textOf headerOf after-seeds
+  unfolding jobs.rows job.printed settingOn job.settingAfter listings.textOf headerOf after-seeds
   listing =
       jobLaws.theorems .listed-job forms accepts (omega arith) (omega (arith, text-short forms 1 accepts, few))
       ∙ rw (count, ← rows-printed ys after-seeds shots)
@@ -179,13 +180,13 @@ module _ (plays j : ℕ) (more : j < plays) where
       (its-miss _ (moved-sound (j * n) g (prepared .sound)) (prepared .none) d b ys second (prepared .within) (omega (arith, room, least)) follow)
 
   Holds : List Form → Type 0
-  Holds xs = loop.unlinkedLine 1 [] xs ≡ 0 → Ready (loop.settingIn job.start xs) (loop.shotsIn xs)
-      → countCode (loop.settingIn job.start xs .generator) (plays * length (loop.shotsIn xs)) ≡ 0
-      → IsMisclosure (jobs.textOf xs) (loop.settingIn job.start xs) (loop.shotsIn xs) j
+  Holds xs = loop.unlinkedLine 1 [] xs ≡ 0 → Ready (loop.settingIn start xs) (loop.shotsIn xs)
+      → countCode (loop.settingIn start xs .generator) (plays * length (loop.shotsIn xs)) ≡ 0
+      → IsMisclosure (jobs.textOf xs) (loop.settingIn start xs) (loop.shotsIn xs) j
 
   held : (a0 a1 a2 b0 b1 b2 d b : ℕ) (ys : List Form) → jobs.Accepts 1 (seeds a0 a1 a2 b0 b1 b2 ∷ sigma d b ∷ ys)
       → Holds (seeds a0 a1 a2 b0 b1 b2 ∷ sigma d b ∷ ys)
-  unfolding Holds jobs.Accepts loop.unlinkedLine loop.linkCode loop.stationAfter loop.settingIn loop.shotsIn job.settingOn job.settingAfter
+  unfolding Holds jobs.Accepts loop.unlinkedLine loop.linkCode loop.stationAfter loop.settingIn loop.shotsIn settingOn
   held a0 a1 a2 b0 b1 b2 d b ys a linked prepared full =
       let x = seeds a0 a1 a2 b0 b1 b2 in
       let s : Setting = settingOf (seedOf a0 a1 a2 b0 b1 b2 .next) d b in
@@ -231,11 +232,11 @@ play-is text first runs j s l e more =
 
 -- of the lines of a job: its own seeds are those of its record
 Own : List Form → Type 0
-Own xs = reseeded (jobs.textOf xs) (loop.settingIn job.start xs .generator) ≡ jobs.textOf xs
+Own xs = reseeded (jobs.textOf xs) (loop.settingIn start xs .generator) ≡ jobs.textOf xs
 
 own-heads : (a0 a1 a2 b0 b1 b2 d b : ℕ) (ys : List Form) → jobs.Accepts 1 (seeds a0 a1 a2 b0 b1 b2 ∷ sigma d b ∷ ys)
     → Own (seeds a0 a1 a2 b0 b1 b2 ∷ sigma d b ∷ ys)
-unfolding Own jobs.Accepts jobs.textOf loop.settingIn job.settingOn job.settingAfter
+unfolding Own jobs.Accepts jobs.textOf loop.settingIn settingOn
 own-heads a0 a1 a2 b0 b1 b2 d b ys a =
     let s : Setting = settingOf (seedOf a0 a1 a2 b0 b1 b2 .next) d b in
     rw (setting-kept ys s (later-shots ys 3 (omega arith) (a .2 .2)), seeds-sound a0 a1 a2 b0 b1 b2 (a .1) .0, after-first (seeds a0 a1 a2 b0 b1 b2) (sigma d b ∷ ys) (a .0))

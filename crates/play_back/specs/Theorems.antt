@@ -11,7 +11,7 @@ use Rattle.text.specs.Theorems.{join}
 use Rattle.job_lines.specs.Forms.{seeds, printLine}
 use Rattle.streams.specs.declared.Generator.{Generator}
 use Rattle.job.specs.Job as job
-use Rattle.job.specs.declared.setting.Setting.{Setting}
+use Rattle.job_setting.specs.declared.Setting.{Setting}
 use Rattle.sums.specs.Sums.{Shot, sine, cosine, rounded}
 use Rattle.misclosure.specs.Misclosure.{listingOf, missOf}
 use Rattle.loop_reader.specs.Loop.{refused, accepted, loopOf}

@@ -23,9 +23,10 @@ use Rattle.noise.specs.Noise.{pairOf}
 use Rattle.noise.proofs.Theorems.{pair-sizes}
 use Rattle.job_refusals.specs.Limits as limits
 use Rattle.job_refusals.specs.Refusals as jobs
+use Rattle.job_setting.specs.Setting.{start}
 use Rattle.job.specs.Job as job
 use Rattle.job.specs.Private.{Steady}
-use Rattle.job.specs.declared.setting.Setting.{Setting}
+use Rattle.job_setting.specs.declared.Setting.{Setting}
 use Rattle.job_refusals.proofs.Refused.{or-false}
 use Rattle.job_refusals.proofs.Accepted.{Accepted, accepted-line}
 use Rattle.job.proofs.Bounds.{steps}
@@ -179,7 +180,7 @@ Either text bytes =
     ⊎ ((line : ℕ) × (listingOf false bytes ≡ refused 23 line) × (Following [] (map readLine (lines text)) → ⊥))
 
 either : (text bytes : List ℕ) → job.jobOf text ≡ job.listed bytes → Either text bytes
-unfolding job.jobOf job.listingOf job.start headerOf
+unfolding job.jobOf job.listingOf start headerOf
 either text bytes e = go (ltb limits.mostBytes (length text)) e
   where
     headed : (r : List ℕ) → bytes ≡ header ++ r → Back 1 [] r (map readLine (lines text)) → Either text bytes
@@ -189,9 +190,9 @@ either text bytes e = go (ltb limits.mostBytes (length text)) e
     go : (b : Bool) → cond b (job.refused 5 0) (job.listingOf text) ≡ job.listed bytes → Either text bytes
     go true e = absurd (jobLaws.refused-not-listed 5 0 bytes e)
     go false e =
-        let (r, o, same) = jobLaws.onto-listed header (job.outcome 1 job.start (lines text)) bytes e in
+        let (r, o, same) = jobLaws.onto-listed header (job.outcome 1 start (lines text)) bytes e in
         headed r same
-        (back-lines (lines text) 1 job.start [] r (omega arith) (record { sigma-distance = omega arith; sigma-bearing = omega arith }) o)
+        (back-lines (lines text) 1 start [] r (omega arith) (record { sigma-distance = omega arith; sigma-bearing = omega arith }) o)
 
 -- a listing is refused with one code, or accepted
 one-code : (o : Outcome) (m n j k : ℕ) → o ≡ refused m j → o ≡ refused n k → m ≡ n

@@ -4,7 +4,7 @@ use native.Mathlib.Omega.{arith}
 use mathlib.Core.Path.{_∙_}
 use lib.ListN.{length}
 use Rattle.text.proofs.Split.{end-within}
-use Rattle.job.proofs.Going.{ready, line-on, line-off, all-taken}
+use Rattle.job.proofs.Going.{going-start, ready, line-on, line-off, all-taken}
 use Rattle.job.specs.Private.{Going}
 use Rattle.job.proofs.walk.walk.Statement.{statement}
 use Rattle.job.proofs.walk.walk.Tie as tie
@@ -15,8 +15,11 @@ Inv-loop text out₀ s₀ at₀ out s at = Going text out₀ out s at
 abbrev μ-loop : tie.MeasureT-loop
 μ-loop text out₀ s₀ at₀ out s at = length text - at
 
+first-state-requires : tie.Need-first-state-requires Inv-loop μ-loop
+first-state-requires c κs = tt
+
 loop-holds : tie.Need-loop-holds Inv-loop μ-loop
-loop-holds c = c .before .before .pre
+loop-holds c = going-start _ _ _ (c .first-state .ensures)
 
 line-end-requires : tie.Need-line-end-requires Inv-loop μ-loop
 line-end-requires c κs = tt
@@ -31,7 +34,7 @@ part-take-line-end : tie.Need-part-take-line-end Inv-loop μ-loop
 part-take-line-end c = omega (
   arith,
   c .line-end .ensures,
-  end-within (c .before .before .before .before .before .args .text .now) (c .before .before .loop .at) (c .before .loop-test .taken) .1,
+  end-within (c .before .before .before .before .before .before .args .text .now) (c .before .before .loop .at) (c .before .loop-test .taken) .1,
 )
 
 take-line-requires : tie.Need-take-line-requires Inv-loop μ-loop
@@ -48,7 +51,7 @@ returns c =
 
 loop-less : tie.Need-loop-less Inv-loop μ-loop
 loop-less c =
-    let within = end-within (c .before .before .before .before .before .before .before .before .before .before .before .before .args .text .now) (c .before .before .before .before .before .before .before .before .before .loop .at) (c .before .before .before .before .before .before .before .before .loop-test .taken) in
+    let within = end-within (c .before .before .before .before .before .before .before .before .before .before .before .before .before .args .text .now) (c .before .before .before .before .before .before .before .before .before .loop .at) (c .before .before .before .before .before .before .before .before .loop-test .taken) in
     omega (arith, c .before .before .before .before .before .before .before .line-end .ensures, within .0, within .1)
 
 loop-again : tie.Need-loop-again Inv-loop μ-loop
@@ -64,4 +67,4 @@ returns-2 : tie.Need-returns-2 Inv-loop μ-loop
 returns-2 c = all-taken _ _ _ _ _ (c .before .loop .inv) (c .loop-test .left)
 
 pub walk-spec : {M : Type 1} → statement M
-walk-spec = tie.close (tie.spec Inv-loop μ-loop loop-holds line-end-requires sub-take-line part-take-line-start part-take-line-end take-line-requires same-length returns loop-less loop-again same-length-2 returns-2)
+walk-spec = tie.close (tie.spec Inv-loop μ-loop first-state-requires loop-holds line-end-requires sub-take-line part-take-line-start part-take-line-end take-line-requires same-length returns loop-less loop-again same-length-2 returns-2)

@@ -4,7 +4,7 @@ use mathlib.Core.Path.{refl}
 use borrow.Author.Needs.{needs}
 use Rattle.job_refusals.proofs.Refused.{none-6}
 use Rattle.job_refusals.proofs.Accepted.{line-few}
-use Rattle.job.specs.Job.{settingOn}
+use Rattle.job_setting.specs.Setting.{settingOn}
 use Rattle.loop_reader.specs.Loop.{stationAfter, linkCode, keptOn}
 use Rattle.loop_reader.proofs.Taking.{early-keeps}
 use Rattle.loop_reader.proofs.line.on_accepted.Statement.{statement}

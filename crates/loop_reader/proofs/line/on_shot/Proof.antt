@@ -3,7 +3,7 @@ use native.Mathlib.Omega.{arith}
 use mathlib.Core.Path.{refl, ap, ap₂, _∙_}
 use borrow.Author.Needs.{needs}
 use Rattle.misclosure.specs.Misclosure.{stationCode}
-use Rattle.job.specs.Job.{settingOn}
+use Rattle.job_setting.specs.Setting.{settingOn}
 use Rattle.loop_reader.specs.Loop.{stationAfter, linkCode, keptOn}
 use Rattle.loop_reader.specs.Private.{firstUnlinked}
 use Rattle.loop_reader.proofs.Taking.{shot-placed}

@@ -3,7 +3,7 @@ use mathlib.Core.Path.{refl, sym, ap, _∙_}
 use borrow.Author.Needs.{needs}
 use Rattle.job_refusals.specs.Refusals.{refusal}
 use Rattle.job_refusals.proofs.Refused.{names-apart}
-use Rattle.job.proofs.Names.{settled-code, settled-next, setting-apart}
+use Rattle.job_setting.proofs.Settling.{settled-code, settled-next, setting-apart}
 use Rattle.loop_reader.proofs.Taking.{taken-on, taken-off}
 use Rattle.loop_reader.proofs.line.take_line.Statement.{statement}
 use Rattle.loop_reader.proofs.line.take_line.Tie as tie

@@ -1,14 +1,14 @@
--- `job::setting::on_seeds` meets its contract.
+-- `job_setting::on_seeds` meets its contract.
 use Rattle.job_refusals.proofs.Accepted.{seeds-seeded}
-use Rattle.job.specs.Job.{settingAfter, settingOn}
-use Rattle.job.proofs.setting.on_seeds.Statement.{statement}
-use Rattle.job.proofs.setting.on_seeds.Tie as tie
+use Rattle.job_setting.specs.Setting.{settingOn}
+use Rattle.job_setting.proofs.on_seeds.Statement.{statement}
+use Rattle.job_setting.proofs.on_seeds.Tie as tie
 
 seeds-answer-requires : tie.Need-seeds-answer-requires
 seeds-answer-requires c κs = tt
 
 returns : tie.Need-returns
-unfolding settingAfter settingOn
+unfolding settingOn
 returns c =
     let (k, accepted) = c .before .before .pre in
     rw (c .before .seeds-answer .ensures, seeds-seeded k _ accepted)

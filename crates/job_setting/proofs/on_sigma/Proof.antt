@@ -1,10 +1,10 @@
--- `job::setting::on_sigma` meets its contract.
+-- `job_setting::on_sigma` meets its contract.
 use native.Mathlib.Omega.{arith}
 use mathlib.Core.Path.{refl}
-use Rattle.job.specs.Job.{settingAfter, settingOn}
+use Rattle.job_setting.specs.Setting.{settingOn}
 use Rattle.job_refusals.proofs.Accepted.{sigma-within}
-use Rattle.job.proofs.setting.on_sigma.Statement.{statement}
-use Rattle.job.proofs.setting.on_sigma.Tie as tie
+use Rattle.job_setting.proofs.on_sigma.Statement.{statement}
+use Rattle.job_setting.proofs.on_sigma.Tie as tie
 
 cast-t4 : tie.Need-cast-t4
 cast-t4 c = let (k, accepted) = c .before .before .pre in omega (arith, sigma-within k _ _ accepted)
@@ -13,7 +13,7 @@ cast-t5 : tie.Need-cast-t5
 cast-t5 c = let (k, accepted) = c .before .before .before .pre in omega (arith, sigma-within k _ _ accepted)
 
 returns : tie.Need-returns
-unfolding settingAfter settingOn
+unfolding settingOn
 returns c = refl
 
 pub on-sigma-spec : {M : Type 1} → statement M

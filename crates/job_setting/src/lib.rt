@@ -1,4 +1,4 @@
-// What a line of a job does to what its shots are printed with.
+// What a line of a job does to the setting of its shots: the generator record and the sigmas (document 01, "A job and its listing").
 use job_lines::Line;
 use job_lines::Seeds;
 use job_lines::Sigma;
@@ -10,7 +10,7 @@ ghost use mathlib.Core.Path.{_≡_};
 ghost use mathlib.Core.List.{[]};
 ghost use Rattle.job_lines.specs.Forms.{seedsIn, sigmaIn, said};
 ghost use Rattle.job_refusals.specs.Refusals.{refusal};
-ghost use Rattle.job.specs.Job.{start, settingOn, settledOf};
+ghost use Rattle.job_setting.specs.Setting.{start, settingOn, settledOf};
 
 // The generator record and the sigmas.
 pub struct Setting {

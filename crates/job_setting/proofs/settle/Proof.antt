@@ -1,8 +1,8 @@
--- `job::setting::settle` meets its contract.
+-- `job_setting::settle` meets its contract.
 use mathlib.Core.Path.{sym, _∙_}
-use Rattle.job.proofs.Names.{settled-on, settled-off}
-use Rattle.job.proofs.setting.settle.Statement.{statement}
-use Rattle.job.proofs.setting.settle.Tie as tie
+use Rattle.job_setting.proofs.Settling.{settled-on, settled-off}
+use Rattle.job_setting.proofs.settle.Statement.{statement}
+use Rattle.job_setting.proofs.settle.Tie as tie
 
 line-code-requires : tie.Need-line-code-requires
 line-code-requires c κs = tt

@@ -1,7 +1,7 @@
--- `job::setting::first_setting` meets its contract.
-use Rattle.job.specs.Job.{start}
-use Rattle.job.proofs.setting.first_setting.Statement.{statement}
-use Rattle.job.proofs.setting.first_setting.Tie as tie
+-- `job_setting::first_setting` meets its contract.
+use Rattle.job_setting.specs.Setting.{start}
+use Rattle.job_setting.proofs.first_setting.Statement.{statement}
+use Rattle.job_setting.proofs.first_setting.Tie as tie
 
 seed-requires : tie.Need-seed-requires
 seed-requires c κs = tt

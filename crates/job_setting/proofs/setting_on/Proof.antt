@@ -1,8 +1,8 @@
--- `job::setting::setting_on` meets its contract.
+-- `job_setting::setting_on` meets its contract.
 use borrow.Author.Needs.{needs}
-use Rattle.job.specs.Job.{settingOn}
-use Rattle.job.proofs.setting.setting_on.Statement.{statement}
-use Rattle.job.proofs.setting.setting_on.Tie as tie
+use Rattle.job_setting.specs.Setting.{settingOn}
+use Rattle.job_setting.proofs.setting_on.Statement.{statement}
+use Rattle.job_setting.proofs.setting_on.Tie as tie
 
 enum-known-x : tie.Need-enum-known-x
 enum-known-x c = search needs
