@@ -27,7 +27,7 @@ pub struct Sums {
     pub north: i64,
 }
 
-// A play half way: the record, and the sums so far.
+// After a play: the record, and the sums.
 pub struct Progress {
     pub next: Generator,
     pub sums: Sums,
