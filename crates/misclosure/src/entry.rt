@@ -12,7 +12,7 @@ use text::field::Place;
 use text::field::is_same;
 use text::field::part;
 ghost use mathlib.Core.Path.{_≡_};
-ghost use mathlib.Core.Bool.{false, cond};
+ghost use mathlib.Core.Bool.{cond};
 ghost use lib.Dec.{eqb};
 ghost use Rattle.text.specs.Fields.{partOf};
 ghost use Rattle.misclosure.specs.Misclosure.{stationCode};
@@ -104,29 +104,20 @@ fn moved(x: Span, s: State) -> State
     }
 }
 
-// A line that is refused.
-fn refused_line(code: u32, s: State) -> Taken
-    ensures { λ r. ⌜ r ≡ record { code = code; ended = false; next = s } ⌝ }
-{
-    Taken {
-        code,
-        ended: false,
-        next: s,
-    }
-}
-
 fn on_shot(previous: &[u8], line: &[u8], x: Span, s: State) -> Taken
     requires { ⌜ Small s ⌝ }
     ensures { λ r. ⌜ Takes (partOf (now (previous .entry)) (s .station)) (now (line .entry)) s (shotSaid (now (line .entry)) x) r ⌝ }
 {
-    let station = s.station;
-    let from = x.from;
     let limit = limit_code(s.line, x);
     let order = order_code(x);
-    let link = station_code(part(previous, station), part(line, from));
+    let link = station_code(part(previous, s.station), part(line, x.from));
     let code = first_of(limit, first_of(order, link));
     if code != 0 {
-        return refused_line(code, s);
+        return Taken {
+            code,
+            ended: false,
+            next: s,
+        };
     }
     let next = moved(x, s);
     Taken {
@@ -165,6 +156,10 @@ pub fn take_line(previous: &[u8], line: &[u8], between: bool, s: State) -> Taken
     match said {
         Entry::Shot(x) => on_shot(previous, line, x, s),
         Entry::End(count) => on_end(previous, line, count, s),
-        Entry::NoEntry => refused_line(6, s),
+        Entry::NoEntry => Taken {
+            code: 6,
+            ended: false,
+            next: s,
+        },
     }
 }

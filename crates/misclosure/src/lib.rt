@@ -47,15 +47,13 @@ pub fn misclosure(text: &[u8]) -> Miss
     ensures { λ r. ⌜ r ≡ missOf (listingOf false (now (text .entry))) ⌝ }
 {
     let sums = read_listing(text, false);
-    let east = sums.east;
-    let north = sums.north;
-    let easting = millimetres(east.low);
-    let northing = millimetres(north.low);
+    let easting = millimetres(sums.east.low);
+    let northing = millimetres(sums.north.low);
     Miss {
         code: sums.code,
         line: sums.line,
-        east: east.low,
-        north: north.low,
+        east: sums.east.low,
+        north: sums.north.low,
         easting,
         northing,
     }

@@ -22,7 +22,7 @@ use Rattle.sums.specs.Sums.{Shot, sine, cosine, total}
 use Rattle.sums.proofs.SumLaws.{total-joined}
 use Rattle.play.specs.Play.{ahead, noisyShot, playedShots}
 use Rattle.play.specs.Private.{settingOf, chunkShots, unpacked, unpackedAll, noisyShots, Near, largestSample, SmallSamples, most, Spare, Grown}
-use Rattle.play.specs.declared.sum.Progress.{Progress}
+use Rattle.play.specs.declared.sum.Sums.{Sums}
 
 -- ---- One block
 
@@ -48,19 +48,19 @@ module _ (g : Generator) (n : ℕ) (old : List ℤ) (e : length old ≡ 2 * n) (
   accepted : blockCode g (length old) ≡ 0
   accepted = block-accepted g (length old) .1 (rw halves a, omega (arith, e))
 
-  pub block-next : (r : RecordAnswer) → r ≡ blockOf g (length old) → r .next ≡ after n g
+  block-next : (r : RecordAnswer) → r ≡ blockOf g (length old) → r .next ≡ after n g
   unfolding blockOf
   block-next r h = ap (λ (x : RecordAnswer). x .next) h ∙ rw (accepted, halves)
 
-  pub block-samples : (new : List ℤ) → new ≡ blockHolds fractionBits g old → new ≡ samples fractionBits n g
+  block-samples : (new : List ℤ) → new ≡ blockHolds fractionBits g old → new ≡ samples fractionBits n g
   unfolding blockHolds
   block-samples new h = h ∙ rw (accepted, halves)
 
 -- what the sums of a block ask for, and are
-pub asked-samples : (n : ℕ) (g : Generator) (new : List ℤ) → new ≡ samples fractionBits n g → SmallSamples new × (length new ≡ 2 * n)
+asked-samples : (n : ℕ) (g : Generator) (new : List ℤ) → new ≡ samples fractionBits n g → SmallSamples new × (length new ≡ 2 * n)
 asked-samples n g new e = (rw e (small-samples n g), ap length e ∙ length-samples fractionBits n g)
 
-pub sum-is : (G : ℕ → ℤ) (zs : List ℕ) (d b : ℕ) (g : Generator) (new : List ℤ) (start z : ℤ) → new ≡ samples fractionBits (length zs) g
+sum-is : (G : ℕ → ℤ) (zs : List ℕ) (d b : ℕ) (g : Generator) (new : List ℤ) (start z : ℤ) → new ≡ samples fractionBits (length zs) g
     → z ≡ start +ℤ total G (noisyShots d b zs new) → z ≡ start +ℤ total G (playedShots (settingOf g d b) (unpackedAll zs))
 sum-is G zs d b g new start z e h = h ∙ ap (λ (l : List Shot). start +ℤ total G l) (ap (noisyShots d b zs) e ∙ played-are zs d b g)
 
@@ -86,10 +86,10 @@ part-is at end zs h =
     let p : at + (end - at) ≡ end = omega (arith, h) in
     sym (take-append-drop (end - at) (drop at zs)) ∙ ap (λ (r : List ℕ). take (end - at) (drop at zs) ++ r) (drop-drop (end - at) at zs ∙ ap (λ (n : ℕ). drop n zs) p)
 
-pub part-size : (at end : ℕ) (zs : List ℕ) → at ≤ end → end ≤ length zs → length (take (end - at) (drop at zs)) ≡ end - at
+part-size : (at end : ℕ) (zs : List ℕ) → at ≤ end → end ≤ length zs → length (take (end - at) (drop at zs)) ≡ end - at
 part-size at end zs h k = length-take-le (end - at) (drop at zs) (omega (arith, length-drop at zs, k))
 
-pub part-near : (at end : ℕ) (zs : List ℕ) → at ≤ end → end ≤ length zs → Near zs → Near (take (end - at) (drop at zs))
+part-near : (at end : ℕ) (zs : List ℕ) → at ≤ end → end ≤ length zs → Near zs → Near (take (end - at) (drop at zs))
 unfolding Near
 part-near at end zs h k near i more =
     let size = part-size at end zs h k in
@@ -128,52 +128,62 @@ pairs-left g at m n h a few =
 
 -- ---- The loop over the blocks
 
-pub record Playing (g : Generator) (d b : ℕ) (zs : List ℕ) (room : ℕ) (memory : List ℤ) (p : Progress) (at : ℕ) : Type 0 where
+pub record Playing (g : Generator) (d b : ℕ) (zs : List ℕ) (room : ℕ) (memory : List ℤ) (state : Generator) (sums : Sums) (at : ℕ) : Type 0 where
   pub within : at ≤ length zs
   pub kept : length memory ≡ room
-  pub state : p .next ≡ after at g
-  pub east : Reached sine g d b zs (p .next) (p .sums .east) at
-  pub north : Reached cosine g d b zs (p .next) (p .sums .north) at
+  pub now-at : state ≡ after at g
+  pub east : Reached sine g d b zs state (sums .east) at
+  pub north : Reached cosine g d b zs state (sums .north) at
 
-module _ {g : Generator} {d b : ℕ} {zs : List ℕ} {room : ℕ} {memory : List ℤ} {p : Progress} {at : ℕ} (r : Playing g d b zs room memory p at)
-    (end : ℕ) (more : at < length zs) (e : end ≡ min (length zs) (at + chunkShots)) where
+module _ {g : Generator} {d b : ℕ} {zs : List ℕ} {room : ℕ} {memory : List ℤ} {state : Generator} {sums : Sums} {at : ℕ}
+    (r : Playing g d b zs room memory state sums at) (end : ℕ) (more : at < length zs) (e : end ≡ min (length zs) (at + chunkShots)) where
   abbrev part : List ℕ
   part = take (end - at) (drop at zs)
 
   size : length part ≡ end - at
   size = part-size at end zs (omega (arith, e, more)) (omega (arith, e))
 
-  -- what a block asks for
-  pub spare-part : length zs ≤ limits.mostShots → Spare (p .sums) (length part)
+  -- what the sums of a block ask for
+  pub spare-part : length zs ≤ limits.mostShots → Spare sums (length part)
   spare-part few = rw size (record { east = omega (arith, r .east .small, few, e); north = omega (arith, r .north .small, few, e) })
 
   pub near-part : Near zs → Near part
   near-part near = part-near at end zs (omega (arith, e, more)) (omega (arith, e)) near
 
-  pub even-part : room ≡ 2 * chunkShots → length (take (2 * (end - at) - 0) memory) ≡ 2 * length part
-  even-part whole =
-      let same : 2 * (end - at) - 0 ≡ 2 * length part = omega (arith, size) in
-      length-take-le (2 * (end - at) - 0) memory (omega (arith, e, r .kept, whole)) ∙ same
+  -- its samples, in place of what the memory's first part held
+  abbrev old : List ℤ
+  old = take (2 * (end - at) - 0) memory
 
-  pub pairs-part : Sound g → pairsCode g (length zs) ≡ 0 → pairsCode (p .next) (length part) ≡ 0
-  pairs-part sound pairs = rw (r .state, size) (pairs-left g at (end - at) (length zs) sound pairs (omega (arith, e, more)))
+  module _ (sound : Sound g) (whole : room ≡ 2 * chunkShots) (pairs : pairsCode g (length zs) ≡ 0) (new : List ℤ) (h : new ≡ blockHolds fractionBits state old) where
+    even-part : length old ≡ 2 * length part
+    even-part =
+        let same : 2 * (end - at) - 0 ≡ 2 * length part = omega (arith, size) in
+        length-take-le (2 * (end - at) - 0) memory (omega (arith, e, r .kept, whole)) ∙ same
 
-  -- one block more
-  pub block-on : (memory′ : List ℤ) (q : Progress) → length memory′ ≡ length memory → q .next ≡ after (length part) (p .next)
-      → q .sums .east ≡ p .sums .east +ℤ total sine (playedShots (settingOf (p .next) d b) (unpackedAll part))
-      → q .sums .north ≡ p .sums .north +ℤ total cosine (playedShots (settingOf (p .next) d b) (unpackedAll part))
-      → Grown (p .sums) (q .sums) (length part) → Playing g d b zs room memory′ q end
-  block-on memory′ q same next east north grown =
-      let n : q .next ≡ after (end - at) (p .next) = next ∙ ap (λ (k : ℕ). after k (p .next)) size in
-      let on : at + (end - at) ≡ end = omega (arith, e, more) in
-      let ge : natAbs (q .sums .east) ≤ natAbs (p .sums .east) + (end - at) * most = omega (arith, grown .east, size) in
-      let gn : natAbs (q .sums .north) ≤ natAbs (p .sums .north) + (end - at) * most = omega (arith, grown .north, size) in
-      let low : at ≤ end = omega (arith, e, more) in
-      let high : end ≤ length zs = omega (arith, e) in
-      record {
-        within = high;
-        kept = same ∙ r .kept;
-        state = n ∙ ap (after (end - at)) (r .state) ∙ sym (after-add at (end - at) g) ∙ ap (λ (k : ℕ). after k g) on;
-        east = one-block sine g d b zs (p .next) (q .next) _ _ at end low high (r .east) n east ge;
-        north = one-block cosine g d b zs (p .next) (q .next) _ _ at end low high (r .north) n north gn;
-      }
+    pairs-part : pairsCode state (length part) ≡ 0
+    pairs-part = rw (r .now-at, size) (pairs-left g at (end - at) (length zs) sound pairs (omega (arith, e, more)))
+
+    new-is : new ≡ samples fractionBits (length part) state
+    new-is = block-samples state (length part) old even-part pairs-part new h
+
+    pub asked-part : SmallSamples new × (length new ≡ 2 * length part)
+    asked-part = asked-samples (length part) state new new-is
+
+    -- one block more
+    pub block-on : (memory′ : List ℤ) (drawn : RecordAnswer) (sums′ : Sums) → length memory′ ≡ length memory → drawn ≡ blockOf state (length old)
+        → sums′ .east ≡ sums .east +ℤ total sine (noisyShots d b part new) → sums′ .north ≡ sums .north +ℤ total cosine (noisyShots d b part new)
+        → Grown sums sums′ (length part) → Playing g d b zs room memory′ (drawn .next) sums′ end
+    block-on memory′ drawn sums′ same j east north grown =
+        let n : drawn .next ≡ after (end - at) state = block-next state (length part) old even-part pairs-part drawn j ∙ ap (λ (k : ℕ). after k state) size in
+        let on : at + (end - at) ≡ end = omega (arith, e, more) in
+        let ge : natAbs (sums′ .east) ≤ natAbs (sums .east) + (end - at) * most = omega (arith, grown .east, size) in
+        let gn : natAbs (sums′ .north) ≤ natAbs (sums .north) + (end - at) * most = omega (arith, grown .north, size) in
+        let low : at ≤ end = omega (arith, e, more) in
+        let high : end ≤ length zs = omega (arith, e) in
+        record {
+          within = high;
+          kept = same ∙ r .kept;
+          now-at = n ∙ ap (after (end - at)) (r .now-at) ∙ sym (after-add at (end - at) g) ∙ ap (λ (k : ℕ). after k g) on;
+          east = one-block sine g d b zs state (drawn .next) _ _ at end low high (r .east) n (sum-is sine part d b state new (sums .east) (sums′ .east) new-is east) ge;
+          north = one-block cosine g d b zs state (drawn .next) _ _ at end low high (r .north) n (sum-is cosine part d b state new (sums .north) (sums′ .north) new-is north) gn;
+        }

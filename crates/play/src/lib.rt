@@ -38,8 +38,7 @@ fn played(text: &[u8], first: u64, shots: &mut [u64], misses: &mut [[i64; 2]]) -
             line: 0,
         };
     }
-    let setting = read.setting;
-    plays(setting, first, &shots[0..n], misses);
+    plays(read.setting, first, &shots[0..n], misses);
     PlayAnswer { code: 0, line: 0 }
 }
 

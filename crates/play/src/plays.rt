@@ -34,7 +34,7 @@ pub fn room_code(first: u64, runs: u64, shots: u64) -> u32
 
 // As many plays as there are misses, from a record on.
 fn each_play(
-    g: Generator,
+    mut g: Generator,
     distance: u32,
     bearing: u32,
     shots: &[u64],
@@ -45,14 +45,12 @@ fn each_play(
     requires { ⌜ (length (now samples) ≡ 2 * chunkShots) × (pairsCode g (length (now misses) * length (now shots)) ≡ 0) ⌝ }
     ensures { λ _. ⌜ now (misses .exit) ≡ missesFrom 0 (length (now (misses .entry))) (settingOf g distance bearing) (unpackedAll (now (shots .entry))) ⌝ }
 {
-    let mut state = g;
     let mut i = 0;
     while i < misses.len() {
-        let p = one_play(state, distance, bearing, shots, samples);
-        state = p.next;
-        let sums = p.sums;
-        let east = millimetres(sums.east);
-        let north = millimetres(sums.north);
+        let p = one_play(g, distance, bearing, shots, samples);
+        g = p.next;
+        let east = millimetres(p.sums.east);
+        let north = millimetres(p.sums.north);
         misses[i] = [east, north];
         i += 1;
     }
@@ -64,10 +62,15 @@ pub fn plays(s: Setting, first: u64, shots: &[u64], misses: &mut [[i64; 2]])
     requires { ⌜ pairsCode (s .generator) ((first + length (now misses)) * length (now shots)) ≡ 0 ⌝ }
     ensures { λ _. ⌜ now (misses .exit) ≡ missesFrom first (length (now (misses .entry))) s (unpackedAll (now (shots .entry))) ⌝ }
 {
-    let generator = s.generator;
     let n = shots.len() as u64;
-    let skipped = generator.skip(first * n);
-    let start = skipped.next;
+    let skipped = s.generator.skip(first * n);
     let mut samples = [0i16; CHUNK_SAMPLES];
-    each_play(start, s.distance, s.bearing, shots, &mut samples, misses)
+    each_play(
+        skipped.next,
+        s.distance,
+        s.bearing,
+        shots,
+        &mut samples,
+        misses,
+    )
 }

@@ -27,7 +27,7 @@ pub struct Sums {
     pub north: i64,
 }
 
-// A play half way: the record, and the sums so far.
+// After a play: the record, and the sums.
 pub struct Progress {
     pub next: Generator,
     pub sums: Sums,
@@ -72,23 +72,6 @@ fn summed(start: Sums, distance: u32, bearing: u32, shots: &[u64], samples: &[i1
     s
 }
 
-// A block's shots: their pairs are drawn into the caller's memory.
-fn chunk(p: Progress, distance: u32, bearing: u32, shots: &[u64], samples: &mut [i16]) -> Progress
-    requires { ⌜ Spare (p .sums) (length (now shots)) × Steady distance bearing × Near (now shots) ⌝ }
-    requires { ⌜ (length (now samples) ≡ 2 * length (now shots)) × (pairsCode (p .next) (length (now shots)) ≡ 0) ⌝ }
-    ensures { λ r. ⌜ (r .next ≡ after (length (now (shots .entry))) (p .next))
-        × (r .sums .east ≡ p .sums .east +ℤ total sine (playedShots (settingOf (p .next) distance bearing) (unpackedAll (now (shots .entry)))))
-        × (r .sums .north ≡ p .sums .north +ℤ total cosine (playedShots (settingOf (p .next) distance bearing) (unpackedAll (now (shots .entry)))))
-        × Grown (p .sums) (r .sums) (length (now (shots .entry))) ⌝ }
-{
-    let g = p.next;
-    let start = p.sums;
-    let drawn = block(g, samples);
-    let next = drawn.next;
-    let sums = summed(start, distance, bearing, shots, samples);
-    Progress { next, sums }
-}
-
 // Where the block that begins at a shot of n ends.
 fn chunk_end(at: usize, n: usize) -> usize
     requires { ⌜ at ≤ n ⌝ }
@@ -103,7 +86,7 @@ fn chunk_end(at: usize, n: usize) -> usize
 
 // One play from a record, block by block.
 pub fn one_play(
-    g: Generator,
+    mut g: Generator,
     distance: u32,
     bearing: u32,
     shots: &[u64],
@@ -116,22 +99,16 @@ pub fn one_play(
         × (r .sums .north ≡ total cosine (playedShots (settingOf g distance bearing) (unpackedAll (now (shots .entry)))))
         × Spare (r .sums) 0 ⌝ }
 {
-    let mut p = Progress {
-        next: g,
-        sums: Sums { east: 0, north: 0 },
-    };
+    let mut sums = Sums { east: 0, north: 0 };
     let mut at = 0;
     let n = shots.len();
     while at < n {
         let end = chunk_end(at, n);
-        p = chunk(
-            p,
-            distance,
-            bearing,
-            &shots[at..end],
-            &mut samples[0..2 * (end - at)],
-        );
+        let part = &mut samples[0..2 * (end - at)];
+        let drawn = block(g, part);
+        g = drawn.next;
+        sums = summed(sums, distance, bearing, &shots[at..end], part);
         at = end;
     }
-    p
+    Progress { next: g, sums }
 }

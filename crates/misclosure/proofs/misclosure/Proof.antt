@@ -14,8 +14,8 @@ millimetres-requires-2 c κs = tt
 
 returns : tie.Need-returns
 returns c =
-    let read = c .before .before .before .before .before .before .before .before .read-listing in
-    miss-is _ (read .result) _ _ (read .ensures .0) (read .ensures .1) (c .before .before .before .before .millimetres .ensures) (c .before .before .millimetres2 .ensures)
+    let read = c .before .before .before .before .before .read-listing in
+    miss-is _ (read .result) _ _ (read .ensures .0) (read .ensures .1) (c .before .before .before .millimetres .ensures) (c .before .millimetres2 .ensures)
 
 pub misclosure-spec : {M : Type 1} → statement M
 misclosure-spec = tie.close (tie.spec read-listing-requires millimetres-requires millimetres-requires-2 returns)

@@ -25,27 +25,23 @@ first-of-requires c κs = tt
 first-of-requires-2 : tie.Need-first-of-requires-2
 first-of-requires-2 c κs = tt
 
-refused-line-requires : tie.Need-refused-line-requires
-refused-line-requires c κs = tt
-
 returns : tie.Need-returns
 returns c =
-    let a = c .before .before .before .before .before .before .before .before .before .before .before .before .before .args in
-    rw (c .refused-line .ensures)
-    (takes-refused (partOf (a .previous .now) (a .s .station)) (a .line .now) (a .s) (a .x) (a .s) (c .before .before .first-of2 .ensures) (c .before .before .before .first-of .ensures)
-    (c .before .before .before .before .before .before .before .before .limit-code .ensures) (c .before .before .before .before .before .before .before .order-code .ensures) (c .before .before .before .before .station-code .ensures) (c .before .before .before .before .before .before .part .ensures) (c .before .before .before .before .before .part2 .ensures) (c .before .if1 .taken))
+    let a = c .before .before .before .before .before .before .before .before .before .before .args in
+    takes-refused (partOf (a .previous .now) (a .s .station)) (a .line .now) (a .s) (a .x) (a .s) (c .before .first-of2 .ensures) (c .before .before .first-of .ensures)
+    (c .before .before .before .before .before .before .before .limit-code .ensures) (c .before .before .before .before .before .before .order-code .ensures) (c .before .before .before .station-code .ensures) (c .before .before .before .before .before .part .ensures) (c .before .before .before .before .part2 .ensures) (c .if1 .taken)
 
 moved-requires : tie.Need-moved-requires
 moved-requires c κs =
-    let a = c .before .before .before .before .before .before .before .before .before .before .before .before .args in (
-      c .before .before .before .before .before .before .before .before .before .before .before .before .pre,
+    let a = c .before .before .before .before .before .before .before .before .before .before .args in (
+      c .before .before .before .before .before .before .before .before .before .before .pre,
       shot-limited (partOf (a .previous .now) (a .s .station)) (a .line .now) (a .s) (a .x) (a .s) (c .before .first-of2 .ensures) (c .before .before .first-of .ensures)
           (c .before .before .before .before .before .before .before .limit-code .ensures) (c .before .before .before .before .before .before .order-code .ensures) (c .before .before .before .station-code .ensures) (c .before .before .before .before .before .part .ensures) (c .before .before .before .before .part2 .ensures) (c .if1 .left),
     )
 
 returns-2 : tie.Need-returns-2
 returns-2 c =
-    let a = c .before .before .before .before .before .before .before .before .before .before .before .before .before .args in
+    let a = c .before .before .before .before .before .before .before .before .before .before .before .args in
     takes-shot (partOf (a .previous .now) (a .s .station)) (a .line .now) (a .s) (a .x) _ (c .before .before .first-of2 .ensures) (c .before .before .before .first-of .ensures)
     (c .before .before .before .before .before .before .before .before .limit-code .ensures) (c .before .before .before .before .before .before .before .order-code .ensures) (c .before .before .before .before .station-code .ensures) (c .before .before .before .before .before .before .part .ensures) (c .before .before .before .before .before .part2 .ensures) (c .before .if1 .left)
     (c .moved .ensures)
@@ -61,7 +57,6 @@ on-shot-spec =
     station-code-requires
     first-of-requires
     first-of-requires-2
-    refused-line-requires
     returns
     moved-requires
     returns-2)

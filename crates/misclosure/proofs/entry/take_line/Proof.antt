@@ -34,14 +34,11 @@ returns-2 c =
     let e = sym (c .before .before .before .before .read-entry .ensures) ∙ ap (tells (c .before .before .before .before .before .before .before .args .line .now)) (c .before .before .said2 .given .1) in
     rw e (c .on-end .ensures)
 
-refused-line-requires : tie.Need-refused-line-requires
-refused-line-requires c κs = tt
-
 returns-3 : tie.Need-returns-3
 returns-3 c =
-    let a = c .before .before .before .before .before .before .args in
-    let e = sym (c .before .before .before .read-entry .ensures) ∙ ap (tells (a .line .now)) (c .before .enum-told .given .1) in
-    rw (c .refused-line .ensures, e) (takes-neither _ _ (a .s) (a .s))
+    let a = c .before .before .before .before .before .args in
+    let e = sym (c .before .before .read-entry .ensures) ∙ ap (tells (a .line .now)) (c .enum-told .given .1) in
+    rw e (takes-neither _ _ (a .s) (a .s))
 
 pub take-line-spec : {M : Type 1} → statement M
 take-line-spec =
@@ -53,7 +50,6 @@ take-line-spec =
     enum-known-said-2
     on-end-requires
     enum-told
-    refused-line-requires
     returns
     returns-2
     returns-3)
