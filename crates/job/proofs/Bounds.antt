@@ -35,7 +35,7 @@ use Rattle.job_setting.specs.declared.Setting.{Setting}
 use Rattle.job.specs.declared.state.State.{State}
 use Rattle.job_refusals.proofs.Accepted.{accepted-line, line-few, sigma-within, shot-within}
 use Rattle.listing_writer.proofs.Rows.{row-length, end-length}
-use Rattle.job.proofs.Names.{printed-again, names-short}
+use Rattle.job.proofs.Names.{names-short}
 
 -- the most that 16 bits hold in size, and the noise that they give
 abbrev mostSize : ℕ
@@ -109,15 +109,8 @@ steps k l s steady h = go (readLine l) refl h (line-few k (readLine l) h)
     go noForm e a few = absurd (true≢false (accepted-line k noForm a .formed))
 
 -- an accepted line of a job half way prints no more than a row
-pub printing : (s : State) (l : List ℕ) (t : Setting) → Ready s → refusal (s .line) (readLine l) ≡ 0 → t ≡ settingOn (readLine l) (s .setting)
-    → Printing (s .line) (s .used) t (readLine l)
-printing s l t r e f =
-    rw f
-    (record {
-      accepted = e;
-      row = rw (printed-again (readLine l) (s .setting)) (steps (s .line) l (s .setting) (r .steady) e .row);
-      short = r .short;
-    })
+pub printing : (s : State) (l : List ℕ) → Ready s → refusal (s .line) (readLine l) ≡ 0 → Printing (s .line) (s .used) (s .setting) (readLine l)
+printing s l r e = record { accepted = e; row = steps (s .line) l (s .setting) (r .steady) e .row; short = r .short }
 
 -- the row of a shot with its noise; the samples as 16 bits hold them
 pub noise-on : (line : List ℕ) (x : ShotFields) (s : Setting) (pair : PairAnswer) (mm step : ℕ) → pair ≡ pairOf fractionBits (s .generator)

@@ -25,10 +25,10 @@ use Rattle.job.specs.declared.state.State.{State}
 use Rattle.job_lines.proofs.RoundTrip.{printed-read, shot-not-none}
 
 -- a line that prints nothing leaves the buffer and the length of the listing as they were
-pub state-same : (k used : ℕ) (s : Setting) (x : Form) (out : List ℕ) (r : State) → printed x s ≡ [] → settingAfter x s ≡ s → r ≡ nextState k used s
+pub state-same : (k used : ℕ) (s t : Setting) (x : Form) (out : List ℕ) (r : State) → printed x s ≡ [] → t ≡ settingAfter x s → r ≡ nextState k used t
     → (r ≡ acceptedState k used s x) × (out ≡ acceptedBuffer used s x out)
 unfolding acceptedState acceptedBuffer
-state-same k used s x out r e h f = rw (e, add-zero used, h) (f, written-none out used .1)
+state-same k used s t x out r e h f = rw (e, add-zero used, ← h) (f, written-none out used .1)
 
 -- and so does every line but a shot; the tags are those of the enum's cases
 pub unprinted : (text : List ℕ) (x : Line) (s : Setting) → OneOf (0 ∷ 1 ∷ 3 ∷ []) (tagOf the-type x)
@@ -41,42 +41,17 @@ unprinted text (Shot x) s (inr (inl e)) = absurd (omega (arith, e))
 unprinted text (Shot x) s (inr (inr e)) = absurd (omega (arith, e))
 unprinted text NoForm s h = (refl, refl)
 
--- once a line has set what it sets, it sets, prints and leaves the same
-twice : (x : Form) (s : Setting) → settingOn x (settingOn x s) ≡ settingOn x s
-unfolding settingOn
-twice (seeds a0 a1 a2 b0 b1 b2) s = refl
-twice (sigma d b) s = refl
-twice (shot from to d b) s = refl
-twice noForm s = refl
-
-pub set-again : (x : Form) (s t : Setting) → t ≡ settingOn x s → settingOn x t ≡ t
-set-again x s t e = rw e (twice x s)
-
-pub printed-again : (x : Form) (s : Setting) → printed x (settingOn x s) ≡ printed x s
-unfolding settingOn printed
-printed-again (seeds a0 a1 a2 b0 b1 b2) s = refl
-printed-again (sigma d b) s = refl
-printed-again (shot from to d b) s = refl
-printed-again noForm s = refl
-
-after-again : (x : Form) (s : Setting) → settingAfter x (settingOn x s) ≡ settingAfter x s
-unfolding settingOn settingAfter
-after-again (seeds a0 a1 a2 b0 b1 b2) s = refl
-after-again (sigma d b) s = refl
-after-again (shot from to d b) s = refl
-after-again noForm s = refl
-
 -- a line, accepted or refused with the code n
 module _ (s : State) (x : Form) (out : List ℕ) where
-  pub taken-on : (y : Form) (r : State) (out′ : List ℕ) (t : Setting) → y ≡ x → refusal (s .line) x ≡ 0 → t ≡ settingOn x (s .setting)
-      → (r ≡ acceptedState (s .line) (s .used) t y) × (out′ ≡ acceptedBuffer (s .used) t y out) → (r ≡ takenOf s x) × (out′ ≡ bufferOf s x out)
-  unfolding takenOf bufferOf acceptedState acceptedBuffer
-  taken-on y r out′ t f z e h = rw z (rw (f, e, printed-again x (s .setting), after-again x (s .setting)) at h)
-
-  pub taken-off : (n : ℕ) (t : Setting) → n ≡ refusal (s .line) x → (n ≡ 0 → ⊥) → t ≡ s .setting
-      → (record { code = n; line = s .line; used = s .used; setting = t } ≡ takenOf s x) × (out ≡ bufferOf s x out)
+  pub taken-on : (y : Form) (r : State) (out′ : List ℕ) → y ≡ x → refusal (s .line) x ≡ 0
+      → (r ≡ acceptedState (s .line) (s .used) (s .setting) y) × (out′ ≡ acceptedBuffer (s .used) (s .setting) y out)
+      → (r ≡ takenOf s x) × (out′ ≡ bufferOf s x out)
   unfolding takenOf bufferOf
-  taken-off n t e z h = rw (← e, ne-eqb n 0 z, h) (refl, refl)
+  taken-on y r out′ f z h = rw z (rw f at h)
+
+  pub taken-off : (n : ℕ) → n ≡ refusal (s .line) x → (n ≡ 0 → ⊥) → (refusedState s n ≡ takenOf s x) × (out ≡ bufferOf s x out)
+  unfolding takenOf bufferOf
+  taken-off n e z = rw (← e, ne-eqb n 0 z) (refl, refl)
 
 -- the names of a shot that was read
 pub names-short : (l from to : List ℕ) (d b : ℕ) → readLine l ≡ shot from to d b → (length from ≤ nameLength) × (length to ≤ nameLength)

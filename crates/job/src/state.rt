@@ -61,7 +61,7 @@ fn on_shot(
     next_state(number, after, next)
 }
 
-// One line of a job: the state after it, and as much of its row in the buffer as fits. A refused line leaves the setting.
+// One line of a job: the state after it, and as much of its row in the buffer as fits. Refused lines and shots do not set anything.
 pub fn take_line(line: &[u8], s: State, out: &mut [u8]) -> State
     requires { ⌜ Ready s ⌝ }
     ensures { λ r. ⌜ (r ≡ takenOf s (readLine (now (line .entry))))
@@ -70,17 +70,16 @@ pub fn take_line(line: &[u8], s: State, out: &mut [u8]) -> State
     let x = read_line(line);
     let setting = s.setting;
     let settled = settle(x, s.line, setting);
-    let next = settled.next;
     if settled.code != 0 {
         return State {
             code: settled.code,
             line: s.line,
             used: s.used,
-            setting: next,
+            setting,
         };
     }
     if let Line::Shot(shot) = x {
-        return on_shot(line, shot, s.line, s.used, next, out);
+        return on_shot(line, shot, s.line, s.used, setting, out);
     }
-    next_state(s.line, s.used, next)
+    next_state(s.line, s.used, settled.next)
 }

@@ -30,10 +30,6 @@ module _ (k : ℕ) (x : Form) (s : Setting) (r : Settled) (e : r ≡ settledOf k
   unfolding settledOf
   settled-next z = ap (λ (t : Settled). t .next) e ∙ rw (← settled-code, z)
 
-  pub settled-kept : (r .code ≡ 0 → ⊥) → r .next ≡ s
-  unfolding settledOf
-  settled-kept z = ap (λ (t : Settled). t .next) e ∙ rw (← settled-code, ne-eqb (r .code) 0 z)
-
 -- no name in it matters
 pub setting-apart : (text : List ℕ) (x : Line) (s : Setting) → settingOn (said [] x) s ≡ settingOn (said text x) s
 unfolding settingOn
