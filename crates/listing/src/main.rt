@@ -1,6 +1,6 @@
 // Lists the job on standard input: its listing, or why it is refused and in which line.
 use input::read_all;
-use job::print_job;
+use job_printer::print_job;
 use job_refusals::limits::LISTING_ROOM;
 use job_refusals::limits::MOST_BYTES;
 use libc::STDIN_FILENO;

@@ -3,12 +3,12 @@ use native.Mathlib.Omega.{arith}
 use lib.ListN.{length}
 use Rattle.buffer.proofs.Writing.{puts-within}
 use mathlib.Core.Path.{sym, ap, _∙_}
 use Rattle.job.specs.Job.{jobOf, outputOf}
 use Rattle.job.specs.declared.JobAnswer.{JobAnswer}
 use Rattle.job.proofs.Answered.{job-told, printed-listed, printed-refused}
 use borrow.Author.Needs.{needs}
-use Rattle.job.proofs.print_job.Statement.{statement}
-use Rattle.job.proofs.print_job.Tie as tie
+use Rattle.job_printer.proofs.print_job.Statement.{statement}
+use Rattle.job_printer.proofs.print_job.Tie as tie
 
 list-requires : tie.Need-list-requires
 list-requires c κs = search needs
