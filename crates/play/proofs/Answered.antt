@@ -22,7 +22,7 @@ use Rattle.loop_reader.proofs.Theorems.{theorems, answer-accepted, answer-refus
 use Rattle.play.specs.Play.{roomFor, playOf, answerOf, missesFrom, missesAfter}
 use Rattle.play.specs.Private.{unpackedAll, Near}
 use Rattle.play.specs.declared.PlayAnswer.{PlayAnswer}
-use Rattle.play.proofs.Room.{roomOf}
+use Rattle.play_room.specs.Room.{roomOf}
 
 -- shots as they were kept, read back
 pub unpacked-are : (l : List Shot) → Within l → unpackedAll (map loop.packed l) ≡ l

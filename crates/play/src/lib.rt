@@ -3,9 +3,9 @@ mod plays;
 mod sum;
 
 use crate::plays::plays;
-use crate::plays::room_code;
 use job_refusals::limits::MOST_SHOTS;
 use loop_reader::read_loop;
+use play_room::room_code;
 ghost use mathlib.Core.Path.{_≡_};
 ghost use lib.ListN.{length};
 ghost use Rattle.job_refusals.specs.Limits.{mostShots};

@@ -5,32 +5,13 @@ use job_setting::Setting;
 use misclosure::millimetres;
 use streams::Generator;
 ghost use mathlib.Core.Path.{_≡_};
-ghost use mathlib.Core.Bool.{cond};
 ghost use Prim.Native.Nat.{_+_, _*_, _≤_};
-ghost use lib.Dec.{leb};
 ghost use lib.ListN.{length};
-ghost use Rattle.streams.specs.Streams.{mostCount, pairsCode};
+ghost use Rattle.streams.specs.Streams.{pairsCode};
 ghost use Rattle.job_refusals.specs.Limits.{mostShots};
 ghost use Rattle.job.specs.Private.{Steady};
 ghost use Rattle.play.specs.Play.{missesFrom};
 ghost use Rattle.play.specs.Private.{chunkShots, unpackedAll, settingOf, Near};
-
-// 13 where the pairs of all plays up to the last would pass the most that a record counts.
-pub fn room_code(first: u64, runs: u64, shots: u64) -> u32
-    ensures { λ r. ⌜ r ≡ cond (leb ((first + runs) * shots) mostCount) 0 13 ⌝ }
-{
-    if shots == 0 {
-        return 0;
-    }
-    let most = u64::MAX / shots;
-    if most < first {
-        return 13;
-    }
-    if most - first < runs {
-        return 13;
-    }
-    0
-}
 
 // As many plays as there are misses, from a record on.
 fn each_play(

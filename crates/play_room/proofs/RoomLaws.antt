@@ -1,15 +1,11 @@
 -- Whether the count has room for the pairs of all plays.
-use Prim.Native.Nat.{ℕ, _+_, _*_, _/_, _≤_, _<_}
+use Prim.Native.Nat.{ℕ, _*_, _/_, _≤_, _<_}
 use native.Mathlib.Nat.{mul-zero, mul-le-mul-right, div-mul-le-self, div-lt-iff-lt-mul}
 use native.Mathlib.Omega.{arith}
 use mathlib.Core.Path.{_≡_, ap, _∙_}
-use mathlib.Core.Bool.{cond}
-use lib.Dec.{leb}
 use borrow.Author.Tests.{le-leb, lt-leb}
 use Rattle.streams.specs.Streams.{mostCount}
-
-abbrev pub roomOf : ℕ → ℕ → ℕ
-roomOf plays shots = cond (leb (plays * shots) mostCount) 0 13
+use Rattle.play_room.specs.Room.{roomOf}
 
 pub no-shots : (plays shots : ℕ) → shots ≡ 0 → 0 ≡ roomOf plays shots
 no-shots plays shots e =

@@ -1,10 +1,10 @@
--- `plays::room_code` meets its contract.
+-- `room_code` meets its contract.
 use Prim.Native.Nat.{_+_}
 use native.Mathlib.Omega.{arith}
 use borrow.Author.Needs.{needs}
-use Rattle.play.proofs.Room.{no-shots, no-room, has-room}
-use Rattle.play.proofs.plays.room_code.Statement.{statement}
-use Rattle.play.proofs.plays.room_code.Tie as tie
+use Rattle.play_room.proofs.RoomLaws.{no-shots, no-room, has-room}
+use Rattle.play_room.proofs.room_code.Statement.{statement}
+use Rattle.play_room.proofs.room_code.Tie as tie
 
 returns : tie.Need-returns
 returns c = no-shots _ _ (c .if1 .taken)
