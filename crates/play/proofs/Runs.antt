@@ -49,11 +49,9 @@ misses-joined (suc n) m j s l =
 -- ---- The loop over the plays
 
 -- before play i: the record is i plays on, and the misses of those before are written
-pub record Written (g : Generator) (d b : ℕ) (zs : List ℕ) (old : List (List ℤ)) (room : ℕ) (memory : List ℤ) (misses : List (List ℤ))
-    (state : Generator) (i : ℕ) : Type 0 where
+pub record Written (g : Generator) (d b : ℕ) (zs : List ℕ) (old misses : List (List ℤ)) (state : Generator) (i : ℕ) : Type 0 where
   pub fits : length old * 16 < 2 ^ 64
   pub within : i ≤ length old
-  pub room-kept : length memory ≡ room
   pub kept : length misses ≡ length old
   pub now-at : state ≡ after (i * length zs) g
   pub done : take i misses ≡ missesFrom 0 i (settingOf g d b) (unpackedAll zs)
@@ -80,27 +78,25 @@ unfolding missesFrom
 last-miss g d b zs i = misses-joined i 1 0 (settingOf g d b) (unpackedAll zs) ∙ rw (zero-add i)
 
 -- one play more
-pub one-more : {g : Generator} {d b : ℕ} {zs : List ℕ} {old misses : List (List ℤ)} {room : ℕ} {memory : List ℤ} (memory′ : List ℤ) {state next : Generator} {i : ℕ}
-    → Written g d b zs old room memory misses state i → i < length old → next ≡ after (length zs) state
-    → length memory′ ≡ length memory → (x y : ℤ)
+pub one-more : {g : Generator} {d b : ℕ} {zs : List ℕ} {old misses : List (List ℤ)} {state next : Generator} {i : ℕ}
+    → Written g d b zs old misses state i → i < length old → next ≡ after (length zs) state → (x y : ℤ)
     → x ≡ rounded (total sine (playedShots (settingOf state d b) (unpackedAll zs)))
     → y ≡ rounded (total cosine (playedShots (settingOf state d b) (unpackedAll zs)))
-    → Written g d b zs old room memory′ (set misses i (x ∷ y ∷ [])) next (i + 1)
-one-more {g} {d} {b} {zs} {old} {misses} {room} {memory} memory′ {state} {next} {i} r more e kept′ x y east north =
+    → Written g d b zs old (set misses i (x ∷ y ∷ [])) next (i + 1)
+one-more {g} {d} {b} {zs} {old} {misses} {state} {next} {i} r more e x y east north =
     let n : (i + 1) * length zs ≡ i * length zs + length zs = omega arith in
     let i1 : i + 1 ≡ suc i = omega arith in
     let last : missesFrom 0 (i + 1) (settingOf g d b) (unpackedAll zs) ≡ missesFrom 0 i (settingOf g d b) (unpackedAll zs) ++ (missAt (settingOf g d b) (unpackedAll zs) i ∷ []) = last-miss g d b zs i in
     record {
       fits = r .fits;
       within = omega (arith, more);
-      room-kept = kept′ ∙ r .room-kept;
       kept = length-set misses i _ ∙ r .kept;
       now-at = e ∙ rw (r .now-at, n) (sym (after-add (i * length zs) (length zs) g));
       done = rw (last, i1, take-suc-set misses i (x ∷ y ∷ []) (omega (arith, r .kept, more)), r .done, miss-is g state d b zs i x y (r .now-at) east north);
     }
 
-pub at-end : {g : Generator} {d b : ℕ} {zs : List ℕ} {old misses : List (List ℤ)} {room : ℕ} {memory : List ℤ} {state : Generator} {i : ℕ}
-    → Written g d b zs old room memory misses state i → length misses ≤ i → misses ≡ missesFrom 0 (length old) (settingOf g d b) (unpackedAll zs)
+pub at-end : {g : Generator} {d b : ℕ} {zs : List ℕ} {old misses : List (List ℤ)} {state : Generator} {i : ℕ}
+    → Written g d b zs old misses state i → length misses ≤ i → misses ≡ missesFrom 0 (length old) (settingOf g d b) (unpackedAll zs)
 at-end {old = old} {misses = misses} {i = i} r left =
     let all : i ≡ length old = omega (arith, r .within, r .kept, left) in
     sym (take-all i misses (omega (arith, left))) ∙ r .done ∙ rw all

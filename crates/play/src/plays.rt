@@ -1,5 +1,4 @@
 // Plays, one after another.
-use crate::sum::CHUNK_SAMPLES;
 use crate::sum::one_play;
 use job_setting::Setting;
 use misclosure::millimetres;
@@ -11,24 +10,17 @@ ghost use Rattle.streams.specs.Streams.{pairsCode};
 ghost use Rattle.job_refusals.specs.Limits.{mostShots};
 ghost use Rattle.job.specs.Private.{Steady};
 ghost use Rattle.play.specs.Play.{missesFrom};
-ghost use Rattle.play.specs.Private.{chunkShots, unpackedAll, settingOf, Near};
+ghost use Rattle.play.specs.Private.{unpackedAll, settingOf, Near};
 
 // As many plays as there are misses, from a record on.
-fn each_play(
-    mut g: Generator,
-    distance: u32,
-    bearing: u32,
-    shots: &[u64],
-    samples: &mut [i16],
-    misses: &mut [[i64; 2]],
-)
+fn each_play(mut g: Generator, distance: u32, bearing: u32, shots: &[u64], misses: &mut [[i64; 2]])
     requires { ⌜ Steady distance bearing × Near (now shots) × (length (now shots) ≤ mostShots) ⌝ }
-    requires { ⌜ (length (now samples) ≡ 2 * chunkShots) × (pairsCode g (length (now misses) * length (now shots)) ≡ 0) ⌝ }
+    requires { ⌜ pairsCode g (length (now misses) * length (now shots)) ≡ 0 ⌝ }
     ensures { λ _. ⌜ now (misses .exit) ≡ missesFrom 0 (length (now (misses .entry))) (settingOf g distance bearing) (unpackedAll (now (shots .entry))) ⌝ }
 {
     let mut i = 0;
     while i < misses.len() {
-        let p = one_play(g, distance, bearing, shots, samples);
+        let p = one_play(g, distance, bearing, shots);
         g = p.next;
         let east = millimetres(p.sums.east);
         let north = millimetres(p.sums.north);
@@ -45,13 +37,5 @@ pub fn plays(s: Setting, first: u64, shots: &[u64], misses: &mut [[i64; 2]])
 {
     let n = shots.len() as u64;
     let skipped = s.generator.skip(first * n);
-    let mut samples = [0i16; CHUNK_SAMPLES];
-    each_play(
-        skipped.next,
-        s.distance,
-        s.bearing,
-        shots,
-        &mut samples,
-        misses,
-    )
+    each_play(skipped.next, s.distance, s.bearing, shots, misses)
 }

@@ -19,7 +19,7 @@ ghost use Rattle.play.specs.Private.{largestSample, chunkShots, noisyOf,
 const CHUNK_SHOTS: usize = 32;
 
 // The samples of a block.
-pub const CHUNK_SAMPLES: usize = 2 * CHUNK_SHOTS;
+const CHUNK_SAMPLES: usize = 2 * CHUNK_SHOTS;
 
 // East and north.
 pub struct Sums {
@@ -85,20 +85,15 @@ fn chunk_end(at: usize, n: usize) -> usize
 }
 
 // One play from a record, block by block.
-pub fn one_play(
-    mut g: Generator,
-    distance: u32,
-    bearing: u32,
-    shots: &[u64],
-    samples: &mut [i16],
-) -> Progress
+pub fn one_play(mut g: Generator, distance: u32, bearing: u32, shots: &[u64]) -> Progress
     requires { ⌜ Steady distance bearing × Near (now shots) × (length (now shots) ≤ mostShots) ⌝ }
-    requires { ⌜ (length (now samples) ≡ 2 * chunkShots) × (pairsCode g (length (now shots)) ≡ 0) ⌝ }
+    requires { ⌜ pairsCode g (length (now shots)) ≡ 0 ⌝ }
     ensures { λ r. ⌜ (r .next ≡ after (length (now (shots .entry))) g)
         × (r .sums .east ≡ total sine (playedShots (settingOf g distance bearing) (unpackedAll (now (shots .entry)))))
         × (r .sums .north ≡ total cosine (playedShots (settingOf g distance bearing) (unpackedAll (now (shots .entry)))))
         × Spare (r .sums) 0 ⌝ }
 {
+    let mut samples = [0i16; CHUNK_SAMPLES];
     let mut sums = Sums { east: 0, north: 0 };
     let mut at = 0;
     let n = shots.len();

@@ -18,21 +18,18 @@ mul-skip c = record { fits = omega (arith, skip-room _ _ _ _ (c .before .pre .1)
 skip-requires : tie.Need-skip-requires
 skip-requires c κs = tt
 
-slice-aggregate-each-play : tie.Need-slice-aggregate-each-play
-slice-aggregate-each-play c = search needs
-
 each-play-requires : tie.Need-each-play-requires
 each-play-requires c κs =
-    let start = c .before .before .before .before in
-    (start .pre .0, (refl, skipped-pairs _ _ _ _ (start-sound start) (start .pre .1) _ (c .before .before .skip .ensures)))
+    let start = c .before .before .before in
+    (start .pre .0, skipped-pairs _ _ _ _ (start-sound start) (start .pre .1) _ (c .before .skip .ensures))
 
 same-length : tie.Need-same-length
 same-length c = search needs
 
 returns : tie.Need-returns
 returns c =
-    let start = c .before .before .before .before .before .before .before in
-    skipped-misses (start .args .s) (start .args .first) (length (start .args .misses .now)) (start .args .shots .now) (start-sound start) (start .pre .1) _ (c .before .before .before .before .before .skip .ensures) _ (c .before .before .each-play .ensures)
+    let start = c .before .before .before .before .before in
+    skipped-misses (start .args .s) (start .args .first) (length (start .args .misses .now)) (start .args .shots .now) (start-sound start) (start .pre .1) _ (c .before .before .before .skip .ensures) _ (c .before .each-play .ensures)
 
 pub plays-spec : {M : Type 1} → statement M
-plays-spec = tie.close (tie.spec mul-skip skip-requires slice-aggregate-each-play each-play-requires same-length returns)
+plays-spec = tie.close (tie.spec mul-skip skip-requires each-play-requires same-length returns)

@@ -20,7 +20,7 @@ abbrev μ-loop : tie.MeasureT-loop
 μ-loop g₀ distance bearing shots samples₀ sums₀ at₀ n g samples sums at = length shots - at
 
 start-sound : (c : tie.Start Inv-loop μ-loop) → Sound (c .args .g)
-start-sound c = sound (c .args .g) (omega arith) (omega arith) (pairs-accepted _ _ .0 (c .pre .1 .1) .0)
+start-sound c = sound (c .args .g) (omega arith) (omega arith) (pairs-accepted _ _ .0 (c .pre .1) .0)
 
 loop-holds : tie.Need-loop-holds Inv-loop μ-loop
 unfolding after
@@ -38,11 +38,11 @@ mul-part c = omega (arith, c .chunk-end .ensures, c .before .loop-test .taken)
 sub-part-2 : tie.Need-sub-part-2 Inv-loop μ-loop
 sub-part-2 c = search needs
 
-part-part-start : tie.Need-part-part-start Inv-loop μ-loop
-part-part-start c = search needs
+part-samples-start : tie.Need-part-samples-start Inv-loop μ-loop
+part-samples-start c = search needs
 
-part-part-end : tie.Need-part-part-end Inv-loop μ-loop
-part-part-end c = omega (arith, c .chunk-end .ensures, c .before .loop-test .taken, c .before .before .loop .inv .kept, c .before .before .before .before .pre .1 .0)
+part-samples-end : tie.Need-part-samples-end Inv-loop μ-loop
+part-samples-end c = omega (arith, c .chunk-end .ensures, c .before .loop-test .taken, c .before .before .loop .inv .kept)
 
 block-requires : tie.Need-block-requires Inv-loop μ-loop
 block-requires c κs = tt
@@ -66,7 +66,7 @@ summed-requires c κs =
     let more = c .before .before .before .before .before .before .before .before .loop-test .taken in
     let end = c .before .before .before .before .before .before .before .chunk-end .ensures in
     let (steady, near, few) = start .pre .0 in
-    let (small, even) = asked-part r _ more end (start-sound start) (start .pre .1 .0) (start .pre .1 .1) _ (c .before .before .before .before .block .ensures .1) in
+    let (small, even) = asked-part r _ more end (start-sound start) refl (start .pre .1) _ (c .before .before .before .before .block .ensures .1) in
     ((spare-part r _ more end few, steady, near-part r _ more end near, small), even)
 
 loop-less : tie.Need-loop-less Inv-loop μ-loop
@@ -79,10 +79,7 @@ loop-again c =
     let drawn = c .before .before .before .before .before .before .block in
     let end = c .before .before .before .before .before .before .before .before .before .chunk-end in
     let sums = c .before .summed .ensures in
-    block-on (at .inv) _ (c .before .before .before .before .before .before .before .before .before .before .loop-test .taken) (end .ensures) (start-sound start) (start .pre .1 .0) (start .pre .1 .1) _ (drawn .ensures .1) _ _ _ (same-len-mid 0 (2 * (end .result - at .at) - 0) (at .samples) (drawn .last .1 .0) (drawn .kept .1 .0)) (drawn .ensures .0) (sums .0) (sums .1) (sums .2)
-
-same-length : tie.Need-same-length Inv-loop μ-loop
-same-length c = c .before .loop .inv .kept
+    block-on (at .inv) _ (c .before .before .before .before .before .before .before .before .before .before .loop-test .taken) (end .ensures) (start-sound start) refl (start .pre .1) _ (drawn .ensures .1) _ _ _ (same-len-mid 0 (2 * (end .result - at .at) - 0) (at .samples) (drawn .last .1 .0) (drawn .kept .1 .0)) (drawn .ensures .0) (sums .0) (sums .1) (sums .2)
 
 returns : tie.Need-returns Inv-loop μ-loop
 returns c =
@@ -97,4 +94,4 @@ returns c =
     )
 
 pub one-play-spec : {M : Type 1} → statement M
-one-play-spec = tie.close (tie.spec Inv-loop μ-loop loop-holds chunk-end-requires sub-part mul-part sub-part-2 part-part-start part-part-end block-requires mul-summed sub-summed part-summed-start part-summed-end summed-requires loop-less loop-again same-length returns)
+one-play-spec = tie.close (tie.spec Inv-loop μ-loop loop-holds chunk-end-requires sub-part mul-part sub-part-2 part-samples-start part-samples-end block-requires mul-summed sub-summed part-summed-start part-summed-end summed-requires loop-less loop-again returns)
