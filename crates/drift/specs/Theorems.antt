@@ -14,7 +14,7 @@ unfoldable pub Samples : List ℤ → Type 0
 Samples [] = Unit
 Samples (x ∷ samples) = SFits w16 x × Samples samples
 
--- "The last N, or all that came where fewer came"
+-- "the last N, or .. all that came where fewer came"
 unfoldable pub latest : ℕ → List ℤ → List ℤ
 latest n samples = drop (length samples - n) samples
 

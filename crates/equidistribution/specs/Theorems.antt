@@ -1,5 +1,5 @@
 -- How evenly the streams draw, as theorems: the record below has its proof in proofs/Theorems.antt.
--- "Equally many" is over all contents of registers of 32 bits. Seeding refuses a register below its minimum, so over accepted seeds it holds but
+-- `EquallyMany` is over all contents of registers of 32 bits. Seeding refuses a register below its minimum, so over accepted seeds it holds but
 -- for the refused contents. Of a stream these are 2^88 - (2^31 - 1)(2^29 - 1)(2^28 - 1) of the 2^88 contents of the bits that draws read, fewer
 -- than one in 2^27 (`size` in crates/period/specs/Theorems.antt), so of two streams fewer than one in 2^26. How the refused contents are shared
 -- out among the values is not said.

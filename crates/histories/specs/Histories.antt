@@ -56,7 +56,7 @@ AllKeep (e ∷ l) = Keeps (e .call) (e .code) × AllKeep l
 
 -- ---- The draws behind the samples
 
--- The numbers of the pair that draw t of both streams makes: "k is a × 65536 + floor(b / 65536), v is b mod 65536".
+-- The numbers of the pair that draw t of both streams makes: "k is a × 65536 + floor(b / 65536)", "v is b mod 65536".
 abbrev pub kAt : Stream → Stream → ℕ → ℕ
 kAt a b t = drawAt a t * 65536 + drawAt b t / 65536
 

@@ -70,7 +70,7 @@ CauseOf g none one asked odd full not-as-asked = asked
 CauseOf g none one asked odd full odd-length = odd
 CauseOf g none one asked odd full count-full = full
 
--- "15: none is open when taking or giving up". 14: "a pair, block, skip or second ask is refused while one is open"; "a look never gets 14". "16: n above
+-- "15: none is open when taking or giving up". 14: "a pair, block, skip or second ask is refused while one is open"; "A look .. never gets 14". "16: n above
 -- 1,000,000, asked or found noted on taking, or a block not of 2n samples". 4 for a block and a look, "on taking 16". 13: "whole block or none"; "an ask
 -- tests its whole n".
 abbrev pub Applies : Refusal → Call → Generator → Type 0

@@ -34,7 +34,7 @@ members used lengths names records = record { used = used; lengths = lengths; na
 
 -- ---- The set that they are
 
--- "A word of used but 0 means used"; the names one after another
+-- any word of `used` but 0 means used; the names one after another
 unfoldable pub labelsOf : List ℕ → List ℕ → List ℕ → List Label
 labelsOf [] lengths names = []
 labelsOf (u ∷ used) [] names = []

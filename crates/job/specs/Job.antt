@@ -23,7 +23,7 @@ settingAfter (shot from to d b) s = record
     { generator = pairOf fractionBits (s .generator) .next; distance = s .distance; bearing = s .bearing }
 settingAfter noForm s = settingOn noForm s
 
--- What a line prints: "First sample to distance, second to bearing" of the one pair
+-- What a line prints: of the one pair "First sample to distance (below 0 becomes 0), second to bearing (mod 65536)"
 unfoldable pub printed : Form → Setting → List ℕ
 printed (seeds a0 a1 a2 b0 b1 b2) s = []
 printed (sigma d b) s = []

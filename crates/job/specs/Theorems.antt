@@ -65,7 +65,7 @@ rowsFrom i distance bearing g (x ∷ xs) =
     noisyRow distance bearing (x .from) (x .to) (x .distance) (x .bearing) (pairAt i g .first) (pairAt i g .second)
     ++ rowsFrom (i + 1) distance bearing g xs
 
--- a listed job: "line 1 is the seeds, line 2 the sigmas", and then the shots
+-- a listed job: seeds on line 1, sigmas on line 2, and then the shots
 pub record Drawn (text bytes : List ℕ) : Type 0 where
   pub a0 : ℕ
   pub a1 : ℕ

@@ -46,7 +46,7 @@ linkCode station (sigma d b) = 0
 linkCode station (shot from to d b) = stationCode station from
 linkCode station noForm = 0
 
--- "23 for the first shot that does not start where the last one ended, with its line in the job": that line, from line k on; 0 where there is none
+-- the line in the job of the first shot that does not start where the last one ended, from line k on; 0 where there is none
 unfoldable pub unlinkedLine : ℕ → List ℕ → List Form → ℕ
 unlinkedLine k station [] = 0
 unlinkedLine k station (x ∷ xs) = cond (eqb (linkCode station x) 0) (unlinkedLine (k + 1) (stationAfter x) xs) k
@@ -56,7 +56,7 @@ pub data Outcome : Type 0 where
   refused : ℕ → ℕ → Outcome
   accepted : Setting → List Shot → Outcome
 
--- "Refused as the job is ..; once every line is accepted, 23"
+-- refused as the job is; once every line is accepted, with 23 at the first shot that does not start where the last one ended
 abbrev pub linked : List Form → job.Outcome → Outcome
 linked xs (job.refused code line) = refused code line
 linked xs (job.listed bytes) =

@@ -19,7 +19,7 @@ pub record Theorems : Type 0 where
       → loopOf text ≡ accepted (settingIn start (formsOf text)) (shotsIn (formsOf text))
   pub not-followed : (text bytes : List ℕ) → job.jobOf text ≡ job.listed bytes → (Following [] (formsOf text) → ⊥)
       → (line : ℕ) × (loopOf text ≡ refused 23 line)
-  -- "23 for the first shot that does not start where the last one ended, with its line in the job": z, where the shots before it follow each other
+  -- 23 has the line in the job of the first shot that does not start where the last one ended: z, where the shots before it follow each other
   pub first-unlinked : (text bytes : List ℕ) → job.jobOf text ≡ job.listed bytes → (x y z : Form) (xs ys : List Form)
       → formsOf text ≡ x ∷ y ∷ (xs ++ (z ∷ ys)) → Following [] xs → (Following [] (xs ++ (z ∷ [])) → ⊥)
       → loopOf text ≡ refused 23 (3 + length xs)

@@ -18,7 +18,7 @@ cycle = (2 ^ 31 - 1) * (2 ^ 29 - 1) * (2 ^ 28 - 1)
 abbrev pub OfThree : (ℕ → ℕ → ℕ → Type 0) → Type 0
 OfThree P = P 31 13 12 × P 29 2 4 × P 28 3 17
 
--- "From the first draw on, is back where it was after n draws just where" the period "divides n".
+-- from the first draw on, back where it was after n draws just where the period divides n
 abbrev pub Back : {A : Type 0} → ℕ → (A → A) → A → Type 0
 Back period draw x = (t n : ℕ) → (repeat draw (suc t + n) x ≡ repeat draw (suc t) x) ↔ (n % period ≡ 0)
 

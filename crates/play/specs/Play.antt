@@ -20,7 +20,7 @@ use Rattle.play.specs.declared.PlayAnswer.{PlayAnswer}
 abbrev pub ahead : ℕ → Setting → Setting
 ahead n s = record { generator = after n (s .generator); distance = s .distance; bearing = s .bearing }
 
--- a shot with the noise of the next pair: "First sample to distance, second to bearing"
+-- a shot with the noise of the next pair: "First sample to distance (below 0 becomes 0), second to bearing (mod 65536)"
 abbrev pub noisyShot : Setting → Shot → Shot
 noisyShot s x = record {
   distance = noisyDistance (s .distance) (x .distance) (pairOf fractionBits (s .generator) .first);
@@ -32,7 +32,7 @@ unfoldable pub playedShots : Setting → List Shot → List Shot
 playedShots s [] = []
 playedShots s (x ∷ l) = noisyShot s x ∷ playedShots (ahead 1 s) l
 
--- "Play j starts with the record j × (shots) pairs on from the job's seeds": its sum at 2^30; G is `sine` for east and `cosine` for north
+-- play j starts j × (shots) pairs on from the job's seeds: its sum at 2^30; G is `sine` for east and `cosine` for north
 unfoldable pub sumAt : (ℕ → ℤ) → Setting → List Shot → ℕ → ℤ
 sumAt G s l j = total G (playedShots (ahead (j * length l) s) l)
 
@@ -47,7 +47,7 @@ missesFrom j (suc runs) s l = missAt s l j ∷ missesFrom (suc j) runs s l
 
 -- ---- The call
 
--- "then 13 where the pairs of all plays up to first + runs would pass 2^64 - 1"
+-- refused as the loop is, then with 13 where the pairs of all plays up to first + runs would pass 2^64 - 1
 abbrev pub roomFor : ℕ → Outcome → Outcome
 roomFor plays (refused code line) = refused code line
 roomFor plays (accepted s l) = cond (eqb (countCode (s .generator) (plays * length l)) 0) (accepted s l) (refused 13 0)

@@ -43,20 +43,20 @@ abbrev pub leaves : List ℕ → ℕ → List (List ℤ) → List (List ℤ)
 leaves text first old = missesAfter (playOf text first (length old)) first old
 
 pub record Theorems : Type 0 where
-  -- "misses[i] is .. of play first + i"
+  -- misses[i] is that of play first + i
   pub element : (s : Setting) (l : List Shot) (first runs i : ℕ) → i < runs → getD (missesFrom first runs s l) i [] ≡ missAt s l (first + i)
-  -- "What play j gives is .. `misclosure` of the listing of the job with the same lines and, as seeds on line 1, the registers of that record"
+  -- play j is `misclosure` of the listing of the job with the same lines and, as seeds on line 1, the registers of the record that it starts with
   pub play-is : (text : List ℕ) (first runs j : ℕ) (s : Setting) (l : List Shot) → playOf text first runs ≡ accepted s l → j < first + runs
       → IsMisclosure text s l j
-  -- "Play j starts with the record j × (shots) pairs on from the job's seeds": the job of play 0 is the job itself
+  -- play 0 starts with the job's own seeds: its job is the job itself
   pub own-seeds : (text : List ℕ) (first runs : ℕ) (s : Setting) (l : List Shot) → playOf text first runs ≡ accepted s l
       → reseeded text (s .generator) ≡ text
-  -- "Refused as the job is ..; once every line is accepted, 23": code and line are the loop's
+  -- refused as the loop is: code and line are the loop's
   pub refused-loop : (text : List ℕ) (first runs code line : ℕ) → loopOf text ≡ refused code line → playOf text first runs ≡ refused code line
-  -- "then 13 where the pairs of all plays up to first + runs would pass 2^64 - 1", and only there
+  -- an accepted loop is refused with 13 where the pairs of all plays up to first + runs would pass 2^64 - 1, and only there
   pub just-13 : (text : List ℕ) (first : ℕ) (old : List (List ℤ)) (s : Setting) (l : List Shot) → loopOf text ≡ accepted s l
       → (codeOf text first old ≡ 13) ↔ (18446744073709551615 < (first + length old) * length l)
-  -- "the plays of first and n + m runs are those of n runs followed by those of m runs from first + n"
+  -- the plays of n + m runs from first are those of n runs from first, followed by those of m runs from first + n
   pub joined : (text : List ℕ) (first : ℕ) (x y : List (List ℤ)) → codeOf text first (x ++ y) ≡ 0
       → (codeOf text first x ≡ 0) × (codeOf text (first + length x) y ≡ 0)
       × (leaves text first (x ++ y) ≡ leaves text first x ++ leaves text (first + length x) y)

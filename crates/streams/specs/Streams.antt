@@ -48,7 +48,7 @@ cleared g = noted g 0 0
 unfoldable pub fit : Stream → Bool
 fit u = leb 2 (u .s0) && (leb 8 (u .s1) && leb 16 (u .s2))
 
--- A record's refusal code: 0, or why every call on it is refused: "Code 11 for stream a and 12 for stream b", "11 first" (document 02,
+-- A record's refusal code: 0, or why every call on it is refused: "Number 11 for stream a and 12 for stream b", "11 first" (document 02,
 -- Job 1).
 unfoldable pub recordCode : Generator → ℕ
 recordCode g = cond (fit (g .a)) (cond (fit (g .b)) 0 12) 11
@@ -87,7 +87,7 @@ pub data Call : Type 0 where
   numbers a-pair give-up : Call
   a-skip a-block a-look an-ask a-take : ℕ → Call
 
--- For its note: "14 .. a pair, block, skip or second ask", "a look never"; "15 .. when taking or giving up".
+-- For its note: 14 for "A pair, block, skip or second ask", "A look .. never gets 14"; "15: none is open when taking or giving up".
 unfoldable pub noteCode : Call → Generator → ℕ
 noteCode numbers g = openCode g
 noteCode a-pair g = openCode g
