@@ -126,7 +126,7 @@ pub rotation-good : (n w : ℕ) → Good n (rotation n w)
 unfolding rotation
 rotation-good n w = good-compose n (good-bits n 0 7 (w / 128)) (good-bits n 7 7 (w % 128))
 
--- "a rotation": the squares of the low ends sum to at most 1
+-- a rotation: the squares of the low ends sum to at most 1
 pub rotation-length-low : (n w : ℕ) →
     square (dyadic n (rotation n w .cosLow)) +ᶠ square (dyadic n (rotation n w .sinLow)) ≤ᶠ whole 1
 rotation-length-low n w = omega (arith, mul-le-mul-right (2 ^ n * 2 ^ n) (rotation-good n w .unit))

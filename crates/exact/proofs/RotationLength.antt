@@ -279,7 +279,7 @@ rotation-long w =
     long-compose (bits 0 7 a) (bits 7 7 b) (sound-bits 0 7 a) (sound-bits 7 7 b) (nested-bits 0 7 a) (nested-bits 7 7 b)
     (bits-long 0 7 a) (bits-long 7 7 b) (coarse-fine a b)
 
--- "a rotation", beside `rotation-length-low`: the squares of the high ends sum to at least 1
+-- a rotation, beside `rotation-length-low`: the squares of the high ends sum to at least 1
 pub rotation-length-high : (n w : ℕ) →
     whole 1 ≤ᶠ square (dyadic n (rotation n w .cosHigh)) +ᶠ square (dyadic n (rotation n w .sinHigh))
 rotation-length-high n w = omega (arith, mul-le-mul-right (2 ^ n * 2 ^ n) (rotation-long w n))
