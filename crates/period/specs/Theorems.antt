@@ -44,7 +44,7 @@ pub record OfRuns : Type 0 where
   -- so from seeding on, whatever calls came before
   pub from-seeding : (a b : Stream) → InRange a → InRange b → seedFrom a b .code ≡ 0
       → (before l m : List Call) → OnePlace (run before (seedFrom a b .next)) l m
-  -- of two rigs, one sent m pairs ahead and one n, whatever both are then asked: until the first has come to n, they have no stream in common
+  -- of two rigs, one sent m pairs ahead and one n, whatever both are then asked: until the first has come to n, their streams a are apart, and so are their streams b
   pub rigs : (g : Generator) → InRange (g .a) → InRange (g .b) → (m n : ℕ) → skipOf g m .code ≡ 0 → skipOf g n .code ≡ 0
       → (l l′ : List Call) → m + sumOver handed l (skipOf g m .next) < n → Apart (run l (skipOf g m .next)) (run l′ (skipOf g n .next))
   -- seeds that are the same for a and b make the two streams equal, for good
