@@ -30,7 +30,7 @@ test:
 
 TARGET ?=
 lib:
-	$(if $(TARGET),tools/target $(TARGET),tests/library)
+	$(if $(TARGET),tools/target $(TARGET),tools/library)
 	@$(if $(TARGET),,echo "target/staticlib/libjabulghi.a is up to date")
 
 .PHONY: command wasm page windows wheel dist install uninstall clean help
@@ -47,7 +47,7 @@ windows:
 	tools/windows
 
 wheel:
-	tests/library
+	tools/library
 	python3 bindings/python/wheel_of.py target/wheel
 
 dist:

@@ -1,4 +1,4 @@
-#!/bin/sh
+# shellcheck shell=sh
 # install.sh install | uninstall: copies bin, include, lib and share, which are beside this script, below PREFIX (/usr/local), or removes them there.
 # LIBDIR (lib) and MANDIR (share/man) are below PREFIX where they do not begin with a slash. DESTDIR comes before every name, for packagers.
 set -eu

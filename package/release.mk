@@ -21,7 +21,7 @@ examples:
 
 export PREFIX LIBDIR MANDIR DESTDIR
 install uninstall:
-	@./install.sh $@
+	@sh install.sh $@
 
 check:
 	@sha256sum --quiet -c SHA256SUMS && echo "every file is as SHA256SUMS says"

@@ -1,4 +1,3 @@
-#!/usr/bin/env python3
 """Works out the certificates of maximal equidistribution: for each row (l, t), l contents of the three registers for which the highest l bits
 of t successive draws are zeros, and in the last draw the unit words 1, 2, 4, ..
 

@@ -1,4 +1,3 @@
-#!/usr/bin/env python3
 """Works out the rows of crate `normal` as its proofs do, from the rows of `tail_rows` and `tail_rows18`, and compares them with specs/.
 
   python3 tools/normal.py           compare the rows of specs/ with those worked out

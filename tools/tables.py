@@ -1,4 +1,3 @@
-#!/usr/bin/env python3
 """Recomputes the seven tables with mpmath at 200 bits and compares them with the sources: crate `tables` (src/logarithms.rt,
 cosines.rt, sines.rt, specs/Values.antt), and the matches of crates `log_coarse_lookup`, `log_fine_lookup` and `reciprocal_lookup` (with
 specs/Private.antt), and `rotation_lookup`. The cells of the root in crate `root_lookup` too.

@@ -1,4 +1,3 @@
-#!/usr/bin/env python3
 """Works out the rows of crates `tail_rows` and `tail_rows18` as their proofs do, from the tables of sines and cosines, and compares them with specs/.
 The numbers that tools/datasheet counted must lie within them.
 

@@ -1,4 +1,3 @@
-#!/usr/bin/env python3
 """Draws the pictures of the data sheet, docs/datasheet/*.png, from docs/datasheet/numbers.json. Needs Debian's python3-matplotlib."""
 import json, math, statistics
 import matplotlib

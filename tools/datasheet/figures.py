@@ -1,4 +1,3 @@
-#!/usr/bin/env python3
 """figures.py PART FOLDER: works out from what the programs counted (FOLDER/*.tsv) the numbers of one part of the data sheet and puts them into
 docs/datasheet/numbers.json, where those of the other parts stay."""
 import json, math, os, sys

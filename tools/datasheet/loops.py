@@ -1,4 +1,3 @@
-#!/usr/bin/env python3
 """The loops of the data sheet and their closed form, which is worked out here alone, from document 01 and the normal law.
 
   python3 tools/datasheet/loops.py FOLDER   writes the jobs FOLDER/loop-LEGS-SEEDS.job and prints "LEGS TAB SEEDS TAB variance east TAB north TAB covariance\""""

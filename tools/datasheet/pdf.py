@@ -1,4 +1,3 @@
-#!/usr/bin/env python3
 """pdf.py SHEET.md FILE.pdf: the data sheet as pages of A4, by Chromium. Takes the Markdown that the sheet is written in: headings, paragraphs, lists, tables, pictures,
 **bold**, `code` and links. The appendix starts a page; where pdftotext is installed (Debian's poppler-utils) it has to be page 3."""
 import html, os, re, shutil, subprocess, sys, tempfile

@@ -1,4 +1,3 @@
-#!/usr/bin/env python3
 """Fills in the text of the data sheet, tools/datasheet/sheet.md, from docs/datasheet/numbers.json; what is proved of the distribution comes from the rows of specs/, the
 processors from the tables of docs/PROCESSORS.md, the version from include/jabulghi.h.
 
