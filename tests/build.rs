@@ -1,8 +1,13 @@
-//! Links target/staticlib/libjabulghi.a of the repository.
+//! Links target/staticlib/libjabulghi.a of the repository that this folder is in. All paths are relative, so that a
+//! repository that is copied, with what was built in it, links its own library.
+#[path = "src/linked.rs"]
+mod linked;
+
 fn main() {
-    let root = std::path::Path::new(env!("CARGO_MANIFEST_DIR")).parent().unwrap();
-    let folder = root.join("target/staticlib");
-    println!("cargo:rustc-link-search=native={}", folder.display());
+    let library = format!("../{}", linked::LIBRARY);
+    println!("cargo:rustc-link-search=native=../target/staticlib");
     println!("cargo:rustc-link-lib=static=jabulghi");
-    println!("cargo:rerun-if-changed={}", folder.join("libjabulghi.a").display());
+    println!("cargo:rustc-env=LIBRARY_SUM={}", linked::sum(&library));
+    println!("cargo:rerun-if-changed={library}");
+    println!("cargo:rerun-if-changed=src/linked.rs");
 }

@@ -9,6 +9,7 @@ import { join, resolve } from 'node:path';
 const [modules, wasm, command] = process.argv.slice(2), root = new URL('../../', import.meta.url);
 const module = name => import(resolve(modules, name));
 const { load } = await module('jabulghi.js'), { figuresOf, judge } = await module('judge.js'), { jobOf, jobOfPlay, takeLoop } = await module('survey.js');
+const { reach } = await module('ellipse.js'), { planOf } = await module('plan.js'), { serve } = await module('worker.js');
 const { survex } = await module('example.js'), { csvOf, pictureOf } = await module('draw.js'), { sixSeeds, wholeMillimetres, wholePlays, wholeSteps } = await module('settings.js');
 const jabulghi = await load(readFileSync(wasm)), folder = mkdtempSync(join(tmpdir(), 'jabulghi-page-'));
 const SEEDS = [3770694558, 3532774216, 2901327257, 4093209576, 2137023497, 2889436789];
@@ -62,6 +63,38 @@ function refusals() {
   return texts.length;
 }
 
+// Where one play more or less changes the verdict: the share is (beyond + 1) / (plays + 1), and one that is just 5 % or 0.1 % is not below it.
+function limits() {
+  const [SOUND, POSSIBLE, LIKELY] = ['NO_BLUNDER', 'BLUNDER_POSSIBLE', 'BLUNDER_LIKELY'];
+  const cases = [[1999, 0, LIKELY], [1999, 1, POSSIBLE], [1999, 98, POSSIBLE], [1999, 99, SOUND], [2000, 1, LIKELY], [2000, 2, POSSIBLE], [2000, 99, POSSIBLE], [2000, 100, SOUND]];
+  const loop = takeLoop(jabulghi, survex(40, 0), { name: 'a.svx', seeds: SEEDS, sigma: [10, 91] });
+  for (const [runs, beyond, verdict] of cases) {
+    const misses = jabulghi.play(jobOf(loop), runs), { ellipse: e } = judge(loop, misses);
+    const far = Array.from({ length: runs }, (_, j) => reach(e, misses[2 * j] - loop.own[0], misses[2 * j + 1] - loop.own[1])).sort((one, other) => other - one);
+    const wanted = (far[beyond] + (beyond > 0 ? far[beyond - 1] : 2 * far[0])) / 2, size = Math.sqrt(wanted / reach(e, e.centre[0] + 1, e.centre[1] + 1));
+    const judged = judge({ ...loop, miss: [e.centre[0] + size, e.centre[1] + size] }, misses);
+    assert.deepEqual([judged.kept.beyond, judged.verdict], [beyond, verdict], `${beyond} of ${runs} plays`);
+  }
+}
+
+// The Worker plays stretch by stretch what one call plays at once.
+async function stretches() {
+  const job = example('loop.job'), runs = 20000, misses = new Int32Array(2 * runs), bytes = readFileSync(wasm), starts = [];
+  const scope = { postMessage: ({ start, misses: some }) => { starts.push(start); misses.set(some, 2 * start); } };
+  serve(scope);
+  await scope.onmessage({ data: { wasm: bytes, job, runs } });
+  assert(starts.length > 2);
+  assert.deepEqual(misses, jabulghi.play(job, runs));
+}
+
+// North is up and east is right: one leg to each.
+function plan() {
+  const text = `${DATA}A B 300 0 0\nB C 400 90 0\nC A 500 233.13 0\n`, loop = takeLoop(jabulghi, text, { name: 'a.svx', seeds: SEEDS, sigma: [0, 0] });
+  const drawn = planOf(jabulghi, judge(loop, jabulghi.play(jobOf(loop), 1)));
+  for (const points of ['0,0 0,-300000', '0,-300000 400000,-300000']) assert(drawn.includes(` points="${points}"/>`), drawn);
+  assert(drawn.includes('<g class="played"><polyline points="0,0 0,-300000 400000,-300000 '), drawn);
+}
+
 function settings() {
   assert.deepEqual([wholeMillimetres('0', 'mm'), wholeMillimetres('1.2', 'cm'), wholeMillimetres('1000', 'mm'), wholeSteps('0'), wholeSteps('0.5'), wholeSteps('0.05'), wholeSteps('5.49')], [0, 12, 1000, 0, 91, 9, 999]);
   assert.deepEqual([wholePlays('10,000'), wholePlays('1000000'), sixSeeds('1,2,3,4,5,6'), sixSeeds('(seeds (a 1 2 3) (b 4 5 6))\n')], [10000, 1000000, [1, 2, 3, 4, 5, 6], [1, 2, 3, 4, 5, 6]]);
@@ -78,5 +111,8 @@ const judged = [
 console.log(`the page's figures, rows, pictures and jobs of ${judged.length} loops are the command's (${judged.map(({ verdict }) => verdict).join(' ')})`);
 const count = refusals();
 settings();
+limits();
+await stretches();
+plan();
 console.log(`the page refuses ${count} texts with the command's line and sentence, and 12 settings`);
 rmSync(folder, { recursive: true });

@@ -23,7 +23,7 @@ extern "C" {
     ) -> u32;
 }
 
-const PROGRAM: &str = concat!(env!("CARGO_MANIFEST_DIR"), "/../target/bin/legs");
+const PROGRAM: &str = "target/bin/legs";
 const DATA: &str = "*data normal from to tape compass clino\n";
 /// What the program holds.
 const MOST: usize = 100_000;
@@ -310,7 +310,7 @@ pub fn program(tables: &Tables, random: &mut Random) -> String {
         let text = [DATA.as_bytes(), &b"\n".repeat(MOST - DATA.len() + more)].concat();
         writes(&run(PROGRAM, &text, 4096, Duration::ZERO), b"", &sentence, "a text that is too long");
     }
-    let example = std::fs::read(concat!(env!("CARGO_MANIFEST_DIR"), "/../examples/streamway.svx")).unwrap();
+    let example = std::fs::read("examples/streamway.svx").unwrap();
     let shots = at_once(&example);
     writes(&shots, &expected(&example), "", "the example cave");
     assert!(listing(tables, &shots.stdout).lines().count() > 10, "the example cave has shots");

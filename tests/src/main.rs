@@ -1,6 +1,6 @@
 //! Runs the static library and the programs beside another implementation of documents 01 and 02, written from them alone.
 //! JABULGHI_SEED gives the generated inputs another seed. With the words `checks FOLDER` it writes what the program crates/checks reads and
-//! has to print; with `elsewhere FILE` calls and their answers, for tests/elsewhere.c.
+//! has to print; with `elsewhere FILE` calls and their answers, for tests/elsewhere.c. It runs in the repository whose library it was linked with.
 mod cases;
 mod checks;
 mod counts;
@@ -14,6 +14,7 @@ mod job;
 mod jump;
 mod legs;
 mod library;
+mod linked;
 mod listings;
 mod marks;
 mod misclosure;
@@ -49,6 +50,8 @@ fn main() {
         ["elsewhere", file] => return elsewhere::write(&tables, &mut Random(seed), file.as_ref()),
         _ => panic!("{words:?}: checks FOLDER, elsewhere FILE or nothing"),
     }
+    let sum = linked::sum(linked::LIBRARY).to_string();
+    assert_eq!(sum, env!("LIBRARY_SUM"), "this program was linked with another library than {}", linked::LIBRARY);
     println!("the other implementation gives document 01's readings and example; inputs from seed {seed}");
     type Group = fn(&Tables, &mut Random) -> String;
     let edges: [fn(&Tables) -> String; 11] = [

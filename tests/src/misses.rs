@@ -9,7 +9,7 @@ use crate::sample::Tables;
 use crate::sums::{self, headed};
 use std::time::Duration;
 
-pub const PROGRAM: &str = concat!(env!("CARGO_MANIFEST_DIR"), "/../target/bin/misses");
+pub const PROGRAM: &str = "target/bin/misses";
 
 extern "C" {
     fn jabulghi_misclosure(text: *const u8, length: usize, sums: *mut i64, millimetres: *mut i64, line: *mut u32) -> u32;

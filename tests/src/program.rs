@@ -11,7 +11,7 @@ use std::process::{Command, Output, Stdio};
 use std::thread::sleep;
 use std::time::Duration;
 
-const PROGRAM: &str = concat!(env!("CARGO_MANIFEST_DIR"), "/../target/bin/listing");
+const PROGRAM: &str = "target/bin/listing";
 const SEEDS: &str = "(seeds (a 2 8 16) (b 2 8 16))\n";
 const SIGMA: &str = "(sigma 4 10)\n";
 const SHOT: &str = "(shot A1 A2 12345 4500)\n";

@@ -113,6 +113,13 @@ function windowsAndMarks() {
   record.giveUp();
   for (let j = 1; j < 16; j++) marks.save(record, `S${j}`);
   refused(CODES.MARKS_FULL, () => marks.save(record, 'T'), ...all);
+  // Each mark stands where the header's struct has it: used, length, name, record.
+  for (let j = 0; j < 16; j++) {
+    const word = j === 0 ? 'D7' : `S${j}`, part = (at, size) => Buffer.from(marks.bytes.buffer, at, size);
+    assert.deepEqual([part(4 * j, 4).readUInt32LE(), part(64 + 4 * j, 4).readUInt32LE()], [1, word.length]);
+    assert.equal(part(128 + 12 * j, 12).toString(), word.padEnd(12, '\0'));
+    assert.deepEqual([...part(320 + 40 * j, 40)], [...(j === 0 ? jabulghi.seed(...GOOD) : record).bytes], `the record of ${word}`);
+  }
   for (let j = 1; j < 16; j++) marks.drop(`S${j}`);
   assert.deepEqual(marks.bytes, kept);
 }
