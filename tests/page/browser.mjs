@@ -59,24 +59,24 @@ async function saved(id, name) {
   return readFileSync(file, 'utf8');
 }
 
-// The same seeds: what is saved is what the command writes, and the job of a play misses by what its row says.
+// The same seeds: what is saved is what the command writes, of several stretches of plays, and the job of a play misses by what its row says.
 async function saves() {
-  for (const [id, to] of [['mm', '1'], ['unit', 'cm'], ['degrees', '0.5'], ['plays', '2000'], ['seeds', SEEDS]]) await set(id, to);
+  for (const [id, to] of [['mm', '1'], ['unit', 'cm'], ['degrees', '0.5'], ['plays', '20000'], ['seeds', SEEDS]]) await set(id, to);
   assert.equal(await isOld(), true);
   await set('text', survex(40, 10));
   await after(() => click('go'));
-  const asked = ['tolerance', '--seeds', SEEDS, '--sigma', '10mm,0.5deg', '--runs', '2000'], rows = await saved('csv', 'plays.csv');
+  const asked = ['tolerance', '--seeds', SEEDS, '--sigma', '10mm,0.5deg', '--runs', '20000'], rows = await saved('csv', 'plays.csv');
   assert.equal(rows, run([...asked, '--csv'], survex(40, 10)));
   run([...asked, '--svg', join(browser.folder, 'its.svg')], survex(40, 10));
   assert.equal(await saved('svg', 'plays.svg'), readFileSync(join(browser.folder, 'its.svg'), 'utf8'));
-  for (const play of [0, 17, 1999]) {
+  for (const play of [0, 17, 19999]) {
     await set('play', String(play));
     const misses = run(['misses'], run(['list'], await saved('job', `play-${play}.job`)));
     assert.equal(misses.match(/-?\d+/g).join(), rows.split('\n')[play + 1].split(',').slice(1).join(), `play ${play}`);
   }
-  await set('play', '2000');
+  await set('play', '20000');
   await click('job');
-  assert.match(await text('playSaid'), /from 0 to 1,999$/);
+  assert.match(await text('playSaid'), /from 0 to 19,999$/);
   assert.match(await text('told'), /below 0\.1 %: a blunder is likely\./);
   assert(await value("document.querySelectorAll('#candidateRows tr').length") > 0);
   await value("[...document.querySelectorAll('#candidateRows tr')].find(row => row.textContent.startsWith('13:')).focus()");
@@ -92,7 +92,7 @@ async function refusals() {
     ['mm', '0.05', "Tape, sigma: '0.05 cm': a sigma of distance is whole millimetres, 0 to 1000.", ''], ['degrees', '6', "Compass, sigma: '6': a sigma of bearing is whole steps, 0 to 1000, or degrees, up to 5.49.", ''],
     ['plays', '1000001', "Plays: '1000001' is no whole number from 1 to 1,000,000.", ''], ['seeds', '1,2,3,4,5,6', 'seed of stream a below its minimum of 2, 8 or 16.', ''],
   ];
-  const good = { text: survex(40, 10), mm: '1', degrees: '0.5', plays: '2000', seeds: SEEDS };
+  const good = { text: survex(40, 10), mm: '1', degrees: '0.5', plays: '20000', seeds: SEEDS };
   for (const [id, to, sentence, line] of wrong) {
     await set(id, to);
     await after(() => click('go'));
