@@ -66,11 +66,13 @@ function refusals() {
 // Where one play more or less changes the verdict: the share is (beyond + 1) / (plays + 1), and one that is just 5 % or 0.1 % is not below it.
 function limits() {
   const [SOUND, POSSIBLE, LIKELY] = ['NO_BLUNDER', 'BLUNDER_POSSIBLE', 'BLUNDER_LIKELY'];
-  const cases = [[1999, 0, LIKELY], [1999, 1, POSSIBLE], [1999, 98, POSSIBLE], [1999, 99, SOUND], [2000, 1, LIKELY], [2000, 2, POSSIBLE], [2000, 99, POSSIBLE], [2000, 100, SOUND]];
+  const cases = [[1999, 0, LIKELY], [1999, 1, POSSIBLE], [1999, 98, POSSIBLE], [1999, 99, SOUND],
+    [2000, 1, LIKELY], [2000, 2, POSSIBLE], [2000, 99, POSSIBLE], [2000, 100, SOUND]];
   const loop = takeLoop(jabulghi, survex(40, 0), { name: 'a.svx', seeds: SEEDS, sigma: [10, 91] });
   for (const [runs, beyond, verdict] of cases) {
     const misses = jabulghi.play(jobOf(loop), runs), { ellipse: e } = judge(loop, misses);
-    const far = Array.from({ length: runs }, (_, j) => reach(e, misses[2 * j] - loop.own[0], misses[2 * j + 1] - loop.own[1])).sort((one, other) => other - one);
+    const reaches = Array.from({ length: runs }, (_, j) => reach(e, misses[2 * j] - loop.own[0], misses[2 * j + 1] - loop.own[1]));
+    const far = reaches.sort((one, other) => other - one);
     const wanted = (far[beyond] + (beyond > 0 ? far[beyond - 1] : 2 * far[0])) / 2, size = Math.sqrt(wanted / reach(e, e.centre[0] + 1, e.centre[1] + 1));
     const judged = judge({ ...loop, miss: [e.centre[0] + size, e.centre[1] + size] }, misses);
     assert.deepEqual([judged.kept.beyond, judged.verdict], [beyond, verdict], `${beyond} of ${runs} plays`);

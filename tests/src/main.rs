@@ -1,6 +1,7 @@
 //! Runs the static library and the programs beside another implementation of documents 01 and 02, written from them alone.
 //! JABULGHI_SEED gives the generated inputs another seed. With the words `checks FOLDER` it writes what the program crates/checks reads and
-//! has to print; with `elsewhere FILE` calls and their answers, for tests/elsewhere.c. It runs in the repository whose library it was linked with.
+//! has to print; with `elsewhere FILE` calls and their answers, for tests/elsewhere.c. It runs in the repository whose
+//! library it was linked with.
 mod cases;
 mod checks;
 mod counts;
