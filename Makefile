@@ -39,7 +39,9 @@ run miss test lib command wasm page windows wheel dist install bench datasheet: 
 endif
 .PHONY: toolchain
 toolchain:
-	@command -v rt >/dev/null || { echo "make: 'rt' of the Rattle kit is missing: it checks the proofs, from which all is built here; without it 'make help', 'make packages', 'make lint' and the archives of a release work." >&2 && exit 2; }
+	@command -v rt >/dev/null || { \
+	    echo "make: 'rt' of the Rattle kit is missing: it checks the proofs, from which all is built here; without it 'make help', 'make packages', 'make lint' and the archives of a release work." >&2; \
+	    exit 2; }
 
 .PHONY: lint packages
 lint:

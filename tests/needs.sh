@@ -1,10 +1,10 @@
 # shellcheck shell=bash
 # What tests share: how they leave out what they cannot run, and how they start what sometimes fails to start.
 
-# left_out WHAT NEEDS PACKAGE..: says that a test is not run and what it needs. tests/run counts these lines.
-left_out() { echo "NOT RUN: $1, which needs $2 (Debian: ${*:3})"; }
+# left_out WHAT NEEDS [PACKAGE..]: says that a test is not run and what it needs. tests/run counts these lines.
+left_out() { echo "NOT RUN: $1, which needs $2${3:+ (Debian: ${*:3})}"; }
 
-# has COMMAND WHAT PACKAGE..: whether a command is there; if not, what needs it is left out.
+# has COMMAND WHAT [PACKAGE..]: whether a command is there; if not, what needs it is left out.
 has() {
     if "$1" --version >/dev/null 2>&1; then return; fi
     left_out "$2" "$1" "${@:3}"
