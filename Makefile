@@ -10,7 +10,10 @@
 # make windows          the library and the command for Windows: target/x86_64-windows/jabulghi.dll, libjabulghi.a and jabulghi.exe
 # make wheel            the package for Python, with the shared library: target/wheel (bindings/python/README.md)
 # make dist             a release: an archive for each of them in target/dist, for people without the toolchain; TARGET=name makes one alone
-# make test             everything: the gate, every proof from nothing and the comparison with another implementation
+# make test             everything: the gate, every proof from nothing and all tests
+# make test PART=name   one part of the tests on what is built, or with CASE=name a case of it; PART=list names the parts
+# make lint             the form of the sources and what their checkers find; FIX=1 formats them first
+# make packages         installs the Debian packages that builds and tests need; tools/packages lists them
 # make bench            times beside plain C and other generators
 # make datasheet        docs/DATASHEET.md with its numbers and pictures, and as a PDF, target/datasheet/datasheet.pdf; [PART=speed] one part of the numbers alone
 # make clean            removes what was built; proofs and the proved library stay
@@ -25,8 +28,27 @@ miss: JOB ?= examples/loop.job
 miss:
 	@tools/run "$(JOB)" misses
 
+PART ?=
+CASE ?=
 test:
-	.ci/run
+	$(if $(PART),tests/run $(PART) $(CASE),.ci/run)
+
+# Where the toolchain is missing, what needs it ends with a sentence; lists do not need it, nor does a library that CLANG compiles from modules.
+ifeq ($(filter list lint,$(PART) $(TARGET))$(CLANG),)
+run miss test lib command wasm page windows wheel dist install bench datasheet: | toolchain
+endif
+.PHONY: toolchain
+toolchain:
+	@command -v rt >/dev/null || { \
+	    echo "make: 'rt' of the Rattle kit is missing: it checks the proofs, from which all is built here; without it 'make help', 'make packages', 'make lint' and the archives of a release work." >&2; \
+	    exit 2; }
+
+.PHONY: lint packages
+lint:
+	tools/lint $(if $(FIX),--fix)
+
+packages:
+	@tools/packages install
 
 TARGET ?=
 lib:
@@ -67,4 +89,4 @@ clean:
 	@tools/clean
 
 help:
-	@sed -n 's/^# //p' Makefile
+	@sed -n 's/^# make/make/p' Makefile

@@ -41,13 +41,13 @@ files=$(find bin include lib share ! -type d 2>/dev/null | LC_ALL=C sort)
 case ${1:-} in
 install)
     for file in $files; do put "$file" "$(place "$file")"; done
-    echo "installed below ${DESTDIR:-}$prefix:" $files
+    echo "installed below ${DESTDIR:-}$prefix: $(echo "$files" | tr '\n' ' ')"
     [ -n "${DESTDIR:-}" ] || [ ! -e lib/libjabulghi.so ] || echo "programs find the shared library once ldconfig was run, or with LD_LIBRARY_PATH=$libdir"
     ;;
 uninstall)
     for file in $files; do rm -f "$(place "$file")"; done
     rmdir "${DESTDIR:-}$libdir/cmake/jabulghi" 2>/dev/null || true
-    echo "removed below ${DESTDIR:-}$prefix:" $files
+    echo "removed below ${DESTDIR:-}$prefix: $(echo "$files" | tr '\n' ' ')"
     ;;
 *) echo "install.sh install | uninstall, with PREFIX, LIBDIR, MANDIR and DESTDIR from the environment" >&2 && exit 2 ;;
 esac

@@ -16,7 +16,9 @@ examples:
 	$(CC) -std=c99 $(CFLAGS) -Iinclude examples/calls.c lib/libjabulghi.a $(LDFLAGS) -o built/calls
 	$(RUN) built/calls >built/calls.out
 	diff examples/calls.expected built/calls.out
-	@if $(CXX) --version >/dev/null 2>&1; then $(CXX) $(CFLAGS) -Iinclude examples/noise.cpp lib/libjabulghi.a $(LDFLAGS) -o built/noise && $(RUN) built/noise >built/noise.out && diff examples/noise.expected built/noise.out; else echo "NOT RUN: examples/noise.cpp, which needs $(CXX)"; fi
+	@if $(CXX) --version >/dev/null 2>&1; then \
+	    $(CXX) $(CFLAGS) -Iinclude examples/noise.cpp lib/libjabulghi.a $(LDFLAGS) -o built/noise && $(RUN) built/noise >built/noise.out && diff examples/noise.expected built/noise.out; \
+	else echo "NOT RUN: examples/noise.cpp, which needs $(CXX)"; fi
 	@echo "the examples print what is expected"
 
 export PREFIX LIBDIR MANDIR DESTDIR

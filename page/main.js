@@ -141,7 +141,8 @@ function listen() {
 }
 
 function example(which) {
-  const texts = { sound: () => EXAMPLES['loop.svx'], forty: () => survex(40, 0), blunder: () => survex(40, 10), ordinary: () => EXAMPLES['dotted.svx'], several: () => survex(12, 0) + survex(16, 14).replace(/S(?!0 )(\d+)/g, 'T$1'), job: () => EXAMPLES['loop.job'], listing: () => jabulghi.list(EXAMPLES['loop.job']) };
+  const texts = { sound: () => EXAMPLES['loop.svx'], forty: () => survex(40, 0), blunder: () => survex(40, 10), ordinary: () => EXAMPLES['dotted.svx'],
+    several: () => survex(12, 0) + survex(16, 14).replace(/S(?!0 )(\d+)/g, 'T$1'), job: () => EXAMPLES['loop.job'], listing: () => jabulghi.list(EXAMPLES['loop.job']) };
   if (texts[which] !== undefined) take(texts[which]());
 }
 

@@ -23,7 +23,9 @@ export const WORDS = {
 };
 
 export const PROVED = [
-  'The misses of the plays are those of jabulghi_play. Proved by machine for every job that it accepts and every play (docs/CONTRACTS.md of the project): play j is what jabulghi_misclosure gives for the listing of the job with the same shots and sigmas and, as seeds, the registers of its record; each play starts where the one before ended. Save the job of a play, and the command’s list and misses give the same miss.',
+  'The misses of the plays are those of jabulghi_play. Proved by machine for every job that it accepts and every play (docs/CONTRACTS.md of the project): ' +
+    'play j is what jabulghi_misclosure gives for the listing of the job with the same shots and sigmas and, as seeds, the registers of its record; ' +
+    'each play starts where the one before ended. Save the job of a play, and the command’s list and misses give the same miss.',
   'The proof is of the source. The compiler that made WebAssembly of it, and this browser, are not proved.',
   'Ordinary Survex is made strict by the sources of jabulghi level, which are not proved: compare what it says it did.',
   'Plain JavaScript, tested beside the command and not proved: reading the text’s kind, counting, the ellipse, the verdict, the closed form, the legs to look at and the pictures.',

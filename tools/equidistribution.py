@@ -66,14 +66,19 @@ def columns(l, t):
 
 
 def module():
-    lines = ["-- The certificates, one for each row: columns, three registers each, that show zeros, and the unit words in the last draw. Made by",
-             "-- tools/equidistribution.py.",
-             "use mathlib.Core.List.{List, [], _∷_}",
-             "use Prim.Native.Nat.{ℕ}"]
+    lines = [
+        "-- The certificates, one for each row: columns, three registers each, that show zeros, and the unit words in the last draw. Made by",
+        "-- tools/equidistribution.py.",
+        "use mathlib.Core.List.{List, [], _∷_}",
+        "use Prim.Native.Nat.{ℕ}",
+    ]
     for l, t in rows():
-        lines += ["", f"-- the highest {l} bits of {t} draws" if l > 1 else f"-- the highest bit of {t} draws",
-                  f"unfoldable pub columns{l} : List ℕ",
-                  f"columns{l} = " + " ∷ ".join(str(x) for x in columns(l, t)) + " ∷ []"]
+        lines += [
+            "",
+            f"-- the highest {l} bits of {t} draws" if l > 1 else f"-- the highest bit of {t} draws",
+            f"unfoldable pub columns{l} : List ℕ",
+            f"columns{l} = " + " ∷ ".join(str(x) for x in columns(l, t)) + " ∷ []",
+        ]
     return "\n".join(lines) + "\n"
 
 
@@ -82,8 +87,10 @@ if __name__ == "__main__":
     if sys.argv[1:] == ["--write"]:
         path.write_text(made)
     else:
+
         def numbers(text):
             return re.findall(r"\d+", text)
+
         if numbers(made) != numbers(path.read_text()):
             sys.exit(f"{path} has other columns")
         print(f"{len(rows())} rows as worked out")

@@ -66,7 +66,9 @@ def nearness(f, size, low, high):
     def at_most(n, m):
         return n <= m and (a + last) ** 2 * m * m * d * g <= (m - n) ** 2 * c * e * b * b
 
-    short = first(lambda k: low * PARTS > 2**64 * (PARTS - k) or at_least(low * PARTS, 2**64 * (PARTS - k)), PARTS - 1)
+    short = first(
+        lambda k: low * PARTS > 2**64 * (PARTS - k) or at_least(low * PARTS, 2**64 * (PARTS - k)), PARTS - 1
+    )
     over = first(lambda k: at_most(high * PARTS, 2**64 * (PARTS + k)), PARTS)
     return size, short, over
 
@@ -78,7 +80,9 @@ def rows(tail_rows):
 
 def stored(name):
     """The rows of specs/: size, short, over."""
-    return [tuple(int(n) for n in r) for r in re.findall(r"near (\S+) (\S+) (\S+)", tails.found(PATH.read_text(), name))]
+    return [
+        tuple(int(n) for n in r) for r in re.findall(r"near (\S+) (\S+) (\S+)", tails.found(PATH.read_text(), name))
+    ]
 
 
 if __name__ == "__main__":

@@ -33,18 +33,48 @@ def turn(part):
 LOG, ROTATION = 2**40, 2**30
 # (source file, constant, list, comment, entries)
 TABLES = [
-    ("logarithms", "LOG_COARSE", "logCoarseList", "A: ln(h/256) for h from 256 to 511, at 2^40.",
-     [nearest(log(mpf(h) / 256), LOG) for h in range(256, 512)]),
-    ("logarithms", "LOG_FINE", "logFineList", "B: ln(1 + i/65536) for i from 0 to 255, at 2^40.",
-     [nearest(log(1 + mpf(i) / 65536), LOG) for i in range(256)]),
-    ("cosines", "COS_COARSE", "cosCoarseList", "C: the cosine of a/512 of a turn for a from 0 to 127, at 2^30.",
-     [nearest(cos(turn(mpf(a) / 512)), ROTATION) for a in range(128)]),
-    ("sines", "SIN_COARSE", "sinCoarseList", "D: the sine of a/512 of a turn for a from 0 to 127, at 2^30.",
-     [nearest(sin(turn(mpf(a) / 512)), ROTATION) for a in range(128)]),
-    ("cosines", "COS_FINE", "cosFineList", "c: the cosine of b/65536 of a turn for b from 0 to 127, at 2^30.",
-     [nearest(cos(turn(mpf(b) / 65536)), ROTATION) for b in range(128)]),
-    ("sines", "SIN_FINE", "sinFineList", "s: the sine of b/65536 of a turn for b from 0 to 127, at 2^30.",
-     [nearest(sin(turn(mpf(b) / 65536)), ROTATION) for b in range(128)]),
+    (
+        "logarithms",
+        "LOG_COARSE",
+        "logCoarseList",
+        "A: ln(h/256) for h from 256 to 511, at 2^40.",
+        [nearest(log(mpf(h) / 256), LOG) for h in range(256, 512)],
+    ),
+    (
+        "logarithms",
+        "LOG_FINE",
+        "logFineList",
+        "B: ln(1 + i/65536) for i from 0 to 255, at 2^40.",
+        [nearest(log(1 + mpf(i) / 65536), LOG) for i in range(256)],
+    ),
+    (
+        "cosines",
+        "COS_COARSE",
+        "cosCoarseList",
+        "C: the cosine of a/512 of a turn for a from 0 to 127, at 2^30.",
+        [nearest(cos(turn(mpf(a) / 512)), ROTATION) for a in range(128)],
+    ),
+    (
+        "sines",
+        "SIN_COARSE",
+        "sinCoarseList",
+        "D: the sine of a/512 of a turn for a from 0 to 127, at 2^30.",
+        [nearest(sin(turn(mpf(a) / 512)), ROTATION) for a in range(128)],
+    ),
+    (
+        "cosines",
+        "COS_FINE",
+        "cosFineList",
+        "c: the cosine of b/65536 of a turn for b from 0 to 127, at 2^30.",
+        [nearest(cos(turn(mpf(b) / 65536)), ROTATION) for b in range(128)],
+    ),
+    (
+        "sines",
+        "SIN_FINE",
+        "sinFineList",
+        "s: the sine of b/65536 of a turn for b from 0 to 127, at 2^30.",
+        [nearest(sin(turn(mpf(b) / 65536)), ROTATION) for b in range(128)],
+    ),
 ]
 LN_TWO = nearest(log(mpf(2)), LOG)
 ENTRIES = {const: entries for _, const, _, _, entries in TABLES}
@@ -118,7 +148,7 @@ def arms(crate, file, function):
 def write_arms(crate, file, function, first, written, entries):
     before, _, after = arms(crate, file, function)
     lines = [f"        {n} => {written(x)},\n" for n, x in enumerate(entries, first)]
-    if not after.startswith("        _"): # the last entry stands in the last arm
+    if not after.startswith("        _"):  # the last entry stands in the last arm
         lines[-1] = f"        _ => {written(entries[-1])},\n"
     (CRATES / crate / "src" / f"{file}.rt").write_text(before + "".join(lines) + after)
 
@@ -133,7 +163,9 @@ def path(name):
 
 
 def source(name):
-    out = [f"// The {name}, each entry the nearest whole number to its exact value (document 01, 'Radius' and 'Angle and sample')."]
+    out = [
+        f"// The {name}, each entry the nearest whole number to its exact value (document 01, 'Radius' and 'Angle and sample')."
+    ]
     for file, const, _, comment, entries in TABLES:
         if file == name:
             out += ["", f"// {comment}", f"pub const {const}: [u64; {len(entries)}] = ["]
@@ -144,9 +176,12 @@ def source(name):
 
 
 def lists():
-    out = ["-- The entries of the tables, each the nearest whole number to its exact value (document 01, 'Radius' and 'Angle and sample').",
-           "-- Assumes nothing.",
-           "use Prim.Native.Nat.{ℕ}", "use mathlib.Core.List.{List, [], _∷_}"]
+    out = [
+        "-- The entries of the tables, each the nearest whole number to its exact value (document 01, 'Radius' and 'Angle and sample').",
+        "-- Assumes nothing.",
+        "use Prim.Native.Nat.{ℕ}",
+        "use mathlib.Core.List.{List, [], _∷_}",
+    ]
     for _, _, name, comment, entries in TABLES:
         out += ["", f"-- {comment}", f"abbrev pub {name} : List ℕ", f"{name} ="]
         out += rows([f"{x}" for x in entries] + ["[]"], " ∷ ", "    ")
@@ -184,7 +219,10 @@ def compare():
         bad = [i for i in range(max(len(numbers), len(entries))) if numbers[i : i + 1] != entries[i : i + 1]]
         wrong += len(bad)
         print(f"{where}: {len(numbers)} entries, {len(bad)} differ {bad[:5] or ''}")
-    found = {"LN_TWO": read(path("logarithms").read_text(), "LN_TWO: u64 =", ";"), "lnTwoValue": read(antt, "\nlnTwoValue =", "\n")}
+    found = {
+        "LN_TWO": read(path("logarithms").read_text(), "LN_TWO: u64 =", ";"),
+        "lnTwoValue": read(antt, "\nlnTwoValue =", "\n"),
+    }
     for where, numbers in found.items():
         wrong += numbers != [LN_TWO]
         print(f"{where}: {numbers}, {'equal' if numbers == [LN_TWO] else 'differs'}")

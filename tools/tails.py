@@ -26,8 +26,8 @@ TERMS = 120  # of the series at which a pass begins
 def table(name):
     """The entries of a list of crate `tables`."""
     text = (CRATES / "tables" / "specs" / "Values.antt").read_text()
-    text = text[text.index(f"{name} =\n") + len(name) + 2:]
-    return [int(n) for n in re.findall(r"\d+", text[:text.index("[]")])]
+    text = text[text.index(f"{name} =\n") + len(name) + 2 :]
+    return [int(n) for n in re.findall(r"\d+", text[: text.index("[]")])]
 
 
 C, D, c, s = (table(n) for n in ("cosCoarseList", "sinCoarseList", "cosFineList", "sinFineList"))
@@ -80,7 +80,9 @@ def least(b):
 
 def largest(f):
     """The largest size: that of the largest F, with a sine or cosine of 1."""
-    limit = int(re.search(r"^radiusLimit = (\d+)$", (CRATES / "radius" / "specs" / "Steps.antt").read_text(), re.M).group(1))
+    limit = int(
+        re.search(r"^radiusLimit = (\d+)$", (CRATES / "radius" / "specs" / "Steps.antt").read_text(), re.M).group(1)
+    )
     return (limit - 1 << 30) + (1 << 49 - f) >> 50 - f
 
 
@@ -101,7 +103,9 @@ def stored(path, name):
 
 
 def listed(name, worked_out):
-    return f"{name} =\n    " + "\n    ∷ ".join("row " + " ".join(f"{n:_}" for n in r) for r in worked_out) + "\n    ∷ []\n"
+    return (
+        f"{name} =\n    " + "\n    ∷ ".join("row " + " ".join(f"{n:_}" for n in r) for r in worked_out) + "\n    ∷ []\n"
+    )
 
 
 def compare():

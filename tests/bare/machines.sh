@@ -1,4 +1,6 @@
+# shellcheck shell=bash
 # For scripts that compile programs without a system and run them under qemu, with the start code and the layout of memory of examples/firmware.
+. tests/needs.sh
 
 # A row: name in tools/target's table; gcc's options; qemu's machine; where its flash and its RAM start, and their sizes.
 bare_machines() {
@@ -38,9 +40,15 @@ bare_compile() {
         -nostartfiles -Wl,--gc-sections -Wl,--wrap=main -Wl,-z,noexecstack -Lexamples/firmware -T "$bare/$machine.ld" -o "$2"
 }
 
-# bare_run PROGRAM [OPTION..]: runs it, at most 100 s; what it prints comes on standard output.
-bare_run() {
+# bare_once FILE PROGRAM [OPTION..]: runs it, at most 200 s; what it prints goes into FILE.
+bare_once() {
     # shellcheck disable=SC2086
-    timeout 100 $emulator -M "$machine" -display none -monitor none -serial none -chardev stdio,id=text,signal=off \
-        -semihosting-config enable=on,target=native,chardev=text "${@:2}" -kernel "$1" </dev/null
+    timeout 200 $emulator -M "$machine" -display none -monitor none -serial none -chardev stdio,id=text,signal=off \
+        -semihosting-config enable=on,target=native,chardev=text "${@:3}" -kernel "$2" </dev/null >"$1"
+}
+
+# bare_run PROGRAM [OPTION..]: runs it, once more if the emulator fails; what it prints comes on standard output.
+bare_run() {
+    twice bare_once "$1.printed" "$@"
+    cat "$1.printed"
 }

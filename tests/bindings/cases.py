@@ -65,7 +65,9 @@ def on_record(name, numbers, before, after):
     else:  # the block stands between marked margins
         mark, length = b"\xa5" * MARGIN, len(before[1])
         whole = bytearray(mark + before[1] + mark)
-        code = answer(getattr(rig, name), memoryview(whole)[MARGIN : MARGIN + length].cast("i" if name.endswith("18") else "h"))[0]
+        code = answer(
+            getattr(rig, name), memoryview(whole)[MARGIN : MARGIN + length].cast("i" if name.endswith("18") else "h")
+        )[0]
         right = bytes(whole) == mark + after[1] + mark
     return code, right and bytes(rig) == after[0]
 
@@ -79,12 +81,16 @@ def lines(name, numbers, before, after):
 def sums(name, numbers, before, after):
     code, line, miss = answer(getattr(jabulghi, name), before[0])
     millimetres = () if code else (miss.east, miss.north) if name == "misclosure" else miss.east + miss.north
-    return code, line == int.from_bytes(after[3], "little") and (code or (words("q", miss.sums), words("q", millimetres)) == (after[1], after[2]))
+    return code, line == int.from_bytes(after[3], "little") and (
+        code or (words("q", miss.sums), words("q", millimetres)) == (after[1], after[2])
+    )
 
 
 def play(name, numbers, before, after):
     code, line, misses = answer(jabulghi.play, before[0], numbers[2], numbers[1])
-    return code, line == int.from_bytes(after[2], "little") and (code or b"".join(words("q", row) for row in misses) == after[1])
+    return code, line == int.from_bytes(after[2], "little") and (
+        code or b"".join(words("q", row) for row in misses) == after[1]
+    )
 
 
 def window(name, numbers, before, after):
@@ -93,7 +99,9 @@ def window(name, numbers, before, after):
 
     if "make" in name:
         code, _, kept = answer(Window, numbers[0])
-        return code, code or [kept.size, kept.held, kept.sum, kept.squares] == [int.from_bytes(after[j], "little", signed=True) for j in (0, 1, 4, 5)]
+        return code, code or [kept.size, kept.held, kept.sum, kept.squares] == [
+            int.from_bytes(after[j], "little", signed=True) for j in (0, 1, 4, 5)
+        ]
     kept = Window.from_bytes(joined(before))
     one = "push_all" not in name
     value = struct.unpack("<h", struct.pack("<H", numbers[0] & 0xFFFF))[0] if one else memoryview(before[6]).cast("h")
@@ -102,23 +110,40 @@ def window(name, numbers, before, after):
 
 def marks(name, numbers, before, after):
     kept, rig = Marks.from_bytes(b"".join(before[:4])), Generator.from_bytes(before[4])
-    code = answer(*((kept.drop,) if "drop" in name else (kept.save, rig) if "save" in name else (kept.return_to, rig)), before[5])[0]
+    code = answer(
+        *((kept.drop,) if "drop" in name else (kept.save, rig) if "save" in name else (kept.return_to, rig)), before[5]
+    )[0]
     return code, bytes(kept) == b"".join(after[:4]) and bytes(rig) == after[4]
 
 
-KINDS = {"seed": seed, "sample": sample, "sample18": sample, "list": lines, "legs": lines, "misclosure": sums, "intervals": sums, "play": play}
+KINDS = {
+    "seed": seed,
+    "sample": sample,
+    "sample18": sample,
+    "list": lines,
+    "legs": lines,
+    "misclosure": sums,
+    "intervals": sums,
+    "play": play,
+}
 seen, wrong, left_out = {}, 0, 0
 while place < len(content):
     name, returned, numbers, lent = written()
     if name in ("list", "legs") and returned == 10:
         left_out += 1
         continue
-    call = KINDS.get(name) or (window if name.startswith("window") else marks if name.startswith("marks") else on_record)
+    call = KINDS.get(name) or (
+        window if name.startswith("window") else marks if name.startswith("marks") else on_record
+    )
     code, right = call(name, numbers, [b for b, _ in lent], [a for _, a in lent])
     seen[name] = seen.get(name, 0) + 1
     if code != returned or not right:
         wrong += 1
-        print(f"DIFFERENT: {name} {numbers}: {code}, not {returned}" if code != returned else f"DIFFERENT: {name} {numbers}: memory, text or line")
+        print(
+            f"DIFFERENT: {name} {numbers}: {code}, not {returned}"
+            if code != returned
+            else f"DIFFERENT: {name} {numbers}: memory, text or line"
+        )
 assert set(seen) == set(jabulghi._CALLS), set(jabulghi._CALLS) - set(seen)
 print(f"Python: {sum(seen.values())} calls, {wrong} wrong ({left_out} left out: texts refused for the caller's room)")
 sys.exit(wrong != 0)

@@ -44,14 +44,35 @@ def refusals():
         full.save(Generator(SEEDS), f"m{j}")
     zeros = Generator.from_bytes(bytes(40))
     rows = [
-        (2, jabulghi.sample, 2**48, 0), (3, jabulghi.sample18, 0, 65536), (4, Generator(SEEDS).block, 3), (5, jabulghi.list_job, bytes(60001)),
-        (6, jabulghi.list_job, "x"), (7, jabulghi.list_job, JOB.replace(b"1000 0", b"1000001 0")), (8, jabulghi.list_job, ""),
-        (9, jabulghi.list_job, JOB + b"(shot A B 1 1)\n" * 499), (11, Generator, (1, 8, 16, 2, 8, 16)), (12, Generator, (2, 8, 16, 2, 8, 15)),
-        (11, zeros.pair), (13, at_end.pair), (13, at_end.skip, 1), (14, asked.pair18), (15, Generator(SEEDS).take), (15, Generator(SEEDS).give_up),
-        (16, Generator(SEEDS).ask, 1000001), (16, asked.take, 4), (17, Window, 4097), (17, Window, 0), (18, marks.drop, ""), (18, marks.save, Generator(SEEDS), "ä"),
-        (19, marks.return_to, Generator(SEEDS), "none"), (20, full.save, Generator(SEEDS), "one"), (21, jabulghi.legs, ""),
-        (22, jabulghi.legs, "*data normal from to tape compass clino\nA B 1001 0 0\n"), (23, jabulghi.play, JOB.replace(b"B A", b"C A"), 1),
-        (24, jabulghi.misclosure, "FROM TO MM STEP\nA B 1008243 0\n"), (25, jabulghi.intervals, "FROM TO LOW HIGH STEP\nA B 2 1 0\n"),
+        (2, jabulghi.sample, 2**48, 0),
+        (3, jabulghi.sample18, 0, 65536),
+        (4, Generator(SEEDS).block, 3),
+        (5, jabulghi.list_job, bytes(60001)),
+        (6, jabulghi.list_job, "x"),
+        (7, jabulghi.list_job, JOB.replace(b"1000 0", b"1000001 0")),
+        (8, jabulghi.list_job, ""),
+        (9, jabulghi.list_job, JOB + b"(shot A B 1 1)\n" * 499),
+        (11, Generator, (1, 8, 16, 2, 8, 16)),
+        (12, Generator, (2, 8, 16, 2, 8, 15)),
+        (11, zeros.pair),
+        (13, at_end.pair),
+        (13, at_end.skip, 1),
+        (14, asked.pair18),
+        (15, Generator(SEEDS).take),
+        (15, Generator(SEEDS).give_up),
+        (16, Generator(SEEDS).ask, 1000001),
+        (16, asked.take, 4),
+        (17, Window, 4097),
+        (17, Window, 0),
+        (18, marks.drop, ""),
+        (18, marks.save, Generator(SEEDS), "ä"),
+        (19, marks.return_to, Generator(SEEDS), "none"),
+        (20, full.save, Generator(SEEDS), "one"),
+        (21, jabulghi.legs, ""),
+        (22, jabulghi.legs, "*data normal from to tape compass clino\nA B 1001 0 0\n"),
+        (23, jabulghi.play, JOB.replace(b"B A", b"C A"), 1),
+        (24, jabulghi.misclosure, "FROM TO MM STEP\nA B 1008243 0\n"),
+        (25, jabulghi.intervals, "FROM TO LOW HIGH STEP\nA B 2 1 0\n"),
         (13, jabulghi.play, JOB, 1, 2**64 - 1),
     ]
     for number, call, *values in rows:
@@ -89,23 +110,70 @@ def margins():
 def misuse():
     rig = Generator(SEEDS)
     before = bytes(rig)
-    for samples in (bytes(8), memoryview(array.array("h", [0, 0])).toreadonly(), array.array("H", [0, 0]), array.array("d", [0, 0]), bytearray(8), memoryview(array.array("h", [0] * 8))[::2],
-                    1.0, "8", None, [0, 0], (1, 2), object()):
+    for samples in (
+        bytes(8),
+        memoryview(array.array("h", [0, 0])).toreadonly(),
+        array.array("H", [0, 0]),
+        array.array("d", [0, 0]),
+        bytearray(8),
+        memoryview(array.array("h", [0] * 8))[::2],
+        1.0,
+        "8",
+        None,
+        [0, 0],
+        (1, 2),
+        object(),
+    ):
         for name in ("block", "look", "block18", "look18"):
             raises((TypeError, ValueError, BufferError), getattr(rig, name), samples)
-    raises(ValueError, rig.block, memoryview(bytearray(9))[1:].cast("h"))  # misaligned: the memory of a bytearray starts at an even place
+    raises(
+        ValueError, rig.block, memoryview(bytearray(9))[1:].cast("h")
+    )  # misaligned: the memory of a bytearray starts at an even place
     for length in (-2, 2**62 + 2, 2**64, 2**62):
         raises((OverflowError, MemoryError, ValueError), rig.block, length)
-    for call, values in ((Generator, ((1,) * 5,)), (Generator, ((2**32 + 2, 8, 16, 2, 8, 16),)), (Generator, (("2", 8, 16, 2, 8, 16),)), (rig.skip, (-1,)), (rig.skip, (2**64,)), (rig.skip, (1.5,)),
-                         (rig.ask, (2**32,)), (jabulghi.sample, (2**64, 0)), (jabulghi.sample, (0, 2**32)), (Window(4).push, (32768,)), (Window(4).push, ("1",)), (Window(4).push_all, ([1],)),
-                         (Window(4).push_all, (bytes(4),)), (Window, (2**32 + 4,)), (Marks().save, (None, "a")), (Marks().save, ("a", rig)), (Marks().drop, (5,)), (jabulghi.list_job, (5,)),
-                         (jabulghi.play, (JOB, -1)), (jabulghi.play, (JOB, 2**60)), (jabulghi.play, (JOB, 2**57)), (Generator.from_bytes, (bytes(39),)), (hash, (rig,))):
+    for call, values in (
+        (Generator, ((1,) * 5,)),
+        (Generator, ((2**32 + 2, 8, 16, 2, 8, 16),)),
+        (Generator, (("2", 8, 16, 2, 8, 16),)),
+        (rig.skip, (-1,)),
+        (rig.skip, (2**64,)),
+        (rig.skip, (1.5,)),
+        (rig.ask, (2**32,)),
+        (jabulghi.sample, (2**64, 0)),
+        (jabulghi.sample, (0, 2**32)),
+        (Window(4).push, (32768,)),
+        (Window(4).push, ("1",)),
+        (Window(4).push_all, ([1],)),
+        (Window(4).push_all, (bytes(4),)),
+        (Window, (2**32 + 4,)),
+        (Marks().save, (None, "a")),
+        (Marks().save, ("a", rig)),
+        (Marks().drop, (5,)),
+        (jabulghi.list_job, (5,)),
+        (jabulghi.play, (JOB, -1)),
+        (jabulghi.play, (JOB, 2**60)),
+        (jabulghi.play, (JOB, 2**57)),
+        (Generator.from_bytes, (bytes(39),)),
+        (hash, (rig,)),
+    ):
         raises((TypeError, ValueError, OverflowError, MemoryError), call, *values)
     if numpy is not None:
-        assert list(Generator(SEEDS).block(numpy.int64(4))) == list(rig.look(numpy.uint8(4))) and jabulghi.play(JOB, 0).shape == (0, 2)
-        assert Generator(SEEDS).block(numpy.zeros((3, 4), "i2")).tolist() == rig.look(12).reshape(3, 4).tolist() and jabulghi.play(JOB, 3).shape == (3, 2)
-        for samples in (numpy.zeros(8, ">i2"), numpy.zeros(8, "u2"), numpy.zeros(8, "f4"), numpy.zeros(8, "i2")[::2], numpy.frombuffer(bytearray(9), "u1")[1:].view("i2"), numpy.zeros((4, 4), "i2").T,
-                        numpy.broadcast_to(numpy.zeros(1, "i2"), 8), numpy.zeros(8, "i8")):
+        assert list(Generator(SEEDS).block(numpy.int64(4))) == list(rig.look(numpy.uint8(4))) and jabulghi.play(
+            JOB, 0
+        ).shape == (0, 2)
+        assert Generator(SEEDS).block(numpy.zeros((3, 4), "i2")).tolist() == rig.look(12).reshape(
+            3, 4
+        ).tolist() and jabulghi.play(JOB, 3).shape == (3, 2)
+        for samples in (
+            numpy.zeros(8, ">i2"),
+            numpy.zeros(8, "u2"),
+            numpy.zeros(8, "f4"),
+            numpy.zeros(8, "i2")[::2],
+            numpy.frombuffer(bytearray(9), "u1")[1:].view("i2"),
+            numpy.zeros((4, 4), "i2").T,
+            numpy.broadcast_to(numpy.zeros(1, "i2"), 8),
+            numpy.zeros(8, "i8"),
+        ):
             raises((TypeError, ValueError, BufferError), rig.block, samples)
         assert not numpy.frombuffer(bytearray(9), "u1")[1:].view("i2").flags.aligned
     assert bytes(rig) == before
@@ -138,7 +206,11 @@ def beside(count):
     for done in range(count):
         if done % 1000 == 0:  # another record, of any kind
             unfit = numbers.randrange(48)
-            words = [1 if j == unfit else numbers.randrange(16, 2**32) for j in range(6)] + numbers.choice(([0, 0], [2**32 - 9, 2**32 - 1], [5, 7])) + numbers.choice(([0, 0], [1, 3]))
+            words = (
+                [1 if j == unfit else numbers.randrange(16, 2**32) for j in range(6)]
+                + numbers.choice(([0, 0], [2**32 - 9, 2**32 - 1], [5, 7]))
+                + numbers.choice(([0, 0], [1, 3]))
+            )
             raw[:] = words
             ours = Generator.from_bytes(bytes(raw))
         name, n = numbers.choice(names), numbers.randrange(12)
@@ -148,7 +220,9 @@ def beside(count):
         if two:
             code = getattr(library, "jabulghi_" + name)(raw, memory)
         elif name in ("skip", "ask"):
-            code = getattr(library, "jabulghi_" + name)(raw, ctypes.c_uint64(n) if name == "skip" else ctypes.c_uint32(n))
+            code = getattr(library, "jabulghi_" + name)(
+                raw, ctypes.c_uint64(n) if name == "skip" else ctypes.c_uint32(n)
+            )
         elif name == "give_up":
             code = library.jabulghi_give_up(raw)
         else:
@@ -161,7 +235,9 @@ def beside(count):
         assert number == code and bytes(ours) == bytes(raw), (done, name, n)
         assert number or got is None or list(got) == list(memory), (done, name, n)
         seen[name, int(number)] = seen.get((name, int(number)), 0) + 1
-    assert {number for _, number in seen} >= {0, 4, 11, 12, 13, 14, 15, 16} and {name for name, number in seen if number == 0} == set(names), seen
+    assert {number for _, number in seen} >= {0, 4, 11, 12, 13, 14, 15, 16} and {
+        name for name, number in seen if number == 0
+    } == set(names), seen
 
 
 names()
@@ -170,4 +246,7 @@ margins()
 misuse()
 kept()
 beside(calls)
-print(f"Python {'with numpy ' + numpy.__version__ if numpy else 'without numpy'}: {len(jabulghi._CALLS)} calls bound, {rows} refusals, margins, misuse, threads; {calls} random calls as through the C interface")
+print(
+    f"Python {'with numpy ' + numpy.__version__ if numpy else 'without numpy'}: {len(jabulghi._CALLS)} calls bound, {rows} refusals, margins, "
+    f"misuse, threads; {calls} random calls as through the C interface"
+)

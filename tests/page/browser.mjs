@@ -19,7 +19,8 @@ async function after(act) {
   await act();
   await browser.until(`Number(document.body.dataset.done) > ${before}`);
 }
-const set = (id, to) => value(`(() => { const it = document.getElementById('${id}'); it.value = ${JSON.stringify(to)}; it.dispatchEvent(new Event('input', { bubbles: true })); it.dispatchEvent(new Event('change', { bubbles: true })); })()`);
+const set = (id, to) => value(`(() => { const it = document.getElementById('${id}'); it.value = ${JSON.stringify(to)};
+  it.dispatchEvent(new Event('input', { bubbles: true })); it.dispatchEvent(new Event('change', { bubbles: true })); })()`);
 const click = id => value(`document.getElementById('${id}').click()`);
 const isOld = () => value("document.getElementById('results').classList.contains('old') && document.getElementById('csv').disabled && !document.getElementById('oldResults').hidden");
 
@@ -35,7 +36,8 @@ async function loaded() {
 async function comesIn() {
   const windows = survex(40, 10).replace(/\n/g, '\r\n');
   await value("document.getElementById('text').select(); document.getElementById('text').focus()");
-  await after(() => value(`(() => { const it = document.getElementById('text'); it.dispatchEvent(new ClipboardEvent('paste', { bubbles: true })); document.execCommand('insertText', false, ${JSON.stringify(survex(40, 10))}); })()`));
+  await after(() => value(`(() => { const it = document.getElementById('text'); it.dispatchEvent(new ClipboardEvent('paste', { bubbles: true }));
+    document.execCommand('insertText', false, ${JSON.stringify(survex(40, 10))}); })()`));
   assert.match(await text('verdict'), /look for a blunder\.$/);
   const files = `const given = new DataTransfer(); given.items.add(new File([${JSON.stringify(windows)}], 'blunder.svx'));`;
   await after(() => value(`(() => { ${files} document.body.dispatchEvent(new DragEvent('drop', { bubbles: true, dataTransfer: given })); })()`));
@@ -86,10 +88,12 @@ async function saves() {
 // A refusal: the sentence, the line selected, the old results grey and not to be saved.
 async function refusals() {
   const wrong = [
-    ['text', `${DATA}A B 5 90 0\nB A 1001 270 0\n`, 'Line 3: tape above 1000.', 'B A 1001 270 0'], ['text', `${DATA}A B 5 90 0\nC D 5 90 0\n`, 'Line 3: shot does not start at the last station.', 'C D 5 90 0'],
+    ['text', `${DATA}A B 5 90 0\nB A 1001 270 0\n`, 'Line 3: tape above 1000.', 'B A 1001 270 0'], ['text', `${DATA}A B 5 90 0\nC D 5 90 0\n`, 'Line 3: shot does not start at the last station.',
+      'C D 5 90 0'],
     ['text', `${DATA}A B 5 90 0\nB C 5 90 0`, 'the text: starts at A, ends at C: no loop.', ''], ['text', '*begin\n', 'Line 1: *begin has no *end.', '*begin'],
     ['text', '(seeds (a 2 8 16) (b 2 8 16))\n(sigma 4 10)\n(shot A B 5 65536)\n', 'Line 3: bearing above 65535.', '(shot A B 5 65536)'], ['text', '', 'Line 1: no data line.', ''],
-    ['mm', '0.05', "Tape, sigma: '0.05 cm': a sigma of distance is whole millimetres, 0 to 1000.", ''], ['degrees', '6', "Compass, sigma: '6': a sigma of bearing is whole steps, 0 to 1000, or degrees, up to 5.49.", ''],
+    ['mm', '0.05', "Tape, sigma: '0.05 cm': a sigma of distance is whole millimetres, 0 to 1000.", ''],
+    ['degrees', '6', "Compass, sigma: '6': a sigma of bearing is whole steps, 0 to 1000, or degrees, up to 5.49.", ''],
     ['plays', '1000001', "Plays: '1000001' is no whole number from 1 to 1,000,000.", ''], ['seeds', '1,2,3,4,5,6', 'seed of stream a below its minimum of 2, 8 or 16.', ''],
   ];
   const good = { text: survex(40, 10), mm: '1', degrees: '0.5', plays: '20000', seeds: SEEDS };
@@ -151,7 +155,8 @@ async function times() {
 async function looks() {
   mkdirSync(pictures, { recursive: true });
   await set('plays', '10000');
-  for (const [name, which, width, dark] of [['sound', 'forty', 1400, false], ['blunder', 'blunder', 1400, true], ['narrow', 'blunder', 360, false], ['several', 'several', 1000, false], ['large', 'sound', 3840, false]]) {
+  for (const [name, which, width, dark] of [['sound', 'forty', 1400, false], ['blunder', 'blunder', 1400, true], ['narrow', 'blunder', 360, false], ['several', 'several', 1000, false], ['large',
+    'sound', 3840, false]]) {
     await browser.look(width, 900, dark);
     await after(() => set('example', which));
     assert(await browser.picture(join(pictures, `${name}.png`)) <= width, `${name}: wider than the screen`);

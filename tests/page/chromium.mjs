@@ -7,6 +7,17 @@ import { join } from 'node:path';
 const OPTIONS = ['--headless=new', '--no-sandbox', '--disable-gpu', '--hide-scrollbars', '--no-first-run', '--disable-background-networking', '--remote-debugging-pipe', 'about:blank'];
 export const wait = ms => new Promise(done => { setTimeout(done, ms); });
 
+// A browser has so many seconds to start, and is started once more if it does not.
+export function within(seconds, promise) {
+  let timer;
+  const late = new Promise((_, fail) => { timer = setTimeout(() => fail(new Error(`not within ${seconds} s`)), 1000 * seconds); });
+  return Promise.race([promise, late]).finally(() => clearTimeout(timer));
+}
+export const twice = start => start().catch(error => {
+  console.error(`once more: ${error.message}`);
+  return start();
+});
+
 export class Chromium {
   folder = mkdtempSync(join(tmpdir(), 'jabulghi-chromium-'));
   requests = [];
@@ -14,15 +25,21 @@ export class Chromium {
   #waiting = new Map();
   #last = 0;
 
-  static async start(name) {
-    const made = new Chromium();
-    made.browser = spawn(name, [...OPTIONS, `--user-data-dir=${join(made.folder, 'profile')}`], { stdio: ['ignore', 'ignore', 'ignore', 'pipe', 'pipe'] });
-    made.#listen(made.browser.stdio[4]);
-    const { targetId } = await made.#send('Target.createTarget', { url: 'about:blank' });
-    ({ sessionId: made.session } = await made.#send('Target.attachToTarget', { targetId, flatten: true }));
-    for (const part of ['Page', 'Runtime', 'Network', 'Log']) await made.call(`${part}.enable`);
-    await made.#send('Browser.setDownloadBehavior', { behavior: 'allow', downloadPath: made.folder });
-    return made;
+  static start(name) {
+    return twice(async () => {
+      const made = new Chromium();
+      await within(30, made.#open(name)).catch(error => { made.#kill(); throw error; });
+      return made;
+    });
+  }
+
+  async #open(name) {
+    this.browser = spawn(name, [...OPTIONS, `--user-data-dir=${join(this.folder, 'profile')}`], { stdio: ['ignore', 'ignore', 'ignore', 'pipe', 'pipe'] });
+    this.#listen(this.browser.stdio[4]);
+    const { targetId } = await this.#send('Target.createTarget', { url: 'about:blank' });
+    ({ sessionId: this.session } = await this.#send('Target.attachToTarget', { targetId, flatten: true }));
+    for (const part of ['Page', 'Runtime', 'Network', 'Log']) await this.call(`${part}.enable`);
+    await this.#send('Browser.setDownloadBehavior', { behavior: 'allow', downloadPath: this.folder });
   }
 
   // Messages end with a NUL.
@@ -77,6 +94,10 @@ export class Chromium {
     const ended = new Promise(done => { this.browser.on('exit', done); });
     await this.#send('Browser.close').catch(() => {});
     await Promise.race([ended, wait(5000)]);
+    this.#kill();
+  }
+
+  #kill() {
     this.browser.kill('SIGKILL');
     rmSync(this.folder, { recursive: true, force: true, maxRetries: 5, retryDelay: 200 });
   }

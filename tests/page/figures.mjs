@@ -57,7 +57,8 @@ const many = count => Array.from({ length: count }, (_, j) => `A${j} A${(j + 1) 
 function refusals() {
   const texts = [[''], [DATA], [`${DATA}A B 5 90 0`], [`${DATA}A B 5 90 0\r\n`], [`${DATA}A B 1001 90 0\n`], [`${DATA}A B 5 361 0\n`], [`${DATA}A B 5 90 1\n`], [`${DATA}A.1 B 5 90 0\n`],
     [`*begin\n${DATA}`], [`; a\n${DATA}\n; b\nA B 5 90 0\n\nC D 5 90 0\n`], [`${DATA}A B 5 90 0\nB C 5 90 0\n`], [`${DATA}A B 5 90 0\nB C 5 90 0\nC B 5 270 0\n`], [DATA + many(501)],
-    ['x\n', 'a.job'], [HEAD, 'a.job'], [`${HEAD}(shot A B 5000 65536)\n`, 'a.job'], [`${HEAD}(shot A B 5000 1)\n(shot C A 5000 1)\n`, 'a.job'], [`(seeds (a 1 8 16) (b 2 8 16))\n(sigma 4 10)\n${square}`, 'a.job'],
+    ['x\n', 'a.job'], [HEAD, 'a.job'], [`${HEAD}(shot A B 5000 65536)\n`, 'a.job'], [`${HEAD}(shot A B 5000 1)\n(shot C A 5000 1)\n`, 'a.job'],
+      [`(seeds (a 1 8 16) (b 2 8 16))\n(sigma 4 10)\n${square}`, 'a.job'],
     [example('tape-book.listing'), 'a.listing'], ['FROM TO DISTANCE BEARING\n', 'a.listing'], [jabulghi.list(HEAD + square).replace('END 2', 'END 3'), 'a.listing']];
   for (const [text, name = 'a.svx'] of texts) refused(text, name);
   return texts.length;
@@ -98,9 +99,11 @@ function plan() {
 }
 
 function settings() {
-  assert.deepEqual([wholeMillimetres('0', 'mm'), wholeMillimetres('1.2', 'cm'), wholeMillimetres('1000', 'mm'), wholeSteps('0'), wholeSteps('0.5'), wholeSteps('0.05'), wholeSteps('5.49')], [0, 12, 1000, 0, 91, 9, 999]);
+  assert.deepEqual([wholeMillimetres('0', 'mm'), wholeMillimetres('1.2', 'cm'), wholeMillimetres('1000', 'mm'), wholeSteps('0'), wholeSteps('0.5'), wholeSteps('0.05'), wholeSteps('5.49')],
+    [0, 12, 1000, 0, 91, 9, 999]);
   assert.deepEqual([wholePlays('10,000'), wholePlays('1000000'), sixSeeds('1,2,3,4,5,6'), sixSeeds('(seeds (a 1 2 3) (b 4 5 6))\n')], [10000, 1000000, [1, 2, 3, 4, 5, 6], [1, 2, 3, 4, 5, 6]]);
-  const wrong = [() => wholeMillimetres('0.5', 'mm'), () => wholeMillimetres('101', 'cm'), () => wholeMillimetres('', 'mm'), () => wholeMillimetres('-1', 'mm'), () => wholeSteps('5.6'), () => wholeSteps('0.001'), () => wholeSteps('x'),
+  const wrong = [() => wholeMillimetres('0.5', 'mm'), () => wholeMillimetres('101', 'cm'), () => wholeMillimetres('', 'mm'), () => wholeMillimetres('-1', 'mm'), () => wholeSteps('5.6'),
+    () => wholeSteps('0.001'), () => wholeSteps('x'),
     () => wholePlays('0'), () => wholePlays('1000001'), () => wholePlays('1e3'), () => sixSeeds('1,2,3,4,5'), () => sixSeeds('1,2,3,4,5,4294967296')];
   for (const call of wrong) assert.throws(call, { name: 'Wrong' }, `${call}`);
 }
@@ -108,7 +111,8 @@ function settings() {
 const judged = [
   compare(example('loop.svx'), 'loop.svx', [10, 91], 10000), compare(survex(40, 0), 'forty.svx', [10, 91], 10000), compare(survex(40, 10), 'blunder.svx', [10, 91], 10000),
   compare(survex(40, 2), 'doubt.svx', [10, 91], 3001), compare(example('loop.job'), 'loop.job', [4, 10], 1234), compare(jabulghi.list(example('loop.job')), 'loop.listing', [0, 0], 50),
-  compare(`${DATA}A B 900 90 0\nB C 900 90 0\nC A 999 270 0\n`, 'line.svx', [20, 0], 500), compare(`${DATA}${many(500)}`, 'long.svx', [1000, 1000], 2000), compare(`${DATA}A A 5 90 0\n`, 'one.svx', [3, 5], 1),
+  compare(`${DATA}A B 900 90 0\nB C 900 90 0\nC A 999 270 0\n`, 'line.svx', [20, 0], 500), compare(`${DATA}${many(500)}`, 'long.svx', [1000, 1000], 2000), compare(`${DATA}A A 5 90 0\n`,
+    'one.svx', [3, 5], 1),
 ];
 console.log(`the page's figures, rows, pictures and jobs of ${judged.length} loops are the command's (${judged.map(({ verdict }) => verdict).join(' ')})`);
 const count = refusals();

@@ -4,20 +4,39 @@ import { spawn } from 'node:child_process';
 import { mkdtempSync, rmSync } from 'node:fs';
 import { tmpdir } from 'node:os';
 import { join, resolve } from 'node:path';
-import { wait } from './chromium.mjs';
+import { twice, wait, within } from './chromium.mjs';
 
-const page = resolve(process.argv[2]), folder = mkdtempSync(join(tmpdir(), 'jabulghi-firefox-')), waiting = new Map(), errors = [];
-const firefox = spawn('firefox-esr', ['--headless', '--no-remote', '--profile', folder, '--remote-debugging-port', '0', 'about:blank'], { stdio: ['ignore', 'ignore', 'pipe'] });
-let heard = '', last = 0;
-const address = await new Promise((done, fail) => {
-  firefox.stderr.on('data', data => {
-    const found = /ws:\/\/\S+/.exec(heard += data);
-    if (found !== null) done(found[0]);
+const page = resolve(process.argv[2]), waiting = new Map(), errors = [];
+let last = 0;
+
+// Starts Firefox with an empty profile and connects to it.
+async function open() {
+  const folder = mkdtempSync(join(tmpdir(), 'jabulghi-firefox-'));
+  const words = ['--headless', '--no-remote', '--profile', folder, '--remote-debugging-port', '0', 'about:blank'];
+  const firefox = spawn('firefox-esr', words, { stdio: ['ignore', 'ignore', 'pipe'] });
+  const end = () => {
+    firefox.removeAllListeners('exit');
+    firefox.kill('SIGKILL');
+    rmSync(folder, { recursive: true, force: true, maxRetries: 5, retryDelay: 200 });
+  };
+  let heard = '';
+  const address = new Promise((done, fail) => {
+    firefox.stderr.on('data', data => {
+      const found = /ws:\/\/\S+/.exec(heard += data);
+      if (found !== null) done(found[0]);
+    });
+    firefox.on('exit', () => fail(new Error(heard)));
   });
-  firefox.on('exit', () => fail(new Error(heard)));
-});
-const socket = new WebSocket(`${address}/session`);
-await new Promise((done, fail) => { Object.assign(socket, { onopen: done, onerror: fail }); });
+  try {
+    const socket = new WebSocket(`${await within(60, address)}/session`);
+    await within(30, new Promise((done, fail) => { Object.assign(socket, { onopen: done, onerror: fail }); }));
+    return { socket, end };
+  } catch (error) {
+    end();
+    throw error;
+  }
+}
+const { socket, end } = await twice(open);
 socket.onmessage = ({ data }) => {
   const { id, type, method, params, result, message } = JSON.parse(data);
   waiting.get(id)?.[type === 'error' ? 1 : 0](type === 'error' ? new Error(message) : result);
@@ -56,8 +75,6 @@ try {
   assert.deepEqual(errors, []);
 } finally {
   await Promise.race([call('browser.close', {}).catch(() => {}), wait(3000)]);
-  firefox.removeAllListeners('exit');
-  firefox.kill('SIGKILL');
-  rmSync(folder, { recursive: true, force: true, maxRetries: 5, retryDelay: 200 });
+  end();
 }
 process.exit();

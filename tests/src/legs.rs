@@ -336,13 +336,15 @@ fn positions(folder: &std::path::Path, text: &str) -> Option<HashMap<String, (f6
     Some(text.lines().filter_map(station).collect())
 }
 
+/// The program of Survex that is missing here.
+pub fn peer_lacks() -> Option<&'static str> {
+    ["cavern", "survexport"].into_iter().find(|program| Command::new(program).arg("--version").output().is_err())
+}
+
 /// Surveys that the converter accepts, run through the real `cavern`: it accepts them, and the last station of a chain, added up from the listing
 /// with both sigmas 0, is where it puts it. A bearing is at most half a step off, pi / 65536 of the distance; a position is printed to 0.01 m, so
 /// that two are at most 0.01 m off.
 pub fn peer(tables: &Tables, random: &mut Random) -> String {
-    if let Some(missing) = ["cavern", "survexport"].iter().find(|program| Command::new(program).arg("--version").output().is_err()) {
-        return format!("Survex's {missing} is not installed (Debian's survex and survex-aven): Survex was not run beside the converter");
-    }
     let folder = std::env::temp_dir().join(format!("jabulghi-survex-{}", std::process::id()));
     std::fs::create_dir_all(&folder).unwrap();
     let count = 150;

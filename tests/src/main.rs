@@ -1,7 +1,7 @@
 //! Runs the static library and the programs beside another implementation of documents 01 and 02, written from them alone.
-//! JABULGHI_SEED gives the generated inputs another seed. With the words `checks FOLDER` it writes what the program crates/checks reads and
-//! has to print; with `elsewhere FILE` calls and their answers, for tests/elsewhere.c. It runs in the repository whose
-//! library it was linked with.
+//! JABULGHI_SEED gives the generated inputs another seed. Words name the groups that are run, all without one. With the
+//! words `checks FOLDER` it writes what the program crates/checks reads and has to print; with `elsewhere FILE` calls and
+//! their answers, for tests/elsewhere.c. It runs in the repository whose library it was linked with.
 mod cases;
 mod checks;
 mod counts;
@@ -46,35 +46,78 @@ fn main() {
     readings::check(&tables);
     let words: Vec<String> = std::env::args().skip(1).collect();
     match &words.iter().map(String::as_str).collect::<Vec<_>>()[..] {
-        [] => (),
         ["checks", folder] => return checks::write(&tables, folder.as_ref()),
         ["elsewhere", file] => return elsewhere::write(&tables, &mut Random(seed), file.as_ref()),
-        _ => panic!("{words:?}: checks FOLDER, elsewhere FILE or nothing"),
+        _ => (),
     }
     let sum = linked::sum(linked::LIBRARY).to_string();
     assert_eq!(sum, env!("LIBRARY_SUM"), "this program was linked with another library than {}", linked::LIBRARY);
     println!("the other implementation gives document 01's readings and example; inputs from seed {seed}");
-    type Group = fn(&Tables, &mut Random) -> String;
-    let edges: [fn(&Tables) -> String; 11] = [
-        edges::cells, edges::records, edges::lengths, skips::given, counts::given, marks::given, listings::given, windows::given, misses::given,
-        intervals::given, plays::given,
+    let edges: [(&str, fn(&Tables) -> String); 11] = [
+        ("cells", edges::cells),
+        ("records", edges::records),
+        ("lengths", edges::lengths),
+        ("skips", skips::given),
+        ("counts", counts::given),
+        ("marks", marks::given),
+        ("listings", listings::given),
+        ("drift", windows::given),
+        ("misses", misses::given),
+        ("intervals", intervals::given),
+        ("plays", plays::given),
     ];
-    for group in edges {
+    for (_, group) in edges.iter().filter(|(name, _)| wanted(&words, name)) {
         println!("{}, all equal", group(&tables));
     }
-    let plain: [Group; 6] = [seeds, roots::places, samples, histories, pairs, blocks];
-    let skips: [Group; 6] = [skips::skips, skips::drawn, skips::two, skips::blocks, counts::runs, counts::noted];
-    let marks: [Group; 2] = [marks::calls, marks::runs];
-    let groups = plain.into_iter().chain(skips).chain(marks).chain([listings::jobs as Group, program::program]);
-    let groups = groups.chain([wide::samples as Group, wide::runs, windows::pushes, windows::runs]);
-    let groups = groups.chain([legs::calls as Group, legs::program, legs::peer]);
-    let groups = groups.chain([misses::listings as Group, misses::program, intervals::listings, intervals::program]);
-    let groups = groups.chain([plays::plays_of_jobs as Group]);
-    for (j, group) in groups.enumerate() {
+    let groups: [(&str, fn(&Tables, &mut Random) -> String); 28] = [
+        ("seeds", seeds),
+        ("roots", roots::places),
+        ("samples", samples),
+        ("histories", histories),
+        ("pairs", pairs),
+        ("blocks", blocks),
+        ("skips", skips::skips),
+        ("skips", skips::drawn),
+        ("skips", skips::two),
+        ("skips", skips::blocks),
+        ("counts", counts::runs),
+        ("counts", counts::noted),
+        ("marks", marks::calls),
+        ("marks", marks::runs),
+        ("listings", listings::jobs),
+        ("listings", program::program),
+        ("wide", wide::samples),
+        ("wide", wide::runs),
+        ("drift", windows::pushes),
+        ("drift", windows::runs),
+        ("legs", legs::calls),
+        ("legs", legs::program),
+        ("cavern", legs::peer),
+        ("misses", misses::listings),
+        ("misses", misses::program),
+        ("intervals", intervals::listings),
+        ("intervals", intervals::program),
+        ("plays", plays::plays_of_jobs),
+    ];
+    for (j, (name, group)) in groups.iter().enumerate().filter(|(_, (name, _))| wanted(&words, name)) {
+        if let (&"cavern", Some(missing)) = (name, legs::peer_lacks()) {
+            println!("NOT RUN: the converter of surveys beside Survex, which needs {missing} (Debian: survex survex-aven)");
+            continue;
+        }
         let start = Instant::now();
         let said = group(&tables, &mut Random(seed ^ (j as u64) << 56));
         println!("{said}, all equal ({:.1} s)", start.elapsed().as_secs_f64());
     }
+    let known = |word: &String| edges.iter().any(|(name, _)| name == word) || groups.iter().any(|(name, _)| name == word);
+    if let Some(word) = words.iter().find(|word| !known(word)) {
+        println!("FAILED: no part or group is named '{word}'; tests/run list names them");
+        std::process::exit(1);
+    }
+}
+
+/// Whether a group is among those that were named; without names all are.
+fn wanted(words: &[String], name: &str) -> bool {
+    words.is_empty() || words.iter().any(|word| word == name)
 }
 
 fn seeds(tables: &Tables, random: &mut Random) -> String {

@@ -159,7 +159,8 @@ function texts() {
     `${SEEDS}${SHOT}`, SEEDS, '', SEEDS + SIGMA + SHOT.repeat(500), SEEDS + SIGMA + SHOT.repeat(501), '\n'.repeat(60001), 'Höhle\n'];
   const surveys = [example('loop.svx'), example('streamway.svx'), example('dotted.svx'), DATA, `${DATA}A B 1 0 -3\n`, `; c\n${DATA}A B 1.2345 0 0\n`, `${DATA.trim()}\r\n`, `${DATA}A B 1 0 0\r\n`,
     `${DATA}A B 1 0 0`, '; c\n', DATA + 'A B 9 9 0\n'.repeat(1000), DATA + 'ABCDEFGHIJKL B 9 9 0\n'.repeat(100000)];
-  const listings = [jabulghi.list(example('loop.job')), example('tape-book.listing'), HEADER, BETWEEN, `${HEADER}A1 A2 5 5\nEND 2\n`, `${HEADER.trim()}\r\nEND 0\r\n`, `${HEADER}END 0`, `${HEADER}END 0\n`,
+  const listings = [jabulghi.list(example('loop.job')), example('tape-book.listing'), HEADER, BETWEEN, `${HEADER}A1 A2 5 5\nEND 2\n`, `${HEADER.trim()}\r\nEND 0\r\n`, `${HEADER}END 0`,
+    `${HEADER}END 0\n`,
     `${HEADER}A1 A2 1008243 5\nEND 1\n`, `${BETWEEN}A1 A2 5 4 5\nEND 1\n`, `${HEADER}A1 A2 5 5\na2 A3 5 5\nEND 2\n`, HEADER + 'A A 1 1\n'.repeat(501), `${BETWEEN}A B 10 20 0\nEND 1\n`];
   for (const [word, all] of [['list', jobs], ['legs', surveys], ['misses', listings]]) for (const text of all) beside(word, text);
   const { sums } = jabulghi.misclosure(`${HEADER}A1 A2 1 32768\nEND 1\n`);
@@ -186,14 +187,20 @@ function plays() {
 function badArguments() {
   const record = jabulghi.seed(...GOOD), window = jabulghi.window(3), marks = jabulghi.marks(), before = record.bytes.slice();
   const wrong = {
-    TypeError: [() => jabulghi.seed(), () => jabulghi.seed('2', 8, 16, 2, 8, 16), () => jabulghi.seed(2, 8, 16, 2, 8), () => jabulghi.sample('1', 0), () => jabulghi.sample(0), () => jabulghi.sample(0, null),
-      () => record.block(), () => record.block('8'), () => record.block(8n), () => record.block([7, 7]), () => record.block(null), () => record.block(new Int32Array(2)), () => record.block(new Uint16Array(2)),
-      () => record.block18(new Int16Array(2)), () => record.look18(new Float64Array(2)), () => record.take(new DataView(new ArrayBuffer(4))), () => record.skip('1'), () => record.skip(), () => record.ask({}),
+    TypeError: [() => jabulghi.seed(), () => jabulghi.seed('2', 8, 16, 2, 8, 16), () => jabulghi.seed(2, 8, 16, 2, 8), () => jabulghi.sample('1', 0), () => jabulghi.sample(0),
+      () => jabulghi.sample(0, null),
+      () => record.block(), () => record.block('8'), () => record.block(8n), () => record.block([7, 7]), () => record.block(null), () => record.block(new Int32Array(2)),
+      () => record.block(new Uint16Array(2)),
+      () => record.block18(new Int16Array(2)), () => record.look18(new Float64Array(2)), () => record.take(new DataView(new ArrayBuffer(4))), () => record.skip('1'), () => record.skip(),
+      () => record.ask({}),
       () => jabulghi.list(), () => jabulghi.list(5), () => jabulghi.legs(null), () => jabulghi.misclosure(new Uint16Array(2)), () => jabulghi.intervals(['x']), () => jabulghi.window('3'),
-      () => window.push('1'), () => window.pushAll([1]), () => window.pushAll(new Int32Array(2)), () => marks.save({}, 'D7'), () => marks.save(record), () => marks.return(record, 7), () => marks.drop()],
+      () => window.push('1'), () => window.pushAll([1]), () => window.pushAll(new Int32Array(2)), () => marks.save({}, 'D7'), () => marks.save(record), () => marks.return(record, 7),
+      () => marks.drop()],
     RangeError: [() => jabulghi.seed(-2, 8, 16, 2, 8, 16), () => jabulghi.seed(2 ** 32, 8, 16, 2, 8, 16), () => jabulghi.seed(2.5, 8, 16, 2, 8, 16), () => jabulghi.seed(NaN, 8, 16, 2, 8, 16),
-      () => jabulghi.sample(-1, 0), () => jabulghi.sample(2n ** 64n, 0), () => jabulghi.sample(0, -1), () => jabulghi.sample18(0, 2 ** 32), () => record.block(-2), () => record.block(2.5), () => record.block(Infinity),
-      () => record.block(2 ** 32), () => record.block18(2 ** 30), () => record.skip(-1), () => record.skip(-1n), () => record.skip(2 ** 53), () => record.skip(2n ** 64n), () => record.skip(0.5), () => record.ask(-1),
+      () => jabulghi.sample(-1, 0), () => jabulghi.sample(2n ** 64n, 0), () => jabulghi.sample(0, -1), () => jabulghi.sample18(0, 2 ** 32), () => record.block(-2), () => record.block(2.5),
+      () => record.block(Infinity),
+      () => record.block(2 ** 32), () => record.block18(2 ** 30), () => record.skip(-1), () => record.skip(-1n), () => record.skip(2 ** 53), () => record.skip(2n ** 64n),
+      () => record.skip(0.5), () => record.ask(-1),
       () => record.ask(2 ** 32), () => jabulghi.window(-1), () => jabulghi.window(1.5), () => window.push(32768), () => window.push(-32769), () => window.push(0.5)],
   };
   for (const name in wrong) for (const call of wrong[name]) assert.throws(call, { name }, `${call}`);

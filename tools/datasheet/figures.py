@@ -5,7 +5,7 @@ import loops as closed
 
 UNITS = 2048  # of a sample, in a standard deviation
 LARGEST = 16879
-INPUTS = 2 ** 64
+INPUTS = 2**64
 NUMBERS = 'docs/datasheet/numbers.json'
 TAILS = [1, 2, 3, 4, 5, 6, 7, 7.5, 8, 8.2]
 STEP = 32  # units of a step of the picture's curve
@@ -33,6 +33,7 @@ def rows(path):
 
 # ---- exact: how many of the 2^64 inputs have a sample of s or more
 
+
 def tail_counts(folder):
     tail = [0] * (LARGEST + 2)
     for s, count in rows(f'{folder}/exact.tsv'):
@@ -48,17 +49,23 @@ def short(tail, s):
 def exact(folder):
     tail = tail_counts(folder)
     count = [INPUTS - 2 * tail[1]] + [tail[s] - tail[s + 1] for s in range(1, LARGEST + 1)]
-    second, fourth = (2 * sum(count[s] * s ** power for s in range(1, LARGEST + 1)) for power in (2, 4))
+    second, fourth = (2 * sum(count[s] * s**power for s in range(1, LARGEST + 1)) for power in (2, 4))
     off = [count[s] / INPUTS / normal_at(s) - 1 for s in range(6 * UNITS)]
     return {  # variance and kurtosis: how far from a normal number's 1 and 3
-        'variance': (second - INPUTS * UNITS ** 2) / (INPUTS * UNITS ** 2),
-        'kurtosis': (fourth * INPUTS - 3 * second ** 2) / second ** 2,
+        'variance': (second - INPUTS * UNITS**2) / (INPUTS * UNITS**2),
+        'kurtosis': (fourth * INPUTS - 3 * second**2) / second**2,
         'tails': [[x, tail[math.ceil(x * UNITS)], normal_from(math.ceil(x * UNITS))] for x in TAILS],
         'last': [LARGEST, tail[LARGEST]],
-        'short': [[x, max(short(tail, s) for s in range(1, int(x * UNITS) + 1)), min(short(tail, s) for s in range(1, int(x * UNITS) + 1))]
-                  for x in (5, 6, 7, 7.5, 8)],
+        'short': [
+            [
+                x,
+                max(short(tail, s) for s in range(1, int(x * UNITS) + 1)),
+                min(short(tail, s) for s in range(1, int(x * UNITS) + 1)),
+            ]
+            for x in (5, 6, 7, 7.5, 8)
+        ],
         'off': off[:3],
-        'off-rest': max(abs(each) for each in off[3:4 * UNITS]),
+        'off-rest': max(abs(each) for each in off[3 : 4 * UNITS]),
         'excess': sum((2 if s else 1) * off[s] ** 2 * normal_at(s) for s in range(6 * UNITS)),
         'ratio': [[(s - 0.5) / UNITS, tail[s] / INPUTS / normal_from(s)] for s in range(2 * STEP, LARGEST + 1, STEP)],
     }
@@ -81,7 +88,11 @@ def beyond_of(counts):
 def errors_of(folder, sweep, bits):
     lines = rows(f'{folder}/errors-{sweep}-{bits}.tsv')
     counts = {int(line[0]): int(line[1]) for line in lines if line[0] != 'worst'}
-    return {'samples': sum(counts.values()), 'beyond': beyond_of(counts), 'worst': [[line[1], *map(int, line[2:5]), float(line[5])] for line in lines if line[0] == 'worst']}
+    return {
+        'samples': sum(counts.values()),
+        'beyond': beyond_of(counts),
+        'worst': [[line[1], *map(int, line[2:5]), float(line[5])] for line in lines if line[0] == 'worst'],
+    }
 
 
 def errors(folder):
@@ -89,6 +100,7 @@ def errors(folder):
 
 
 # ---- drawn samples and their tests, against a normal number that is rounded to units
+
 
 def drawn_of(path):
     counts, products = {}, {}
@@ -105,7 +117,7 @@ def moments(counts):
     mean = sum(value * count for value, count in counts.items()) / n / UNITS
     about = [sum((value / UNITS - mean) ** power * count for value, count in counts.items()) / n for power in range(5)]
     variance = about[2]
-    return n, [mean, variance - 1, about[3] / variance ** 1.5, about[4] / variance ** 2 - 3]
+    return n, [mean, variance - 1, about[3] / variance**1.5, about[4] / variance**2 - 3]
 
 
 def anderson_darling(counts, n):
@@ -114,24 +126,31 @@ def anderson_darling(counts, n):
     for s in range(-LARGEST, LARGEST + 1):
         ahead += counts.get(s, 0) - n * normal_at(s)
         low, high = normal_above(-(s + 0.5) / UNITS), normal_above((s + 0.5) / UNITS)
-        statistic += ahead ** 2 * normal_at(s) / (low * high) / n
+        statistic += ahead**2 * normal_at(s) / (low * high) / n
     return statistic
 
 
 def anderson_darling_p(z):
     """The probability of a larger statistic (Marsaglia and Marsaglia 2004)."""
     if z < 2:
-        p = math.exp(-1.2337141 / z) / math.sqrt(z) * (
-            2.00012 + (.247105 - (.0649821 - (.0347962 - (.011672 - .00168691 * z) * z) * z) * z) * z)
+        p = (
+            math.exp(-1.2337141 / z)
+            / math.sqrt(z)
+            * (2.00012 + (0.247105 - (0.0649821 - (0.0347962 - (0.011672 - 0.00168691 * z) * z) * z) * z) * z)
+        )
     else:
-        p = math.exp(-math.exp(1.0776 - (2.30695 - (.43424 - (.082433 - (.008056 - .0003146 * z) * z) * z) * z) * z))
+        p = math.exp(
+            -math.exp(1.0776 - (2.30695 - (0.43424 - (0.082433 - (0.008056 - 0.0003146 * z) * z) * z) * z) * z)
+        )
     return 1 - p
 
 
 def chi_squared(counts, n, width):
     """Over cells of so many units, the middle one about 0; cells where fewer than ten are expected are joined to one at each end."""
     reach = 0
-    while n * sum(normal_at(s) for s in range((reach + 1) * width - width // 2, (reach + 2) * width - width // 2)) >= 10:
+    while (
+        n * sum(normal_at(s) for s in range((reach + 1) * width - width // 2, (reach + 2) * width - width // 2)) >= 10
+    ):
         reach += 1
     cells = [range(j * width - width // 2, j * width - width // 2 + width) for j in range(-reach, reach + 1)]
     pairs = [(sum(counts.get(s, 0) for s in cell), n * sum(normal_at(s) for s in cell)) for cell in cells]
@@ -146,12 +165,18 @@ def chi_squared(counts, n, width):
 def tests_of(counts):
     n = sum(counts.values())
     a = anderson_darling(counts, n)
-    return {'anderson-darling': [a, anderson_darling_p(a)], 'cells': chi_squared(counts, n, 32), 'units': chi_squared(counts, n, 1)}
+    return {
+        'anderson-darling': [a, anderson_darling_p(a)],
+        'cells': chi_squared(counts, n, 32),
+        'units': chi_squared(counts, n, 1),
+    }
 
 
 def tests(folder):
-    return {who: {seeds: tests_of(drawn_of(f'{folder}/tests-{who}-{seeds}.tsv')[0]) for seeds in ('pi', 'e')}
-            for who in ('jabulghi', 'gsl-ziggurat', 'gsl-polar', 'boost')}
+    return {
+        who: {seeds: tests_of(drawn_of(f'{folder}/tests-{who}-{seeds}.tsv')[0]) for seeds in ('pi', 'e')}
+        for who in ('jabulghi', 'gsl-ziggurat', 'gsl-polar', 'boost')
+    }
 
 
 def drawn_with(folder, seeds):
@@ -159,8 +184,12 @@ def drawn_with(folder, seeds):
     n, four = moments(counts)
     beyond = [sum(count for value, count in counts.items() if abs(value) >= math.ceil(x * UNITS)) for x in TAILS]
     return {
-        'samples': n, 'moments': four, 'largest': max(map(abs, counts)), 'tails': beyond,
-        'zero': counts[0], 'tests': tests_of(counts),
+        'samples': n,
+        'moments': four,
+        'largest': max(map(abs, counts)),
+        'tails': beyond,
+        'zero': counts[0],
+        'tests': tests_of(counts),
         'neighbours': [[name, plain / (n / 2), squares / (n / 2) / 2] for name, (plain, squares) in products.items()],
     }
 
@@ -184,16 +213,26 @@ def closed_loop(legs, plays):
     ellipse. Each with the standard error of so many plays."""
     figures = of_spread(*closed.spread(legs))
     longer, shorter = figures[2:4]
-    turn = math.degrees(longer * shorter / (longer ** 2 - shorter ** 2) / math.sqrt(plays))
+    turn = math.degrees(longer * shorter / (longer**2 - shorter**2) / math.sqrt(plays))
     within = [closed.quantile(longer, shorter, share) for share in SHARES]
     step = longer / 1000
-    density = [(closed.beyond(longer, shorter, radius - step) - closed.beyond(longer, shorter, radius + step)) / (2 * step) for radius in within]
+    density = [
+        (closed.beyond(longer, shorter, radius - step) - closed.beyond(longer, shorter, radius + step)) / (2 * step)
+        for radius in within
+    ]
     beyond = [math.exp(-t * t / 2) for t in SIGMAS]
     return {
-        'metres': sum(mm for mm, _ in closed.loop(legs)) / 1000, 'figures': figures, 'within': within, 'beyond': beyond, 'not-normal': closed.not_normal(legs, 4),
-        'errors': {'figures': [*(each / math.sqrt(2 * plays) for each in figures[:4]), turn],
-                   'within': [math.sqrt(share * (1 - share) / plays) / each for share, each in zip(SHARES, density)],
-                   'beyond': [math.sqrt(share * (1 - share) / plays) for share in beyond]}}
+        'metres': sum(mm for mm, _ in closed.loop(legs)) / 1000,
+        'figures': figures,
+        'within': within,
+        'beyond': beyond,
+        'not-normal': closed.not_normal(legs, 4),
+        'errors': {
+            'figures': [*(each / math.sqrt(2 * plays) for each in figures[:4]), turn],
+            'within': [math.sqrt(share * (1 - share) / plays) / each for share, each in zip(SHARES, density)],
+            'beyond': [math.sqrt(share * (1 - share) / plays) for share in beyond],
+        },
+    }
 
 
 def within(counts, plays, share):
@@ -216,16 +255,24 @@ def played(path):
         else:
             plays, *sums = numbers
     east, north, *squares = (each / plays for each in sums)
-    spread = squares[0] - east ** 2, squares[1] - north ** 2, squares[2] - east * north
-    return plays, {'plays': plays, 'figures': of_spread(*spread), 'within': [within(counts['distance'], plays, share) for share in SHARES],
-                   'beyond': [sum(count for step, count in counts['ellipse'].items() if step >= 100 * t) / plays for t in SIGMAS], 'points': points}
+    spread = squares[0] - east**2, squares[1] - north**2, squares[2] - east * north
+    return plays, {
+        'plays': plays,
+        'figures': of_spread(*spread),
+        'within': [within(counts['distance'], plays, share) for share in SHARES],
+        'beyond': [sum(count for step, count in counts['ellipse'].items() if step >= 100 * t) / plays for t in SIGMAS],
+        'points': points,
+    }
 
 
 def loops(folder):
     found = {}
     for legs in closed.LEGS:
         of = {seeds: played(f'{folder}/loops-{legs}-{seeds}.tsv') for seeds in closed.SEEDS}
-        found[str(legs)] = {'closed': closed_loop(legs, of['pi'][0]), **{seeds: each for seeds, (_, each) in of.items()}}
+        found[str(legs)] = {
+            'closed': closed_loop(legs, of['pi'][0]),
+            **{seeds: each for seeds, (_, each) in of.items()},
+        }
         for seeds in closed.SEEDS:
             points = found[str(legs)][seeds].pop('points')
             if (legs, seeds) == (40, 'pi'):
@@ -249,8 +296,11 @@ def wasm(folder):
     runs = [rows(f'{folder}/wasm-{run}.tsv') for run in RUNS]
     with open(f'{folder}/engines.txt', encoding='utf-8') as file:
         engines = file.read().split('\n')[:2]
-    return {'times': [[*lines[0][:2], [float(line[2]) for line in lines]] for lines in zip(*runs)], 'engines': engines,
-            'module': os.path.getsize('target/wasm32/jabulghi.wasm')}
+    return {
+        'times': [[*lines[0][:2], [float(line[2]) for line in lines]] for lines in zip(*runs)],
+        'engines': engines,
+        'module': os.path.getsize('target/wasm32/jabulghi.wasm'),
+    }
 
 
 def memory(folder):
@@ -259,8 +309,11 @@ def memory(folder):
     for line in rows(f'{folder}/stack.txt'):
         name, taken = line[0].split()
         stack[name] = max(int(taken), stack.get(name, 0))
-    return {'archive': os.path.getsize('target/staticlib/libjabulghi.a'),
-            'code': sum(int(line[0]) for line in rows(f'{folder}/size.txt')[1:]), 'stack': stack}
+    return {
+        'archive': os.path.getsize('target/staticlib/libjabulghi.a'),
+        'code': sum(int(line[0]) for line in rows(f'{folder}/size.txt')[1:]),
+        'stack': stack,
+    }
 
 
 def root_mean_square(values):
@@ -272,15 +325,27 @@ def seeds_of(lines):
     squares, products = [float(line[2]) for line in lines], [float(line[3]) for line in lines]
 
     def far(low, high):
-        return [low, root_mean_square([each - 1 for each in squares[low - 1:high - 1]]), root_mean_square(products[low - 1:high - 1])]
-    return {'squares': squares[:40], 'far': [far(2 ** j, 2 ** (j + 1)) for j in range(12)], 'all': far(1, len(lines) + 1)}
+        return [
+            low,
+            root_mean_square([each - 1 for each in squares[low - 1 : high - 1]]),
+            root_mean_square(products[low - 1 : high - 1]),
+        ]
+
+    return {
+        'squares': squares[:40],
+        'far': [far(2**j, 2 ** (j + 1)) for j in range(12)],
+        'all': far(1, len(lines) + 1),
+    }
 
 
 def seeds(folder):
     lines = rows(f'{folder}/seeds.tsv')
     return {
         **{kind: seeds_of([line for line in lines if line[1] == kind]) for kind in ('small', 'large', 'second')},
-        'common': {stream: [[float(each) for each in line[2:]] for line in lines if line[:2] == ['common', stream]] for stream in 'ab'},
+        'common': {
+            stream: [[float(each) for each in line[2:]] for line in lines if line[:2] == ['common', stream]]
+            for stream in 'ab'
+        },
         'first': [[line[1], *map(float, line[2:])] for line in lines if line[0] == 'first'],
     }
 
@@ -301,7 +366,13 @@ def main(part, folder):
             numbers = json.load(file)
     numbers[part] = rounded(globals()[part](folder))
     with open(NUMBERS, 'w', encoding='utf-8') as file:
-        file.write('{\n' + ',\n'.join(f'{json.dumps(key)}: {json.dumps(numbers[key], ensure_ascii=False)}' for key in sorted(numbers)) + '\n}\n')
+        file.write(
+            '{\n'
+            + ',\n'.join(
+                f'{json.dumps(key)}: {json.dumps(numbers[key], ensure_ascii=False)}' for key in sorted(numbers)
+            )
+            + '\n}\n'
+        )
 
 
 main(*sys.argv[1:])

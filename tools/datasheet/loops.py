@@ -6,7 +6,8 @@ import math, sys
 LEGS = (8, 40, 200)
 SEEDS = {  # the first binary places of the fractions of pi and e
     'pi': (0x243F6A88, 0x85A308D3, 0x13198A2E, 0x03707344, 0xA4093822, 0x299F31D0),
-    'e': (0xB7E15162, 0x8AED2A6A, 0xBF715880, 0x9CF4F3C7, 0x62E7160F, 0x38B4DA56)}
+    'e': (0xB7E15162, 0x8AED2A6A, 0xBF715880, 0x9CF4F3C7, 0x62E7160F, 0x38B4DA56),
+}
 SIGMA = (4, 91)  # of a distance in mm, of a bearing in steps: half a degree
 TURN = 65536
 UNITS = 2048
@@ -33,6 +34,7 @@ def job(legs, seeds):
 
 # ---- the closed form
 
+
 def normal_at(s):
     """The probability that a normal number, rounded to units of 2^-11, is s."""
     return (math.erfc((abs(s) - 0.5) / UNITS / math.sqrt(2)) - math.erfc((abs(s) + 0.5) / UNITS / math.sqrt(2))) / 2
@@ -44,7 +46,7 @@ def noises(sigma):
     found = {}
     for s in range(LARGEST + 1):
         noise = (sigma * s + UNITS // 2) // UNITS
-        for signed in ((noise, -noise) if s else (noise,)):
+        for signed in (noise, -noise) if s else (noise,):
             found[signed] = found.get(signed, 0) + normal_at(s)
     return found
 
@@ -54,7 +56,7 @@ def mean(values, of):
 
 
 # The moments of both noises: of the distance's powers, and of the cosine of 0 to 4 times the bearing's. Their odd moments are 0.
-POWERS = [mean(noises(SIGMA[0]), lambda mm: mm ** power) for power in range(5)]
+POWERS = [mean(noises(SIGMA[0]), lambda mm: mm**power) for power in range(5)]
 COSINES = [mean(noises(SIGMA[1]), lambda step: math.cos(times * step * 2 * math.pi / TURN)) for times in range(5)]
 
 
@@ -62,9 +64,16 @@ def leg_moments(leg, towards):
     """E x, x^2, x^3, x^4 of a played leg's way x towards a direction: (distance + noise) × cos(bearing + noise - direction)."""
     mm, step = leg
     angle = step * 2 * math.pi / TURN - towards
-    turned = [cosine * math.cos(times * angle) for times, cosine in enumerate(COSINES)]  # E cos(times × (bearing + noise - direction))
+    turned = [
+        cosine * math.cos(times * angle) for times, cosine in enumerate(COSINES)
+    ]  # E cos(times × (bearing + noise - direction))
     powers = [sum(math.comb(power, j) * mm ** (power - j) * POWERS[j] for j in range(power + 1)) for power in range(5)]
-    return powers[1] * turned[1], powers[2] * (1 + turned[2]) / 2, powers[3] * (3 * turned[1] + turned[3]) / 4, powers[4] * (3 + 4 * turned[2] + turned[4]) / 8
+    return (
+        powers[1] * turned[1],
+        powers[2] * (1 + turned[2]) / 2,
+        powers[3] * (3 * turned[1] + turned[3]) / 4,
+        powers[4] * (3 + 4 * turned[2] + turned[4]) / 8,
+    )
 
 
 def cumulants(legs, towards):
@@ -73,7 +82,14 @@ def cumulants(legs, towards):
     sums = [0, 1 / 12, 0, 0]
     for leg in loop(legs):
         m1, m2, m3, m4 = leg_moments(leg, towards)
-        for j, each in enumerate((m1, m2 - m1 ** 2, m3 - 3 * m2 * m1 + 2 * m1 ** 3, m4 - 4 * m3 * m1 - 3 * m2 ** 2 + 12 * m2 * m1 ** 2 - 6 * m1 ** 4)):
+        for j, each in enumerate(
+            (
+                m1,
+                m2 - m1**2,
+                m3 - 3 * m2 * m1 + 2 * m1**3,
+                m4 - 4 * m3 * m1 - 3 * m2**2 + 12 * m2 * m1**2 - 6 * m1**4,
+            )
+        ):
             sums[j] += each
     return sums
 
@@ -87,7 +103,11 @@ def spread(legs):
 def ellipse(east, north, both):
     """Its longer and shorter half axis and the longer one's bearing, in degrees from 0 to 180."""
     root = math.hypot((east - north) / 2, both)
-    return math.sqrt((east + north) / 2 + root), math.sqrt((east + north) / 2 - root), math.degrees(math.atan2(2 * both, north - east) / 2) % 180
+    return (
+        math.sqrt((east + north) / 2 + root),
+        math.sqrt((east + north) / 2 - root),
+        math.degrees(math.atan2(2 * both, north - east) / 2) % 180,
+    )
 
 
 def beyond(longer, shorter, radius):
@@ -114,9 +134,11 @@ def not_normal(legs, sigmas):
     most = 0
     for degrees in range(0, 180, 5):
         _, variance, third, fourth = cumulants(legs, math.radians(degrees))
-        t, skew, kurtosis = sigmas, third / variance ** 1.5, fourth / variance ** 2
-        change = kurtosis / 24 * (t ** 3 - 3 * t) + skew ** 2 / 72 * (t ** 5 - 10 * t ** 3 + 15 * t)
-        most = max(most, abs(change) * math.exp(-t * t / 2) / math.sqrt(2 * math.pi) / (math.erfc(t / math.sqrt(2)) / 2))
+        t, skew, kurtosis = sigmas, third / variance**1.5, fourth / variance**2
+        change = kurtosis / 24 * (t**3 - 3 * t) + skew**2 / 72 * (t**5 - 10 * t**3 + 15 * t)
+        most = max(
+            most, abs(change) * math.exp(-t * t / 2) / math.sqrt(2 * math.pi) / (math.erfc(t / math.sqrt(2)) / 2)
+        )
     return most
 
 

@@ -35,7 +35,9 @@ def table(lines):
     for j, row in enumerate(cells):
         if j != 1:
             kind = 'td' if j else 'th'
-            yield '<tr>' + ''.join(f'<{kind} style="text-align:{side}">{inline(cell)}</{kind}>' for cell, side in zip(row, sides)) + '</tr>'
+            yield '<tr>' + ''.join(
+                f'<{kind} style="text-align:{side}">{inline(cell)}</{kind}>' for cell, side in zip(row, sides)
+            ) + '</tr>'
 
 
 def blocks(text):
@@ -49,13 +51,17 @@ def blocks(text):
         if lines and lines[0].startswith('|'):
             yield '<table>' + ''.join(table(lines)) + '</table>'
         elif lines and lines[0].startswith('- '):
-            yield '<ul>' + ''.join(f'<li>{inline(item)}</li>' for item in re.split(r'\n- ', '\n' + '\n'.join(lines))[1:]) + '</ul>'
+            yield '<ul>' + ''.join(
+                f'<li>{inline(item)}</li>' for item in re.split(r'\n- ', '\n' + '\n'.join(lines))[1:]
+            ) + '</ul>'
         elif lines:
             yield f'<p>{inline(" ".join(lines))}</p>'
 
 
 def pages_of(path):
-    return subprocess.run(['pdftotext', '-layout', path, '-'], check=True, capture_output=True, text=True).stdout.split('\f')[:-1]
+    return subprocess.run(['pdftotext', '-layout', path, '-'], check=True, capture_output=True, text=True).stdout.split(
+        '\f'
+    )[:-1]
 
 
 def main(sheet, path):
@@ -63,12 +69,27 @@ def main(sheet, path):
         text = file.read()
     title = re.search(r'^# (.*)$', text, re.M).group(1)
     folder = os.path.dirname(os.path.abspath(sheet))
-    page = f'<!doctype html><meta charset="utf-8"><base href="file://{folder}/"><title>{html.escape(title)}</title><style>{STYLE}</style>' + '\n'.join(blocks(text))
+    page = (
+        f'<!doctype html><meta charset="utf-8"><base href="file://{folder}/"><title>{html.escape(title)}</title><style>{STYLE}</style>'
+        + '\n'.join(blocks(text))
+    )
     with tempfile.TemporaryDirectory() as room:
         with open(f'{room}/sheet.html', 'w', encoding='utf-8') as file:
             file.write(page)
-        subprocess.run(['chromium', '--headless', '--no-sandbox', '--disable-gpu', f'--user-data-dir={room}/profile', '--no-pdf-header-footer', f'--print-to-pdf={os.path.abspath(path)}',
-                        f'file://{room}/sheet.html'], check=True, capture_output=True)
+        subprocess.run(
+            [
+                'chromium',
+                '--headless',
+                '--no-sandbox',
+                '--disable-gpu',
+                f'--user-data-dir={room}/profile',
+                '--no-pdf-header-footer',
+                f'--print-to-pdf={os.path.abspath(path)}',
+                f'file://{room}/sheet.html',
+            ],
+            check=True,
+            capture_output=True,
+        )
     if shutil.which('pdftotext'):
         pages = pages_of(path)
         if [j for j, each in enumerate(pages, 1) if each.lstrip().startswith('Appendix')] != [3]:

@@ -10,20 +10,24 @@ import normal as normal_rows, tails as tail_rows
 from loops import SIGMA, TURN
 
 SHEET = 'docs/DATASHEET.md'
-INPUTS = 2 ** 64
+INPUTS = 2**64
 UNITS = 2048
 LARGEST = 16879
 SEEDS = ('pi', 'e')
 GSL = 'GSL `gsl_ran_gaussian_ziggurat` over `gsl_rng_taus`'
 PEERS = {
-    'jabulghi': '`jabulghi_block`', 'gsl-ziggurat': 'GSL `gsl_ran_gaussian_ziggurat`', 'gsl-polar': 'GSL `gsl_ran_gaussian`',
-    'boost': 'Boost `normal_distribution`'}
+    'jabulghi': '`jabulghi_block`',
+    'gsl-ziggurat': 'GSL `gsl_ran_gaussian_ziggurat`',
+    'gsl-polar': 'GSL `gsl_ran_gaussian`',
+    'boost': 'Boost `normal_distribution`',
+}
 
 with open('docs/datasheet/numbers.json', encoding='utf-8') as numbers_file:
     numbers = json.load(numbers_file)
 
 
 # ---- numbers in words
+
 
 def scientific(x, digits=2):
     mantissa, power = f'{x:.{digits}e}'.split('e')
@@ -50,6 +54,7 @@ def normal_beyond(x):
 
 # ---- what is proved
 
+
 def proved(place):
     """The proved rows by size, at 11 fraction bits (place 0) or 13: least and most inputs, and how far they can be short of a normal number's and above, in 10^-8."""
     path, name, _ = tail_rows.LISTS[place]
@@ -67,7 +72,7 @@ def between(row):
 
 def at_most(n):
     """n in 10^8, rounded up."""
-    return '0' if n == 0 else f'{n / 100:.2f} in 10^6' if n < 10 ** 4 else f'{math.ceil(n / 1000) / 1000:.3f} %'
+    return '0' if n == 0 else f'{n / 100:.2f} in 10^6' if n < 10**4 else f'{math.ceil(n / 1000) / 1000:.3f} %'
 
 
 def other_rows():
@@ -79,7 +84,9 @@ def other_rows():
         for size, row in proved(place).items():
             if place or size not in counted:
                 sigma = size / 2 ** tail_rows.LISTS[place][2]
-                size = f'{plain(size)} {"unit" if size == 1 else "units"}' + (f', {float(f"{sigma:.4f}"):g} σ' if size > 1 else '')
+                size = f'{plain(size)} {"unit" if size == 1 else "units"}' + (
+                    f', {float(f"{sigma:.4f}"):g} σ' if size > 1 else ''
+                )
                 yield f'| {bits} bits | {size} | {between(row)} | {at_most(row[2])} | {at_most(row[3])} |'
 
 
@@ -91,6 +98,7 @@ def variance(name):
 
 # ---- the distribution
 
+
 def tails():
     drawn, rows = numbers['drawn'], proved(0)
     yield '| of this size or more | inputs of 2^64, proved | counted | short of a normal number\'s share, proved: at most | counted | of 10^10 drawn, seeds pi | seeds e | expected |'
@@ -100,7 +108,9 @@ def tails():
         lack = f'{lack * 1e6:.1f} in 10^6' if lack < 1e-4 else f'{lack * 100:.2f} %'
         found = ' | '.join(plain(drawn[seeds]['tails'][j]) for seeds in SEEDS)
         expected = 2 * count / INPUTS * drawn['pi']['samples']
-        expected = f'{expected:,.0f}' if expected >= 10 else f'{expected:.1g}' if expected >= 0.01 else scientific(expected, 0)
+        expected = (
+            f'{expected:,.0f}' if expected >= 10 else f'{expected:.1g}' if expected >= 0.01 else scientific(expected, 0)
+        )
         row = rows[size_of(x)]
         yield f'| {x} σ | {between(row)} | {plain(2 * count)} | {at_most(row[2])} | {lack} | {found} | {expected} |'
 
@@ -110,8 +120,12 @@ def moments():
     n = drawn['pi']['samples']
     yield '| | counted | drawn, seeds pi | seeds e | standard error |'
     yield '|---|---:|---:|---:|---:|'
-    rows = (('mean, σ', '0', 0, 1), ('variance less 1, σ²', scientific(exact['variance'], 1), 1, 2), ('skew', '0', 2, 6),
-            ('kurtosis less 3', scientific(exact['kurtosis'], 1), 3, 24))
+    rows = (
+        ('mean, σ', '0', 0, 1),
+        ('variance less 1, σ²', scientific(exact['variance'], 1), 1, 2),
+        ('skew', '0', 2, 6),
+        ('kurtosis less 3', scientific(exact['kurtosis'], 1), 3, 24),
+    )
     for name, counted, place, factor in rows:
         found = ' | '.join(scientific(drawn[seeds]['moments'][place], 1) for seeds in SEEDS)
         yield f'| {name} | {counted} | {found} | {scientific(math.sqrt(factor / n), 1)} |'
@@ -120,7 +134,9 @@ def moments():
 def neighbours():
     drawn = numbers['drawn']
     unit = math.sqrt(2 / drawn['pi']['samples'])
-    yield '| in standard errors, ' + scientific(unit, 1) + ' | correlation, seeds pi | seeds e | of squares, seeds pi | seeds e |'
+    yield '| in standard errors, ' + scientific(
+        unit, 1
+    ) + ' | correlation, seeds pi | seeds e | of squares, seeds pi | seeds e |'
     yield '|---|---:|---:|---:|---:|'
     for one, other in zip(drawn['pi']['neighbours'], drawn['e']['neighbours']):
         found = ' | '.join(places(each[place] / unit, 1) for place in (1, 2) for each in (one, other))
@@ -137,7 +153,10 @@ def tests():
     lines += [('jabulghi', '10^10', seeds, numbers['drawn'][seeds]['tests']) for seeds in SEEDS]
     for who, samples, seeds, part in lines:
         a, p = part['anderson-darling']
-        cells = ' | '.join(f'{statistic:,.0f} of {freedom:,} | {chance:.3f}' for statistic, freedom, chance in (part['cells'], part['units']))
+        cells = ' | '.join(
+            f'{statistic:,.0f} of {freedom:,} | {chance:.3f}'
+            for statistic, freedom, chance in (part['cells'], part['units'])
+        )
         yield f'| {PEERS[who]} | {samples} | {seeds} | {a:.2f} | {p:.3f} | {cells} |'
 
 
@@ -149,8 +168,14 @@ def low_p():
             for test in TESTS:
                 if part[test][-1] < 0.01:
                     other = of['e' if seeds == 'pi' else 'pi'][test][-1]
-                    on = f', drawn on to 10^10 {numbers["drawn"][seeds]["tests"][test][-1]:.3f}' if who == 'jabulghi' else ''
-                    found.append(f'{PEERS[who]} with seeds {seeds}, {TESTS[test]} (with the other seeds {other:.3f}{on})')
+                    on = (
+                        f', drawn on to 10^10 {numbers["drawn"][seeds]["tests"][test][-1]:.3f}'
+                        if who == 'jabulghi'
+                        else ''
+                    )
+                    found.append(
+                        f'{PEERS[who]} with seeds {seeds}, {TESTS[test]} (with the other seeds {other:.3f}{on})'
+                    )
     return found
 
 
@@ -161,7 +186,11 @@ KINDS = ('figures', 'within', 'beyond')
 
 def off(loop, seeds):
     """How far each figure of the plays is from the closed form, in standard errors."""
-    return [abs(found - true) / error for kind in KINDS for found, true, error in zip(loop[seeds][kind], loop['closed'][kind], loop['closed']['errors'][kind])]
+    return [
+        abs(found - true) / error
+        for kind in KINDS
+        for found, true, error in zip(loop[seeds][kind], loop['closed'][kind], loop['closed']['errors'][kind])
+    ]
 
 
 def each_loop():
@@ -175,13 +204,20 @@ def loops():
         plays = loop['pi']['plays']
         for of, name in (('closed', 'closed form'), ('pi', 'seeds pi'), ('e', 'seeds e')):
             east, north, longer, shorter, bearing = loop[of]['figures']
-            within, beyond = (' | '.join(each) for each in ([f'{mm:,.1f}' for mm in loop[of]['within']], [f'{share * plays:,.0f}' for share in loop[of]['beyond'][2:4]]))
+            within, beyond = (
+                ' | '.join(each)
+                for each in (
+                    [f'{mm:,.1f}' for mm in loop[of]['within']],
+                    [f'{share * plays:,.0f}' for share in loop[of]['beyond'][2:4]],
+                )
+            )
             first = f'{legs} legs, {plain(round(loop["closed"]["metres"]))} m' if of == 'closed' else ''
             far = '' if of == 'closed' else f'{max(off(loop, of)):.1f}'
             yield f'| {first} | {name} | {east:,.1f} | {north:,.1f} | {longer:,.1f}, {shorter:,.1f} | {bearing:.2f}° | {within} | {beyond} | {far} |'
 
 
 # ---- speed and size
+
 
 def runs_of(name):
     return next(runs for each, _, runs in numbers['speed'] if each == name)
@@ -203,17 +239,25 @@ def speeds():
 
 
 def calls():
-    listed = (('`jabulghi_pair`', '`jabulghi_pair` {} ns', 0), ('`jabulghi_sample`', '`jabulghi_sample` {} ns', 0),
-              ('`jabulghi_window_push` onto a window of 4096', 'a push onto a window {} ns', 1), ('`jabulghi_play`, a loop of 40 legs', 'a play of 40 legs {} µs', 2),
-              ('`jabulghi_list`, a job of 500 shots', '`jabulghi_list` of 500 shots {} µs', 0), ('`jabulghi_skip` of 1023 pairs', '`jabulghi_skip` of 1023 pairs {} µs', 1),
-              ('`jabulghi_skip` of 18446744073709551615 pairs', 'of 2^64 - 1 pairs {} µs', 0))
+    listed = (
+        ('`jabulghi_pair`', '`jabulghi_pair` {} ns', 0),
+        ('`jabulghi_sample`', '`jabulghi_sample` {} ns', 0),
+        ('`jabulghi_window_push` onto a window of 4096', 'a push onto a window {} ns', 1),
+        ('`jabulghi_play`, a loop of 40 legs', 'a play of 40 legs {} µs', 2),
+        ('`jabulghi_list`, a job of 500 shots', '`jabulghi_list` of 500 shots {} µs', 0),
+        ('`jabulghi_skip` of 1023 pairs', '`jabulghi_skip` of 1023 pairs {} µs', 1),
+        ('`jabulghi_skip` of 18446744073709551615 pairs', 'of 2^64 - 1 pairs {} µs', 0),
+    )
     return ', '.join(form.format(time_of(name, digits)) for name, form, digits in listed)
 
 
 def stacks():
     """The calls by the stack that they take, in groups; the calls of 18 bits take what those of 16 do, or less."""
-    stack = {name: taken for name, taken in numbers['memory']['stack'].items() if not (
-        name.endswith('18') and taken <= numbers['memory']['stack'][name[:-2]])}
+    stack = {
+        name: taken
+        for name, taken in numbers['memory']['stack'].items()
+        if not (name.endswith('18') and taken <= numbers['memory']['stack'][name[:-2]])
+    }
     groups = {}
     for name, taken in sorted(stack.items(), key=lambda each: (each[1], each[0])):
         groups.setdefault(taken, []).append(f'`{name}`')
@@ -246,30 +290,56 @@ def processors():
 
     def times(name, native, digits):
         return [native, *(f'{wasm[where, name]:,.{digits}f}' for where in ('node', 'Chromium'))]
-    stacks = [next(row for table, row, _ in cells if table == 'Stack' and call in row.split()) for call in ('pair', 'block', 'play')]
+
+    stacks = [
+        next(row for table, row, _ in cells if table == 'Stack' and call in row.split())
+        for call in ('pair', 'block', 'play')
+    ]
     yield '| | x86-64, ns | node, ns | Chromium, ns | Cortex-M0+, instructions | M4F | M7 with doubles | RISC-V of 32 bits |'
     yield '|---|---:|---:|---:|---:|---:|---:|---:|'
     yield row('a pair', times('pair', time_of('`jabulghi_pair`', 0), 0), 'Instructions', 'pair')
-    yield row('a sample of a block of 64', times('block of 64, a sample', time_of('`jabulghi_block` of 64', 1), 1), 'Instructions', 'block of 64, a sample')
-    yield row('a sample of a block of 4096', times('block of 4096, a sample', time_of('`jabulghi_block` of 4096', 1), 1), None, None)
-    yield row('the same by jabulghi.js, which copies', times('block of 4096, a sample, by jabulghi.js', '', 1), None, None)
+    yield row(
+        'a sample of a block of 64',
+        times('block of 64, a sample', time_of('`jabulghi_block` of 64', 1), 1),
+        'Instructions',
+        'block of 64, a sample',
+    )
+    yield row(
+        'a sample of a block of 4096',
+        times('block of 4096, a sample', time_of('`jabulghi_block` of 4096', 1), 1),
+        None,
+        None,
+    )
+    yield row(
+        'the same by jabulghi.js, which copies', times('block of 4096, a sample, by jabulghi.js', '', 1), None, None
+    )
     yield row('a pair by jabulghi.js', times('pair, by jabulghi.js', '', 0), None, None)
     yield row('bytes of flash: seed and pair', ['', '', ''], 'Flash', 'seed pair')
     yield row('seed and block', ['', '', ''], 'Flash', 'seed block')
-    yield row('all calls', [plain(numbers['memory']['code']), plain(numbers['wasm']['module']), plain(numbers['wasm']['module'])], 'Flash', 'all calls')
+    yield row(
+        'all calls',
+        [plain(numbers['memory']['code']), plain(numbers['wasm']['module']), plain(numbers['wasm']['module'])],
+        'Flash',
+        'all calls',
+    )
     for group in stacks:
-        title = 'bytes of stack, at most: ' * (group == stacks[0]) + ', '.join(call for call in group.split() if not call.endswith('18'))
+        title = 'bytes of stack, at most: ' * (group == stacks[0]) + ', '.join(
+            call for call in group.split() if not call.endswith('18')
+        )
         yield row(title, [plain(int(cells['Stack', group, 'x86_64'])), '', ''], 'Stack', group)
 
 
 # ---- errors and seeds
+
 
 def worst():
     yield '| samples | swept | worst first sample, units | at k, v | worst second sample | at k, v | proved below |'
     yield '|---|---|---:|---|---:|---|---:|'
     for bits, limit in (('16', '33/64 = 0.5156'), ('18', '3/4')):
         for sweep, swept in (('v', 'every v, 187 k'), ('k', '2,000,000 k, 12 v')):
-            found = ' | '.join(f'{error:.4f} | {k}, {v}' for _, k, v, _, error in numbers['errors'][bits][sweep]['worst'])
+            found = ' | '.join(
+                f'{error:.4f} | {k}, {v}' for _, k, v, _, error in numbers['errors'][bits][sweep]['worst']
+            )
             yield f'| {bits} bits | {swept} | {found} | {limit} |'
 
 
@@ -283,6 +353,7 @@ def firsts():
 
 # ---- the text
 
+
 def of_distribution():
     exact, drawn, tested = (numbers[part] for part in ('exact', 'drawn', 'tests'))
     short = {x: most for x, most, _ in exact['short']}
@@ -290,47 +361,82 @@ def of_distribution():
     zeros = drawn['pi']['samples'] * (1 - normal_beyond(0.5 / UNITS))
     count = len(tested) * len(SEEDS) * len(TESTS)
     return {
-        'tails': tails, 'other-rows': other_rows, 'moments': moments, 'neighbours': neighbours, 'tests': tests, 'worst': worst,
-        'variance': variance('bounds'), 'variance18': variance('bounds18'),
-        **{f'inputs{x}': between(row) for x, row in rows.items()}, **{f'least{x}': at_most(row[2]) for x, row in rows.items()},
+        'tails': tails,
+        'other-rows': other_rows,
+        'moments': moments,
+        'neighbours': neighbours,
+        'tests': tests,
+        'worst': worst,
+        'variance': variance('bounds'),
+        'variance18': variance('bounds18'),
+        **{f'inputs{x}': between(row) for x, row in rows.items()},
+        **{f'least{x}': at_most(row[2]) for x, row in rows.items()},
         'above': at_most(max(row[3] for row in proved(0).values())),
-        **{f'short{x}': f'{short[x] * 1e6:.{digits}f}' for x, digits in ((5, 1), (6, 1), (7, 0))}, 'short7.5': f'{short[7.5] * 100:.3f} %', 'short8': f'{short[8] * 100:.1f} %',
+        **{f'short{x}': f'{short[x] * 1e6:.{digits}f}' for x, digits in ((5, 1), (6, 1), (7, 0))},
+        'short7.5': f'{short[7.5] * 100:.3f} %',
+        'short8': f'{short[8] * 100:.1f} %',
         'nothing': scientific(normal_beyond((LARGEST + 0.5) / UNITS), 1),
-        'zero': f'{exact["off"][0] * 100:.2f} %', 'one': f'{-exact["off"][1] * 100:.2f} %', 'rest': f'{exact["off-rest"] * 100:.4f} %',
-        'zero-drawn': both('{:,}', [drawn[each]['zero'] for each in SEEDS]), 'zero-normal': f'{zeros:,.0f} ± {math.sqrt(zeros):,.0f}',
+        'zero': f'{exact["off"][0] * 100:.2f} %',
+        'one': f'{-exact["off"][1] * 100:.2f} %',
+        'rest': f'{exact["off-rest"] * 100:.4f} %',
+        'zero-drawn': both('{:,}', [drawn[each]['zero'] for each in SEEDS]),
+        'zero-normal': f'{zeros:,.0f} ± {math.sqrt(zeros):,.0f}',
         'largest': both('{:.2f}', [drawn[each]['largest'] / UNITS for each in SEEDS]),
-        'excess': f'{exact["excess"] * 1e9:.0f}', 'spread': f'{math.sqrt(2 * tested["jabulghi"]["pi"]["units"][1]):.0f}',
-        'p-count': str(count), 'p-expected': f'{count / 100:g}', 'low-p': str(len(low_p())), 'low-p-whose': '; '.join(low_p()),
-        **{f'worst{bits}': f'{max(abs(row[-1]) for sweep in of.values() for row in sweep["worst"]):.3f}' for bits, of in numbers['errors'].items()},
+        'excess': f'{exact["excess"] * 1e9:.0f}',
+        'spread': f'{math.sqrt(2 * tested["jabulghi"]["pi"]["units"][1]):.0f}',
+        'p-count': str(count),
+        'p-expected': f'{count / 100:g}',
+        'low-p': str(len(low_p())),
+        'low-p-whose': '; '.join(low_p()),
+        **{
+            f'worst{bits}': f'{max(abs(row[-1]) for sweep in of.values() for row in sweep["worst"]):.3f}'
+            for bits, of in numbers['errors'].items()
+        },
         'compared': plain(sum(numbers['errors']['16'][sweep]['samples'] for sweep in 'vk')),
     }
 
 
 def of_loops():
     every = [each for _, loop in each_loop() for seeds in SEEDS for each in off(loop, seeds)]
-    closed, plays = numbers['loops']['8']['closed'], sum(loop[seeds]['plays'] for _, loop in each_loop() for seeds in SEEDS)
+    closed, plays = numbers['loops']['8']['closed'], sum(
+        loop[seeds]['plays'] for _, loop in each_loop() for seeds in SEEDS
+    )
 
     def beyond(place):
-        return round(sum(loop[seeds]['beyond'][place] * loop[seeds]['plays'] for _, loop in each_loop() for seeds in SEEDS))
+        return round(
+            sum(loop[seeds]['beyond'][place] * loop[seeds]['plays'] for _, loop in each_loop() for seeds in SEEDS)
+        )
 
     def expected(place):
         share = closed['beyond'][place]
         return f'{share * plays:,.0f} ± {math.sqrt(share * (1 - share) * plays):,.0f}'
+
     return {
-        'all-plays': plain(plays), **{f'beyond{place + 1}': plain(beyond(place)) for place in (2, 3)}, **{f'expected{place + 1}': expected(place) for place in (2, 3)},
+        'all-plays': plain(plays),
+        **{f'beyond{place + 1}': plain(beyond(place)) for place in (2, 3)},
+        **{f'expected{place + 1}': expected(place) for place in (2, 3)},
         'sigma': f'σ of {SIGMA[0]} mm and {SIGMA[1]} steps ({SIGMA[1] * 360 / TURN:.1f} degrees)',
-        'loops': loops, 'plays': plain(numbers['loops']['8']['pi']['plays']), 'compared-loops': str(len(every)), 'farthest': f'{math.ceil(max(every) * 10) / 10:.1f}',
-        'not-normal': f'{max(loop["closed"]["not-normal"] for _, loop in each_loop()) * 100:.2f} %', 'error4': f'{closed["errors"]["beyond"][3] / closed["beyond"][3] * 100:.1f} %',
+        'loops': loops,
+        'plays': plain(numbers['loops']['8']['pi']['plays']),
+        'compared-loops': str(len(every)),
+        'farthest': f'{math.ceil(max(every) * 10) / 10:.1f}',
+        'not-normal': f'{max(loop["closed"]["not-normal"] for _, loop in each_loop()) * 100:.2f} %',
+        'error4': f'{closed["errors"]["beyond"][3] / closed["beyond"][3] * 100:.1f} %',
     }
 
 
 def of_speed_and_seeds():
     seeds = numbers['seeds']
     return {
-        'speeds': speeds, 'calls': calls(), 'processors': processors, 'stacks': stacks(), 'firsts': firsts,
+        'speeds': speeds,
+        'calls': calls(),
+        'processors': processors,
+        'stacks': stacks(),
+        'firsts': firsts,
         'engines': ', '.join(re.match(r'\D*[\d.]+', engine).group() for engine in numbers['wasm']['engines']),
         'small-first': f'{seeds["small"]["squares"][0]:.1f}',
-        'common-b': both('{:.3f}', [each[0] for each in seeds['common']['b']]), 'common-a': both('{:.3f}', [each[1] for each in seeds['common']['a']]),
+        'common-b': both('{:.3f}', [each[0] for each in seeds['common']['b']]),
+        'common-a': both('{:.3f}', [each[1] for each in seeds['common']['a']]),
         'large': both('{:.2f}', [seeds[kind]['all'][1] * 64 for kind in ('large', 'second')]),
         'large-products': both('{:.2f}', [seeds[kind]['all'][2] * 64 * math.sqrt(2) for kind in ('large', 'second')]),
     }
@@ -339,13 +445,22 @@ def of_speed_and_seeds():
 def claims():
     """What the text says of the numbers in words; each has to hold."""
     every = [each for _, loop in each_loop() for seeds in SEEDS for each in off(loop, seeds)]
-    squares, products = ([numbers['seeds'][kind]['all'][place] * factor for kind in ('large', 'second')] for place, factor in ((1, 64), (2, 64 * math.sqrt(2))))
+    squares, products = (
+        [numbers['seeds'][kind]['all'][place] * factor for kind in ('large', 'second')]
+        for place, factor in ((1, 64), (2, 64 * math.sqrt(2)))
+    )
     return {
         'no loop closes too well: no figure is 4 standard errors from the closed form': max(every) < 4,
-        'from 7 σ on the share is not above a normal number\'s': all(row[3] == 0 for size, row in proved(0).items() if size >= size_of(7)),
-        'seeds of 32 bits show in neither mean squares nor products': all(abs(each - 1) < 0.1 for each in squares + products),
+        'from 7 σ on the share is not above a normal number\'s': all(
+            row[3] == 0 for size, row in proved(0).items() if size >= size_of(7)
+        ),
+        'seeds of 32 bits show in neither mean squares nor products': all(
+            abs(each - 1) < 0.1 for each in squares + products
+        ),
         'the standard error of the plays beyond 4 σ is larger than what their shape moves': all(
-            loop['closed']['not-normal'] < loop['closed']['errors']['beyond'][3] / loop['closed']['beyond'][3] for _, loop in each_loop()),
+            loop['closed']['not-normal'] < loop['closed']['errors']['beyond'][3] / loop['closed']['beyond'][3]
+            for _, loop in each_loop()
+        ),
     }
 
 
@@ -361,6 +476,7 @@ def filled():
     def word(found):
         value = known[found.group(1)]
         return value if isinstance(value, str) else '\n'.join(value())
+
     with open('tools/datasheet/sheet.md', encoding='utf-8') as file:
         return re.sub(r'\{([\w.-]+)\}', word, file.read())
 
@@ -374,9 +490,22 @@ def main(check=None):
             file.write(filled())
         return
     with open(SHEET, encoding='utf-8') as file:
-        found = list(difflib.unified_diff(file.read().splitlines(), filled().splitlines(), SHEET, 'what tools/datasheet/sheet.py would write', lineterm='', n=0))
+        found = list(
+            difflib.unified_diff(
+                file.read().splitlines(),
+                filled().splitlines(),
+                SHEET,
+                'what tools/datasheet/sheet.py would write',
+                lineterm='',
+                n=0,
+            )
+        )
     if found:
-        sys.exit('\n'.join([*found[:20], f'FAILED: {SHEET} is not what its numbers say; run python3 tools/datasheet/sheet.py']))
+        sys.exit(
+            '\n'.join(
+                [*found[:20], f'FAILED: {SHEET} is not what its numbers say; run python3 tools/datasheet/sheet.py']
+            )
+        )
     print(f'{SHEET} is what docs/datasheet/numbers.json, specs/, docs/PROCESSORS.md and the header say')
 
 

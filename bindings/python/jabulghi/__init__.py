@@ -24,7 +24,22 @@ try:
 except ImportError:
     numpy = None  # type: ignore[assignment]
 
-__all__ = ["Generator", "Intervals", "Marks", "Miss", "Refusal", "Refused", "Window", "intervals", "legs", "list_job", "misclosure", "play", "sample", "sample18"]
+__all__ = [
+    "Generator",
+    "Intervals",
+    "Marks",
+    "Miss",
+    "Refusal",
+    "Refused",
+    "Window",
+    "intervals",
+    "legs",
+    "list_job",
+    "misclosure",
+    "play",
+    "sample",
+    "sample18",
+]
 __version__ = VERSION
 Text = Union[str, bytes, bytearray, memoryview]
 
@@ -41,34 +56,72 @@ class Refused(ValueError):
 
 
 class _Record(ctypes.Structure):
-    _fields_ = [("a", ctypes.c_uint32 * 3), ("b", ctypes.c_uint32 * 3), ("count", ctypes.c_uint64), ("open", ctypes.c_uint32), ("asked", ctypes.c_uint32)]
+    _fields_ = [
+        ("a", ctypes.c_uint32 * 3),
+        ("b", ctypes.c_uint32 * 3),
+        ("count", ctypes.c_uint64),
+        ("open", ctypes.c_uint32),
+        ("asked", ctypes.c_uint32),
+    ]
 
 
 class _Window(ctypes.Structure):
-    _fields_ = [("size", ctypes.c_uint32), ("held", ctypes.c_uint32), ("place", ctypes.c_uint32), ("places", ctypes.c_int16 * 4096),
-                ("sum", ctypes.c_int64), ("squares", ctypes.c_int64)]
+    _fields_ = [
+        ("size", ctypes.c_uint32),
+        ("held", ctypes.c_uint32),
+        ("place", ctypes.c_uint32),
+        ("places", ctypes.c_int16 * 4096),
+        ("sum", ctypes.c_int64),
+        ("squares", ctypes.c_int64),
+    ]
 
 
 class _Marks(ctypes.Structure):
-    _fields_ = [("used", ctypes.c_uint32 * 16), ("length", ctypes.c_uint32 * 16), ("names", ctypes.c_uint8 * 192), ("records", _Record * 16)]
+    _fields_ = [
+        ("used", ctypes.c_uint32 * 16),
+        ("length", ctypes.c_uint32 * 16),
+        ("names", ctypes.c_uint8 * 192),
+        ("records", _Record * 16),
+    ]
 
 
 _P, _SIZE, _U32, _U64 = ctypes.c_void_p, ctypes.c_size_t, ctypes.c_uint32, ctypes.c_uint64
 _FILL, _LINES, _SUMS = [_P, _P, _SIZE], [_P, _SIZE, _P, _SIZE, _P, _P], [_P, _SIZE, _P, _P, _P]
 _CALLS = {
-    "seed": [_U32] * 6 + [_P], "skip": [_P, _U64], "ask": [_P, _U32], "give_up": [_P],
-    "sample": [_U64, _U32, _P], "pair": [_P, _P], "block": _FILL, "look": _FILL, "take": _FILL,
-    "sample18": [_U64, _U32, _P], "pair18": [_P, _P], "block18": _FILL, "look18": _FILL, "take18": _FILL,
-    "list": _LINES, "legs": _LINES, "misclosure": _SUMS, "intervals": _SUMS, "play": [_P, _SIZE, _U64, _P, _SIZE, _P],
-    "window_make_members": [_P] * 6 + [_U32], "window_push_members": [_P] * 6 + [ctypes.c_int16], "window_push_all_members": [_P] * 7 + [_SIZE],
-    "marks_save_members": [_P] * 6 + [_SIZE], "marks_return_members": [_P] * 6 + [_SIZE], "marks_drop_members": [_P] * 5 + [_SIZE],
+    "seed": [_U32] * 6 + [_P],
+    "skip": [_P, _U64],
+    "ask": [_P, _U32],
+    "give_up": [_P],
+    "sample": [_U64, _U32, _P],
+    "pair": [_P, _P],
+    "block": _FILL,
+    "look": _FILL,
+    "take": _FILL,
+    "sample18": [_U64, _U32, _P],
+    "pair18": [_P, _P],
+    "block18": _FILL,
+    "look18": _FILL,
+    "take18": _FILL,
+    "list": _LINES,
+    "legs": _LINES,
+    "misclosure": _SUMS,
+    "intervals": _SUMS,
+    "play": [_P, _SIZE, _U64, _P, _SIZE, _P],
+    "window_make_members": [_P] * 6 + [_U32],
+    "window_push_members": [_P] * 6 + [ctypes.c_int16],
+    "window_push_all_members": [_P] * 7 + [_SIZE],
+    "marks_save_members": [_P] * 6 + [_SIZE],
+    "marks_return_members": [_P] * 6 + [_SIZE],
+    "marks_drop_members": [_P] * 5 + [_SIZE],
 }
 
 
 def _load() -> Any:
     """The library of JABULGHI_LIBRARY, else the one in this folder, else the system's."""
     beside = os.path.join(os.path.dirname(__file__), "libjabulghi.so")
-    library = ctypes.CDLL(os.environ.get("JABULGHI_LIBRARY") or (beside if os.path.exists(beside) else "libjabulghi.so.1"))
+    library = ctypes.CDLL(
+        os.environ.get("JABULGHI_LIBRARY") or (beside if os.path.exists(beside) else "libjabulghi.so.1")
+    )
     for name, types in _CALLS.items():
         call = getattr(library, "jabulghi_" + name)
         call.argtypes, call.restype = types, _U32
@@ -126,7 +179,11 @@ def _room(samples: Any, size: int) -> Any:
     if not isinstance(samples, int if numpy is None else (int, numpy.integer)):
         return samples
     length = _whole(samples, 0, 2**62)
-    return numpy.zeros(length, dtype=f"i{size}") if numpy is not None else array("h" if size == 2 else "i", bytes(size * length))
+    return (
+        numpy.zeros(length, dtype=f"i{size}")
+        if numpy is not None
+        else array("h" if size == 2 else "i", bytes(size * length))
+    )
 
 
 class _Kept:
@@ -271,7 +328,12 @@ class Window(_Kept):
         """Samples of 16 bits in a buffer."""
         memory = _samples_of(samples, 2).tobytes()
         with self._lock:
-            _call("window_push_all_members", *self._members(), (ctypes.c_char * len(memory)).from_buffer_copy(memory), len(memory) // 2)
+            _call(
+                "window_push_all_members",
+                *self._members(),
+                (ctypes.c_char * len(memory)).from_buffer_copy(memory),
+                len(memory) // 2,
+            )
 
 
 class Marks(_Kept):
@@ -370,4 +432,8 @@ def play(job: Text, runs: int, first: int = 0) -> Any:
     """How far a job's loop misses in each of so many plays: rows of east and north in millimetres."""
     text, misses, line = _bytes(job), ((ctypes.c_int64 * 2) * _whole(runs, 0, 2**58))(), _U32()
     _call("play", text, len(text), _u64(first), misses, len(misses), ctypes.byref(line), line=line)
-    return numpy.array(misses, dtype="i8").reshape(-1, 2) if numpy is not None else [(east, north) for east, north in misses]
+    return (
+        numpy.array(misses, dtype="i8").reshape(-1, 2)
+        if numpy is not None
+        else [(east, north) for east, north in misses]
+    )
