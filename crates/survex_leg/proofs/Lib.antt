@@ -2,4 +2,5 @@ pub mod Words
 pub mod Numbers
 pub mod Legs
 pub mod Facts
+pub mod Forms
 pub mod Theorems
