@@ -4,3 +4,4 @@ pub mod Legs
 pub mod Facts
 pub mod Forms
 pub mod Theorems
+pub mod TextReadings
