@@ -5,3 +5,4 @@ pub mod Register
 pub mod Theorems
 pub mod Skip
 pub mod Seeding
+pub mod FirstCause
