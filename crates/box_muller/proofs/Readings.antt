@@ -17,5 +17,7 @@ unfolding topBit mantissa coarseIndex rest fineIndex remainder correction logari
     radiusOf signedOf firstOf secondOf samplesOf entryOf leadingZeros rootDigits lnTwoValue
 the-readings = record {
   hold = rw (logCoarse-is, logFine-is, cosCoarse-is, sinCoarse-is, cosFine-is, sinFine-is, lnTwo-is) refl;
+  example-first = rw (logCoarse-is, logFine-is, cosCoarse-is, sinCoarse-is, cosFine-is, sinFine-is, lnTwo-is) refl;
+  example-second = rw (logCoarse-is, logFine-is, cosCoarse-is, sinCoarse-is, cosFine-is, sinFine-is, lnTwo-is) refl;
   farthest18 = rw (logCoarse-is, logFine-is, cosCoarse-is, sinCoarse-is, cosFine-is, sinFine-is, lnTwo-is) refl;
 }

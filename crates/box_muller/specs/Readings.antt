@@ -35,5 +35,8 @@ pub record Readings : Type 0 where
   -- each is accepted and gives its two samples
   pub hold : map (λ (r : Reading). samplesOf fractionBits (r .k) (r .v)) readings
       ≡ map (λ (r : Reading). record { code = 0; first = r .first; second = r .second }) readings
+  -- the two pairs of document 01's example job: of a = b = 0x00202080 and of a = b = 0x02002C80, the draws of readings 11 and 12
+  pub example-first : samplesOf fractionBits 137984213024 8320 ≡ record { code = 0; first = pos 5723; second = pos 5584 }
+  pub example-second : samplesOf fractionBits 2199769842176 11392 ≡ record { code = 0; first = pos 5663; second = pos 2938 }
   -- reading 5 in 18 bits: the largest size (document 02, Job 8)
   pub farthest18 : samplesOf fractionBits18 0 0 ≡ record { code = 0; first = pos 0; second = pos 67517 }

@@ -1,47 +1,23 @@
 -- The causes one by one, and the one chain of all calls.
-use mathlib.Core.Path.{_≡_, refl, sym, _∙_}
-use mathlib.Core.Bool.{Bool, true, false, cond, true≢false}
+use mathlib.Core.Path.{_≡_, refl, _∙_}
+use mathlib.Core.Bool.{Bool, true, false, cond}
 use mathlib.Core.List.{List, [], _∷_, map}
 use mathlib.Core.Logic.{_⊎_, inl, inr}
 use Prim.Native.Nat.{ℕ, _+_, _*_, _/_, _%_}
 use native.Mathlib.Omega.{arith}
 use lib.Dec.{leb, eqb}
 use borrow.Author.Tests.{leb-true, leb-false, eqb-true, eqb-false}
-use Rattle.streams.specs.declared.Stream.{Stream}
 use Rattle.streams.specs.declared.Generator.{Generator}
 use Rattle.streams.specs.Streams.{fit, recordCode, openCode, noneOpenCode, mostAsked, askedCode, takenCode, lengthCode, mostCount, countCode}
 use Rattle.streams.specs.Streams.{Call, noteCode, ownCode, roomCode, firstCause, codeOf}
 use Rattle.streams.specs.Streams.Call.{numbers, a-pair, a-skip, a-block, a-look, an-ask, a-take, give-up}
-use Rattle.streams.specs.Recurrence.{Minima}
-use Rattle.streams.proofs.Theorems.{fit-minima}
+use Rattle.streams.proofs.FirstCause.{Settled, never, unfit, opened}
 use Rattle.noise.specs.Runs.{returned}
 use Rattle.noise.proofs.Runs.{returned-code}
 use Rattle.histories.specs.Refusals.{Refusal, unfit-a, unfit-b, none-open, one-open, not-as-asked, odd-length, count-full}
 use Rattle.histories.specs.Refusals.{refusalCode, order, NoneOpen, Open, TooMany, OtherSize, Odd, Passes, CauseOf, Applies}
 
 -- ---- One cause
-
--- The number is the code where the cause holds, and 0 where it does not.
-abbrev pub Settled : ℕ → ℕ → Type 0 → Type 0
-Settled code x P = ((x ≡ code) × P) ⊎ ((x ≡ 0) × (P → ⊥))
-
-never : (code : ℕ) → Settled code 0 ⊥
-never code = inr (refl, λ z. z)
-
-unfit : (code : ℕ) (u : Stream) → Settled code (cond (fit u) 0 code) (Minima u → ⊥)
-unfit code u = by-test (fit u) refl
-  where
-    by-test : (t : Bool) → fit u ≡ t → Settled code (cond t 0 code) (Minima u → ⊥)
-    by-test true e = inr (refl, λ n. n (fit-minima u .0 e))
-    by-test false e = inl (refl, λ m. true≢false (sym (fit-minima u .1 m) ∙ e))
-
-opened : (g : Generator) → Settled 14 (openCode g) (Open g)
-unfolding openCode
-opened g = by-test (eqb (g .waiting) 0) refl
-  where
-    by-test : (t : Bool) → eqb (g .waiting) 0 ≡ t → Settled 14 (cond t 0 14) (Open g)
-    by-test true e = inr (refl, λ h. omega (arith, h, eqb-true (g .waiting) 0 e))
-    by-test false e = inl (refl, eqb-false _ _ e)
 
 closed : (g : Generator) → Settled 15 (noneOpenCode g) (NoneOpen g)
 unfolding noneOpenCode

@@ -8,7 +8,7 @@ use Rattle.streams.specs.Recurrence.{seedFrom, InRange, Sound}
 use Rattle.streams.proofs.Theorems.{seeded, stream-history}
 use Rattle.noise.specs.Noise.{takeOf}
 use Rattle.histories.specs.Theorems.{OfRefusals, OfRequests, NextDraws, OfRuns}
-use Rattle.histories.proofs.Refusals.{under-cause, accepted, no-other, meetings-meet}
+use Rattle.histories.proofs.Refusals.{decides, meetings-meet}
 use Rattle.histories.proofs.Calls.{skip-none, look-code}
 use Rattle.histories.proofs.Requests.{open-run, ask-run-take, ask-run-give-up, asked-seeded}
 use Rattle.histories.proofs.Histories.{fit-for-ever, told-from-seeding, told-count, taken-half}
@@ -16,9 +16,9 @@ use Rattle.histories.proofs.Draws.{numbers-drawn, pair-drawn, block-dra
 
 pub of-refusals : OfRefusals
 of-refusals = record {
-  under-cause = λ r c g. under-cause c g r;
-  accepted = accepted;
-  no-other = no-other;
+  under-cause = λ r c g. decides c g .under-cause r;
+  accepted = λ c g. decides c g .accepted;
+  no-other = λ c g. decides c g .no-other;
   meet = meetings-meet;
   look = look-code;
   skip-none = skip-none;

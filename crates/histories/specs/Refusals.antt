@@ -1,15 +1,14 @@
 -- What a call on a record is refused for (document 01, the table of refusals; document 02, Jobs 1, 4, 6 and 7), in the documents' words and with their
 -- numbers. None of this is read by the code or by its definitions: `under-cause` compares the two.
 use mathlib.Core.Path.{_≡_}
-use mathlib.Core.Bool.{cond}
 use mathlib.Core.List.{List, [], _∷_}
 use mathlib.Core.Logic.{_⊎_}
 use Prim.Native.Nat.{ℕ, _+_, _-_, _*_, _/_, _%_, _^_, _<_}
-use lib.Dec.{eqb}
 use Rattle.streams.specs.declared.Generator.{Generator}
 use Rattle.streams.specs.Streams.{Call}
 use Rattle.streams.specs.Streams.Call.{numbers, a-pair, a-skip, a-block, a-look, an-ask, a-take, give-up}
 use Rattle.streams.specs.Recurrence.{Minima}
+use Rattle.streams.specs.FirstCause.{NoneEarlier}
 use Rattle.noise.specs.Runs.{returned}
 
 -- The refusals of a call on a record, by their causes.
@@ -28,14 +27,6 @@ refusalCode count-full = 13
 -- "11 first"; "after 11 and 12, in the order 15, 14, 16, 4, then 13".
 unfoldable pub order : List Refusal
 order = unfit-a ∷ unfit-b ∷ none-open ∷ one-open ∷ not-as-asked ∷ odd-length ∷ count-full ∷ []
-
--- The place of a refusal in the order.
-unfoldable pub placeIn : List Refusal → Refusal → ℕ
-placeIn [] r = 0
-placeIn (q ∷ l) r = cond (eqb (refusalCode q) (refusalCode r)) 0 (1 + placeIn l r)
-
-abbrev pub place : Refusal → ℕ
-place r = placeIn order r
 
 -- No request is open; one is, for 0 pairs too.
 abbrev pub NoneOpen : Generator → Type 0
@@ -85,7 +76,7 @@ Applies r give-up g = CauseOf g (NoneOpen g) ⊥ ⊥ ⊥ ⊥ r
 
 -- No cause that is tested before it.
 abbrev pub NoneBefore : Refusal → Call → Generator → Type 0
-NoneBefore r c g = (q : Refusal) → place q < place r → Applies q c g → ⊥
+NoneBefore r c g = NoneEarlier refusalCode order (λ (q : Refusal). Applies q c g) r
 
 -- ---- Two causes at one record
 

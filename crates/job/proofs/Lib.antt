@@ -5,3 +5,4 @@ pub mod Answered
 pub mod Jobs
 pub mod Pairs
 pub mod Theorems
+pub mod TextReadings

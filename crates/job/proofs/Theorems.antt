@@ -2,16 +2,16 @@
 use Prim.Native.Nat.{ℕ, suc, _+_, _-_, _*_, _%_, _≤_, _<_}
 use native.Mathlib.Decide.{decLe}
 use native.Mathlib.Omega.{arith}
-use mathlib.Core.Path.{_≡_, refl, sym, ap, _∙_}
+use mathlib.Core.Path.{_≡_, refl, sym, ap, ap₂, _∙_}
 use mathlib.Core.Bool.{Bool, true, false, cond, true≢false}
 use mathlib.Core.List.{List, map, [], _∷_, _++_}
 use mathlib.Core.Logic.{_↔_}
 use lib.Dec.{eqb, leb, ltb}
 use lib.ListN.{length, length-append}
-use borrow.Author.Tests.{eqb-true, eqb-false, leb-true, leb-false, ltb-false, not-false}
+use borrow.Author.Tests.{eqb-true, eqb-false, leb-true, leb-false, lt-leb, lt-ltb, ltb-false, not-false}
 use Rattle.text.specs.Scan.{lines}
 use Rattle.job_refusals.specs.Limits.{mostBytes, lastLine, listingRoom, longestListing}
-use Rattle.job_lines.specs.Forms.{Form, seeds, sigma, shot, noForm, readLine, printLine}
+use Rattle.job_lines.specs.Forms.{Form, seeds, sigma, shot, noForm, readLine, printLine, Printable}
 use Rattle.listing_writer.specs.Listing.{header, endRow, rowRoom}
 use Rattle.job_refusals.specs.Refusals.{formless, misplaced, tooMany, beyond, seedCode, refusal}
 use Rattle.job_setting.specs.Setting.{start}
@@ -21,6 +21,8 @@ use Rattle.job.specs.Private.{Steady}
 use Rattle.job_setting.specs.declared.Setting.{Setting}
 use Rattle.job.specs.declared.JobAnswer.{JobAnswer}
 use Rattle.listing_writer.proofs.Rows.{header-length}
+use Rattle.job_lines.proofs.RoundTrip.{read-printed}
+use Rattle.job_refusals.proofs.Theorems as refusals
 use Rattle.job_refusals.proofs.Refused.{seed-apart}
 use Rattle.job_refusals.proofs.Accepted.{accepted-line}
 use Rattle.job.proofs.Bounds.{end-short, steps}
@@ -189,6 +191,14 @@ module _ (room : ℕ) where
   just-10 : (text : List ℕ) → (answerOf (jobOf text) room .code ≡ 10) ↔ ((bytes : List ℕ) × (jobOf text ≡ listed bytes) × (room < length bytes))
   just-10 text = answer-10 (jobOf text) (job-apart text)
 
+  told-10 : (text : List ℕ) → answerOf (jobOf text) room .code ≡ 10 → answerOf (jobOf text) room ≡ record { code = 10; line = 0; length = 0 }
+  unfolding answerOf
+  told-10 text e = let (bytes, is, long) = just-10 text .0 e in rw (is, lt-leb (length bytes) room long)
+
+  told-5 : (text : List ℕ) → answerOf (jobOf text) room .code ≡ 5 → answerOf (jobOf text) room ≡ record { code = 5; line = 0; length = 0 }
+  unfolding jobOf answerOf
+  told-5 text e = rw (lt-ltb mostBytes (length text) (just-5 text .0 e))
+
 never-too-long : (text : List ℕ) → answerOf (jobOf text) listingRoom .code ≡ 10 → ⊥
 never-too-long text e =
     let (bytes, p, long) = just-10 listingRoom text .0 e in
@@ -199,6 +209,16 @@ first-bad : (text l : List ℕ) (xs : List Form) (ls : List (List ℕ)) → leng
     → jobOf text ≡ refused (refusal (1 + length xs) (readLine l)) (1 + length xs)
 unfolding listingOf
 first-bad text l xs ls n h e b = job-short text n ∙ rw e (onto-refused header _ _ _ (outcome-bad l ls xs 1 start h b))
+
+shot-501 : (text : List ℕ) (xs : List Form) (from to : List ℕ) (d b : ℕ) (ls : List (List ℕ)) → length text ≤ 60000 → Accepts 1 xs
+    → length xs ≡ 502 → Printable (shot from to d b) → lines text ≡ map printLine xs ++ (printLine (shot from to d b) ∷ ls)
+    → jobOf text ≡ refused 9 503
+shot-501 text xs from to d b ls short a many p e =
+    let line : 1 + length xs ≡ 503 = omega (arith, many) in
+    let nine : refusal (1 + length xs) (readLine (printLine (shot from to d b))) ≡ 9
+    = ap (refusal (1 + length xs)) (read-printed (shot from to d b) p) ∙ refusals.theorems .shot-codes _ from to d b .just-9 .1 (omega (arith, line)) in
+    first-bad text (printLine (shot from to d b)) xs ls short a e (λ z. let none : _≡_ {A = ℕ} 9 0 = sym nine ∙ z in omega (arith, none))
+    ∙ ap₂ refused nine line
 
 missing-line : (text : List ℕ) (xs : List Form) → length text ≤ mostBytes → Accepts 1 xs → lines text ≡ map printLine xs
     → length xs < 2 → jobOf text ≡ refused 8 (1 + length xs)
@@ -265,6 +285,9 @@ theorems = record {
   missing-line = missing-line;
   just-5 = λ text room. just-5 room text;
   just-10 = λ text room. just-10 room text;
+  told-5 = λ text room. told-5 room text;
+  told-10 = λ text room. told-10 room text;
+  shot-501 = shot-501;
   longest = longest;
   fits = fits;
   never-too-long = never-too-long;

@@ -1,3 +1,4 @@
 pub mod Job
 pub mod Theorems
 pub mod Private
+pub mod TextReadings

@@ -103,6 +103,13 @@ pub record Theorems : Type 0 where
   pub just-5 : (text : List ℕ) (room : ℕ) → (answerOf (jobOf text) room .code ≡ 5) ↔ (60000 < length text)
   pub just-10 : (text : List ℕ) (room : ℕ) → (answerOf (jobOf text) room .code ≡ 10)
       ↔ ((bytes : List ℕ) × (jobOf text ≡ listed bytes) × (room < length bytes))
+  -- both with line 0 and length 0
+  pub told-5 : (text : List ℕ) (room : ℕ) → answerOf (jobOf text) room .code ≡ 5 → answerOf (jobOf text) room ≡ record { code = 5; line = 0; length = 0 }
+  pub told-10 : (text : List ℕ) (room : ℕ) → answerOf (jobOf text) room .code ≡ 10 → answerOf (jobOf text) room ≡ record { code = 10; line = 0; length = 0 }
+  -- the 501st shot, after 500 that are accepted, is refused with 9 at line 503, whatever it says and whatever follows
+  pub shot-501 : (text : List ℕ) (xs : List Form) (from to : List ℕ) (d b : ℕ) (ls : List (List ℕ)) → length text ≤ 60000 → Accepts 1 xs
+      → length xs ≡ 502 → Printable (shot from to d b) → lines text ≡ map printLine xs ++ (printLine (shot from to d b) ∷ ls)
+      → jobOf text ≡ refused 9 503
   -- a listing has at most so many bytes
   pub longest : (text bytes : List ℕ) → jobOf text ≡ listed bytes → length bytes ≤ longestListing
   -- a listing fits the listing program's buffer, so that it never prints 10

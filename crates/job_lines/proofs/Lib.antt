@@ -2,3 +2,5 @@ pub mod RoundTrip
 pub mod Reading
 pub mod ShotLines
 pub mod Exact
+pub mod TextReadings
+pub mod Theorems

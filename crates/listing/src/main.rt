@@ -8,6 +8,7 @@ use libc::STDOUT_FILENO;
 
 // A text that is too long is refused whatever follows, so one byte more than the longest job is read.
 fn main() {
+    let mut out = [0u8; LISTING_ROOM];
     let mut text = [0u8; MOST_BYTES + 1];
     let read = read_all(STDIN_FILENO, &mut text);
     if read.failed {
@@ -15,7 +16,6 @@ fn main() {
         return;
     }
     let n = read.length;
-    let mut out = [0u8; LISTING_ROOM];
     let length = print_job(&text[0..n], &mut out);
     if !io::write_all(STDOUT_FILENO, &out[0..length]) {
         os::fail(b"listing: writing standard output");

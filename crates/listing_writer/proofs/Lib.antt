@@ -1,3 +1,4 @@
 pub mod Rows
 mod Signs
 pub mod Theorems
+pub mod TextReadings

@@ -2,7 +2,12 @@
 use Prim.Native.Nat.{ℕ, suc, _+_, _*_, _%_, _≤_, _<_}
 use native.Mathlib.Omega.{arith}
 use mathlib.Core.Path.{_≡_, refl}
+use mathlib.Core.List.{List, [], _∷_, _++_}
 use lib.IntN.{ℤ, pos, negsuc}
+use Rattle.text.specs.Ascii.{byte}
+use Rattle.text.specs.Fields.{decimal}
+use Rattle.text.specs.Forms.{printForm}
+use Rattle.listing_writer.specs.Listing.{shotRow, noisyRow}
 use Rattle.listing_writer.specs.Rounding.{turnSteps, noiseSize, noisyDistance, noisyBearing}
 use Rattle.listing_writer.specs.Theorems.{Theorems}
 
@@ -41,6 +46,12 @@ unfolding noisyBearing
 bearing-range sigma x (pos n) = omega arith
 bearing-range sigma x (negsuc n) = omega arith
 
+row : (sigmaMm sigmaStep : ℕ) (from to : List ℕ) (mm step : ℕ) (first second : ℤ) → noisyRow sigmaMm sigmaStep from to mm step first second
+    ≡ from ++ (byte " " ∷ (to ++ (byte " " ∷ (decimal (noisyDistance sigmaMm mm first)
+    ++ (byte " " ∷ (decimal (noisyBearing sigmaStep step second) ++ (byte "\n" ∷ [])))))))
+unfolding noisyRow shotRow printForm
+row sigmaMm sigmaStep from to mm step first second = refl
+
 pub theorems : Theorems
 theorems = record {
   nearest = nearest;
@@ -51,4 +62,5 @@ theorems = record {
   bearing-range = bearing-range;
   bearing-up = bearing-up;
   bearing-down = bearing-down;
+  row = row;
 }

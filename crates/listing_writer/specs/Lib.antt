@@ -1,3 +1,4 @@
 pub mod Rounding
 pub mod Listing
 pub mod Theorems
+pub mod TextReadings

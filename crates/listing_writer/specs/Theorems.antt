@@ -1,7 +1,11 @@
 -- What the noise on a shot is, as theorems: the record below has a proof in proofs/Theorems.antt.
 use Prim.Native.Nat.{ℕ, suc, _+_, _*_, _%_, _≤_, _<_}
 use mathlib.Core.Path.{_≡_}
+use mathlib.Core.List.{List, [], _∷_, _++_}
 use lib.IntN.{ℤ, pos, negsuc}
+use Rattle.text.specs.Ascii.{byte}
+use Rattle.text.specs.Fields.{decimal}
+use Rattle.listing_writer.specs.Listing.{noisyRow}
 use Rattle.listing_writer.specs.Rounding.{turnSteps, noiseSize, noisyDistance, noisyBearing}
 
 pub record Theorems : Type 0 where
@@ -19,3 +23,7 @@ pub record Theorems : Type 0 where
   pub bearing-range : (sigma b : ℕ) (z : ℤ) → noisyBearing sigma b z < turnSteps
   pub bearing-up : (sigma b n : ℕ) → noisyBearing sigma b (pos n) ≡ (b + noiseSize sigma n) % turnSteps
   pub bearing-down : (sigma b n : ℕ) → (noisyBearing sigma b (negsuc n) + noiseSize sigma (suc n)) % turnSteps ≡ b % turnSteps
+  -- "First sample to distance .., second to bearing": the row of a shot, with line 2's two sigmas and the two samples of one pair
+  pub row : (sigmaMm sigmaStep : ℕ) (from to : List ℕ) (mm step : ℕ) (first second : ℤ) → noisyRow sigmaMm sigmaStep from to mm step first second
+      ≡ from ++ (byte " " ∷ (to ++ (byte " " ∷ (decimal (noisyDistance sigmaMm mm first)
+      ++ (byte " " ∷ (decimal (noisyBearing sigmaStep step second) ++ (byte "\n" ∷ [])))))))

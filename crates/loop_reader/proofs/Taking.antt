@@ -56,4 +56,4 @@ module _ (x : Form) (station bytes : List ℕ) (s t : State) (old : List ℕ) wh
 
 -- an accepted shot is in its place and within its ranges
 pub shot-placed : (k : ℕ) (from to : List ℕ) (d b : ℕ) → refusal k (shot from to d b) ≡ 0 → (3 ≤ k) × (k ≤ 502) × (d ≤ 1000000) × (b ≤ 65535)
-shot-placed k from to d b h = theorems .shot-accepted k from to d b .0 h
+shot-placed k from to d b h = theorems .shot-codes k from to d b .just-0 .0 h

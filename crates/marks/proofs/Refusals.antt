@@ -1,51 +1,27 @@
 -- The first cause that holds gives the code of a call on marks.
-use mathlib.Core.Path.{_≡_, refl, sym, ap, _∙_, subst}
-use mathlib.Core.Bool.{Bool, true, false, cond, not, true≢false, false≢true, _&&_}
+use mathlib.Core.Path.{_≡_, refl, sym, _∙_}
+use mathlib.Core.Bool.{Bool, true, false, cond, true≢false, false≢true}
 use mathlib.Core.List.{List, [], _∷_, map}
-use mathlib.Core.Logic.{_↔_, _⊎_, inl, inr}
-use Prim.Native.Nat.{ℕ, suc, _≤_, _<_}
+use mathlib.Core.Logic.{_↔_, inl, inr}
+use Prim.Native.Nat.{ℕ, _≤_, _<_}
 use native.Mathlib.Omega.{arith}
 use lib.Dec.{eqb, leb, ltb}
 use lib.ListN.{length, getD}
-use borrow.Author.Tests.{eqb-true, eqb-false, ne-eqb, leb-true, ltb-true, ltb-false, lt-ltb, le-leb, not-true, not-false}
-use Rattle.streams.specs.declared.Stream.{Stream}
-use Rattle.streams.specs.declared.Generator.{Generator}
+use borrow.Author.Tests.{leb-true, ltb-true, ltb-false, lt-ltb, le-leb, not-true, not-false}
 use Rattle.streams.specs.Streams.{fit, recordCode, openCode, firstCause}
-use Rattle.streams.specs.Recurrence.{Minima}
-use Rattle.streams.proofs.Theorems.{fit-minima}
+use Rattle.streams.specs.FirstCause.{placeIn}
+use Rattle.streams.proofs.FirstCause.{Settled, never, unfit, opened, Ordered, first-decides}
 use Rattle.text.specs.Fields.{all, letterOrDigit, name}
 use Rattle.text.proofs.Tests.{test, _and_, each}
 use Rattle.marks.specs.declared.label.Label.{Label}
 use Rattle.marks.specs.Marks.{places, hasName, isFree, noLabel, firstPlace, placeOf, savePlace, idleCode, nameCode, placeCode, placeToSave, placeToReturn, placeToDrop, savedOf, returnedOf, droppedOf, Sized}
 use Rattle.marks.specs.Runs.{State, codeIn}
-use Rattle.marks.specs.Refusals.{Refusal, unfit-a, unfit-b, one-open, malformed, not-held, no-place, refusalCode, order, placeIn, place}
-use Rattle.marks.specs.Refusals.{WellFormed, Held, Full, NameCall, save, return, drop, asCall, CauseOf, Applies, NoneBefore, OfRefusals}
+use Rattle.marks.specs.Refusals.{Refusal, unfit-a, unfit-b, one-open, malformed, not-held, no-place, refusalCode, order}
+use Rattle.marks.specs.Refusals.{WellFormed, Held, Full, NameCall, save, return, drop, asCall, CauseOf, Applies, OfRefusals}
 use Rattle.marks.proofs.Names.{has, has-name}
 use Rattle.marks.proofs.First.{first-passes, first-before}
 
 -- ---- One cause
-
--- The number is the code where the cause holds, and 0 where it does not.
-abbrev Settled : ℕ → ℕ → Type 0 → Type 0
-Settled code x P = ((x ≡ code) × P) ⊎ ((x ≡ 0) × (P → ⊥))
-
-never : (code : ℕ) → Settled code 0 ⊥
-never code = inr (refl, λ z. z)
-
-unfit : (code : ℕ) (u : Stream) → Settled code (cond (fit u) 0 code) (Minima u → ⊥)
-unfit code u = by-test (fit u) refl
-  where
-    by-test : (t : Bool) → fit u ≡ t → Settled code (cond t 0 code) (Minima u → ⊥)
-    by-test true e = inr (refl, λ n. n (fit-minima u .0 e))
-    by-test false e = inl (refl, λ m. true≢false (sym (fit-minima u .1 m) ∙ e))
-
-opened : (g : Generator) → Settled 14 (openCode g) (g .waiting ≡ 0 → ⊥)
-unfolding openCode
-opened g = by-test (eqb (g .waiting) 0) refl
-  where
-    by-test : (t : Bool) → eqb (g .waiting) 0 ≡ t → Settled 14 (cond t 0 14) (g .waiting ≡ 0 → ⊥)
-    by-test true e = inr (refl, λ h. h (eqb-true _ _ e))
-    by-test false e = inl (refl, eqb-false _ _ e)
 
 well-formed : (x : List ℕ) → (name x ≡ true) ↔ WellFormed x
 unfolding name
@@ -109,84 +85,18 @@ module _ (labels : List Label) (size : length labels ≡ places) (x : List ℕ) 
 
 -- ---- The first of them
 
--- The refusal at a place.
-at : ℕ → Refusal
-at n = getD order n unfit-a
-
-at-place : (r : Refusal) → at (place r) ≡ r
-unfolding at order placeIn refusalCode
-at-place unfit-a = refl
-at-place unfit-b = refl
-at-place one-open = refl
-at-place malformed = refl
-at-place not-held = refl
-at-place no-place = refl
-
-one-place : (q r : Refusal) → place q ≡ place r → q ≡ r
-one-place q r e = sym (at-place q) ∙ ap at e ∙ at-place r
-
--- One code is one refusal's.
-same-place : (l : List Refusal) (q r : Refusal) → refusalCode q ≡ refusalCode r → placeIn l q ≡ placeIn l r
-unfolding placeIn
-same-place [] q r e = refl
-same-place (p ∷ l) q r e = rw (e, same-place l q r e)
-
-one-code : (q r : Refusal) → refusalCode q ≡ refusalCode r → q ≡ r
-one-code q r e = one-place q r (same-place order q r e)
-
-some-code : (r : Refusal) → refusalCode r ≡ 0 → ⊥
-unfolding refusalCode
-some-code unfit-a e = omega (arith, e)
-some-code unfit-b e = omega (arith, e)
-some-code one-open e = omega (arith, e)
-some-code malformed e = omega (arith, e)
-some-code not-held e = omega (arith, e)
-some-code no-place e = omega (arith, e)
-
-below-six : (r : Refusal) → place r < 6
+-- Each refusal has a code and a place of its own.
+own : (r : Refusal) → (getD order (placeIn refusalCode order r) unfit-a ≡ r) × (refusalCode r ≡ 0 → ⊥) × (placeIn refusalCode order r < length order)
 unfolding order placeIn refusalCode
-below-six unfit-a = omega arith
-below-six unfit-b = omega arith
-below-six one-open = omega arith
-below-six malformed = omega arith
-below-six not-held = omega arith
-below-six no-place = omega arith
+own unfit-a = (refl, λ e. omega (arith, e), omega arith)
+own unfit-b = (refl, λ e. omega (arith, e), omega arith)
+own one-open = (refl, λ e. omega (arith, e), omega arith)
+own malformed = (refl, λ e. omega (arith, e), omega arith)
+own not-held = (refl, λ e. omega (arith, e), omega arith)
+own no-place = (refl, λ e. omega (arith, e), omega arith)
 
--- The refusals from a place on.
-abbrev From : ℕ → List Refusal → Type 0
-From n [] = n ≡ 6
-From n (r ∷ l) = (place r ≡ n) × From (suc n) l
-
-all-from : From 0 order
-unfolding order placeIn refusalCode
-all-from = (refl, (refl, (refl, (refl, (refl, (refl, refl))))))
-
--- two numbers of which neither is the smaller
-neither-below : (m n : ℕ) → (m < n → ⊥) → (n < m → ⊥) → m ≡ n
-neither-below m n h k = omega (arith, h, k)
-
-module _ (applies : Refusal → Type 0) (cause : Refusal → ℕ) (settled : (r : Refusal) → Settled (refusalCode r) (cause r) (applies r)) where
-  -- A code is 0 and no cause holds, or it is that of the first that does.
-  abbrev Found : ℕ → Type 0
-  Found code =
-      ((code ≡ 0) × ((r : Refusal) → applies r → ⊥))
-      ⊎ ((r : Refusal) × (code ≡ refusalCode r) × applies r × ((q : Refusal) → place q < place r → applies q → ⊥))
-
-  pub first-found : (n : ℕ) (l : List Refusal) → From n l → ((q : Refusal) → place q < n → applies q → ⊥)
-      → Found (firstCause (map cause l))
-  first-found n [] end none = inl (refl, λ r. none r (omega (arith, end, below-six r)))
-  first-found n (r ∷ l) (here, rest) none = by-cause (settled r) (first-found (suc n) l rest)
-    where
-      by-cause : Settled (refusalCode r) (cause r) (applies r)
-          → (((q : Refusal) → place q < suc n → applies q → ⊥) → Found (firstCause (map cause l)))
-          → Found (firstCause (map cause (r ∷ l)))
-      by-cause (inl (e, holds)) further =
-          inr (r, rw (e, ne-eqb (refusalCode r) 0 (some-code r)), holds, λ q before. none q (omega (arith, here)))
-      by-cause (inr (e, fails)) further = rw e (further (λ q before holds. by-test q before holds (eqb (place q) (place r)) refl))
-        where
-          by-test : (q : Refusal) → place q < suc n → applies q → (t : Bool) → eqb (place q) (place r) ≡ t → ⊥
-          by-test q before holds true same = fails (subst applies (one-place q r (eqb-true _ _ same)) holds)
-          by-test q before holds false other = none q (omega (arith, here, eqb-false (place q) (place r) other)) holds
+ordered : Ordered refusalCode order
+ordered = record { at = λ n. getD order n unfit-a; own-place = λ r. own r .0; own-code = λ r. own r .1; among = λ r. own r .2 }
 
 -- ---- The causes of a call
 
@@ -257,44 +167,6 @@ module _ (c : NameCall) (s : State) (sized : Sized (s .marks)) (x : List ℕ) wh
           (held-or-not (s .marks .labels) size x) (never 20)
       by-call drop = settled-chain x (never 11) (never 12) (never 14) (held-or-not (s .marks .labels) size x) (never 20)
 
-  code : ℕ
-  code = codeIn (asCall c x) s
-
-  found : Found (λ r. Applies r c s x) (causeOf c s x) settled code
-  unfolding code
-  found = rw (first-of c s x) (first-found (λ r. Applies r c s x) (causeOf c s x) settled 0 order all-from (λ q before. absurd (omega arith)))
-
   -- Each code comes just where its cause holds and none before it does.
   pub of-refusals : OfRefusals c s x
-  unfolding code
-  of-refusals =
-      record {
-        under-cause = λ r. (by-code r found, by-place r found);
-        accepted = (no-cause found, no-code found);
-        no-other = either found;
-      }
-    where
-      by-code : (r : Refusal) → Found (λ r. Applies r c s x) (causeOf c s x) settled code → code ≡ refusalCode r
-          → Applies r c s x × NoneBefore r c s x
-      by-code r (inl (none, _)) e = absurd (some-code r (sym e ∙ none))
-      by-code r (inr (q, is, holds, first)) e =
-          subst (λ (p : Refusal). Applies p c s x × NoneBefore p c s x) (one-code q r (sym is ∙ e)) (holds, first)
-
-      by-place : (r : Refusal) → Found (λ r. Applies r c s x) (causeOf c s x) settled code → Applies r c s x × NoneBefore r c s x
-          → code ≡ refusalCode r
-      by-place r (inl (_, none)) (holds, first) = absurd (none r holds)
-      by-place r (inr (q, is, holds-q, first-q)) (holds, first) =
-          let same : place q ≡ place r = neither-below (place q) (place r) (λ h. first q h holds-q) (λ h. first-q r h holds) in
-          is ∙ ap refusalCode (one-place q r same)
-
-      no-cause : Found (λ r. Applies r c s x) (causeOf c s x) settled code → code ≡ 0 → (r : Refusal) → Applies r c s x → ⊥
-      no-cause (inl (_, none)) e = none
-      no-cause (inr (q, is, _, _)) e = absurd (some-code q (sym is ∙ e))
-
-      no-code : Found (λ r. Applies r c s x) (causeOf c s x) settled code → ((r : Refusal) → Applies r c s x → ⊥) → code ≡ 0
-      no-code (inl (e, _)) none = e
-      no-code (inr (q, _, holds, _)) none = absurd (none q holds)
-
-      either : Found (λ r. Applies r c s x) (causeOf c s x) settled code → (code ≡ 0) ⊎ ((r : Refusal) × (code ≡ refusalCode r))
-      either (inl (e, _)) = inl e
-      either (inr (q, is, _, _)) = inr (q, is)
+  of-refusals = rw (first-of c s x) (first-decides refusalCode order ordered (λ (r : Refusal). Applies r c s x) (causeOf c s x) settled)

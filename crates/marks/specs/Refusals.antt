@@ -1,14 +1,13 @@
 -- What a call on marks is refused for (document 02, Job 11), in the document's words and with its numbers. None of this is read by the code or by
 -- its definitions: `under-cause` compares the two.
 use mathlib.Core.Path.{_≡_}
-use mathlib.Core.Bool.{true, cond}
+use mathlib.Core.Bool.{true}
 use mathlib.Core.List.{List, [], _∷_}
-use mathlib.Core.Logic.{_↔_, _⊎_}
-use Prim.Native.Nat.{ℕ, _+_, _≤_, _<_}
-use lib.Dec.{eqb}
+use Prim.Native.Nat.{ℕ, _≤_, _<_}
 use lib.ListN.{length, getD, take}
 use Rattle.streams.specs.declared.Generator.{Generator}
 use Rattle.streams.specs.Recurrence.{Minima}
+use Rattle.streams.specs.FirstCause.{Decides}
 use Rattle.text.specs.Fields.{all, letterOrDigit}
 use Rattle.marks.specs.declared.label.Label.{Label}
 use Rattle.marks.specs.Marks.{noLabel, Sized}
@@ -30,14 +29,6 @@ refusalCode no-place = 20
 -- "11 and 12 apply to the record passed in .. before 14"; 18, 19 and 20 "after 14, in this order".
 unfoldable pub order : List Refusal
 order = unfit-a ∷ unfit-b ∷ one-open ∷ malformed ∷ not-held ∷ no-place ∷ []
-
--- The place of a refusal in the order.
-unfoldable pub placeIn : List Refusal → Refusal → ℕ
-placeIn [] r = 0
-placeIn (q ∷ l) r = cond (eqb (refusalCode q) (refusalCode r)) 0 (1 + placeIn l r)
-
-abbrev pub place : Refusal → ℕ
-place r = placeIn order r
 
 -- "Names are 1 to 12 letters or digits of ASCII."
 pub record WellFormed (x : List ℕ) : Type 0 where
@@ -88,15 +79,6 @@ Applies r return s x =
     CauseOf x (Minima (s .generator .a) → ⊥) (Minima (s .generator .b) → ⊥) (s .generator .waiting ≡ 0 → ⊥) (Held (s .marks .labels) x → ⊥) ⊥ r
 Applies r drop s x = CauseOf x ⊥ ⊥ ⊥ (Held (s .marks .labels) x → ⊥) ⊥ r
 
--- No cause that is tested before it.
-abbrev pub NoneBefore : Refusal → NameCall → State → List ℕ → Type 0
-NoneBefore r c s x = (q : Refusal) → place q < place r → Applies q c s x → ⊥
-
--- Of every call on marks, with any record and any set of 16 places.
-pub record OfRefusals (c : NameCall) (s : State) (x : List ℕ) : Type 0 where
-  -- "under its cause and under no other": each code just where its cause holds and none before it does
-  pub under-cause : (r : Refusal) → (codeIn (asCall c x) s ≡ refusalCode r) ↔ (Applies r c s x × NoneBefore r c s x)
-  -- a call is accepted just where no cause holds
-  pub accepted : (codeIn (asCall c x) s ≡ 0) ↔ ((r : Refusal) → Applies r c s x → ⊥)
-  -- it returns no code but these
-  pub no-other : (codeIn (asCall c x) s ≡ 0) ⊎ ((r : Refusal) × (codeIn (asCall c x) s ≡ refusalCode r))
+-- Of every call on marks, with any record and any set of 16 places: "under its cause and under no other"
+abbrev pub OfRefusals : NameCall → State → List ℕ → Type 0
+OfRefusals c s x = Decides refusalCode order (λ (r : Refusal). Applies r c s x) (codeIn (asCall c x) s)

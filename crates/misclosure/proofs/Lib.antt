@@ -4,4 +4,6 @@ pub mod Going
 pub mod Listings
 pub mod Answer
 pub mod Causes
+pub mod FirstBad
 pub mod Theorems
+pub mod TextReadings

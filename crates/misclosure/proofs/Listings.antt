@@ -45,7 +45,7 @@ use Rattle.misclosure.proofs.Going.{outcome-yes, outcome-no}
 -- ---- from rows to a listing
 
 -- one distance is both, two are in order
-ordered-alike : (b : Bool) (low high : ℕ) → Ordered b low high → Alike b low high × (low ≤ high)
+pub ordered-alike : (b : Bool) (low high : ℕ) → Ordered b low high → Alike b low high × (low ≤ high)
 ordered-alike true low high h = (tt, h)
 ordered-alike false low high h = (h, omega (arith, h))
 

@@ -27,6 +27,7 @@ use Rattle.misclosure.proofs.Listings.{
 use Rattle.misclosure.proofs.Answer.{equal-answer}
 use Rattle.misclosure.proofs.Lines.{neither-6}
 use Rattle.misclosure.proofs.Causes.{shot-codes, end-code}
+use Rattle.misclosure.proofs.FirstBad.{first-bad, missing-line, line-after, no-text, no-header}
 
 -- ---- runs joined, by the shots that each kind of sum takes
 
@@ -64,6 +65,11 @@ theorems = record {
   neither-code = neither-6;
   accepted-listing = linked-accepted;
   listing-accepted = accepted-linked;
+  first-bad = λ between text l rows ls. first-bad between text rows l ls;
+  missing-line = missing-line;
+  line-after = λ between text l rows ls. line-after between text rows l ls;
+  no-text = no-text;
+  no-header = no-header;
   longest = accepted-longest;
   close = λ text l e.
       let (few, ranged) = accepted-ranged false text l e in

@@ -15,7 +15,7 @@ use Rattle.sums.specs.Sums.{Shot, sine, cosine, total, rounded, mostShots, most
 use Rattle.sums.specs.Exact.{exactSine, exactCosine, Close}
 use Rattle.sums.specs.Spans.{Span, Chosen, lowShots, Spans}
 use Rattle.sums.specs.Margin.{distances, margin, CloseBy, FineSpans}
-use Rattle.misclosure.specs.Misclosure.{mostStep, follows, refusal, accepted, listingOf, missOf, bothEnds, intervalsOf}
+use Rattle.misclosure.specs.Misclosure.{mostStep, follows, refusal, refused, accepted, listingOf, missOf, bothEnds, intervalsOf}
 use Rattle.misclosure.specs.declared.Miss.{Miss}
 use Rattle.misclosure.specs.declared.IntervalSums.{IntervalSums}
 use Rattle.misclosure.specs.declared.Ends.{Ends}
@@ -92,6 +92,17 @@ chosenRows (r ∷ rows) [] = []
 chosenRows (r ∷ rows) (s ∷ c) =
     record { from = r .from; to = r .to; low = s .distance; high = s .distance; step = r .step } ∷ chosenRows rows c
 
+-- the station after these shots: where the last of them ended
+unfoldable pub stationOf : List ℕ → List Row → List ℕ
+stationOf station [] = station
+stationOf station (r ∷ rows) = stationOf (r .to) rows
+
+-- a listing of these lines after the header: accepted shots, and then others
+pub record Begins (between : Bool) (text : List ℕ) (rows : List Row) (ls : List (List ℕ)) : Type 0 where
+  pub linked : Linked between [] rows
+  pub few : length rows ≤ 500
+  pub begins : lines text ≡ headerOf between ∷ (map (rowText between) rows ++ ls)
+
 -- the most bytes of a shot's row, and of an accepted listing: the header, a row for each shot, and the last row
 unfoldable pub longestRow : Bool → ℕ
 longestRow false = 40
@@ -148,6 +159,18 @@ pub record Theorems : Type 0 where
       → listingOf between (textOf between rows) ≡ accepted (spansIn rows)
   pub listing-accepted : (between : Bool) (text : List ℕ) (l : List Span) → listingOf between text ≡ accepted l
       → (rows : List Row) × Linked between [] rows × (length rows ≤ mostShots) × (textOf between rows ≡ text) × (spansIn rows ≡ l)
+  -- "the first bad line decides": after accepted shots, the first line that is refused gives code and line; the header is line 1
+  pub first-bad : (between : Bool) (text l : List ℕ) (rows : List Row) (ls : List (List ℕ)) → Begins between text rows (l ∷ ls)
+      → (refusal (2 + length rows) (stationOf [] rows) (readEntry between l) ≡ 0 → ⊥)
+      → listingOf between text ≡ refused (refusal (2 + length rows) (stationOf [] rows) (readEntry between l)) (2 + length rows)
+  -- "a missing one .. gets 6", at the next line; so does a line after END, at its own
+  pub missing-line : (between : Bool) (text : List ℕ) (rows : List Row) → Begins between text rows [] → listingOf between text ≡ refused 6 (2 + length rows)
+  pub line-after : (between : Bool) (text l : List ℕ) (rows : List Row) (ls : List (List ℕ)) → Begins between text rows (endRow (length rows) ∷ l ∷ ls)
+      → listingOf between text ≡ refused 6 (3 + length rows)
+  -- so does a text without its header, at line 1
+  pub no-text : (between : Bool) → listingOf between [] ≡ refused 6 1
+  pub no-header : (between : Bool) (text l : List ℕ) (ls : List (List ℕ)) → lines text ≡ l ∷ ls → (l ≡ headerOf between → ⊥)
+      → listingOf between text ≡ refused 6 1
   -- an accepted listing has at most so many bytes
   pub longest : (between : Bool) (text : List ℕ) (l : List Span) → listingOf between text ≡ accepted l → length text ≤ longestListing between
   -- "East and north, rounded, are each less than 3 mm from the exact sums"; and even less than 2

@@ -17,9 +17,9 @@ of-streams = record {
   size = omega arith;
   places = places-differ;
   skips = skips-apart;
-  stretches = stretches-apart;
+  stretches = λ g ra rb m j n k apart. stretches-apart g ra rb m j n k (omega (arith, apart));
   one-cycle = one-cycle;
 }
 
 pub of-runs : OfRuns
-of-runs = record { runs = runs-same; from-seeding = seeded-same; rigs = rigs-apart; equal-seeds = equal-streams }
+of-runs = record { runs = runs-same; from-seeding = seeded-same; rigs = λ g ra rb m n p q l l′ behind. rigs-apart g ra rb m n p q l l′ (omega (arith, behind)); equal-seeds = equal-streams }

@@ -21,6 +21,7 @@ use Rattle.noise.proofs.Laws.{samples-words}
 use Rattle.job_lines.specs.Forms.{Form, seeds, sigma, Printable}
 use Rattle.job_refusals.specs.Limits.{mostShots}
 use Rattle.job_refusals.specs.Refusals.{refusal}
+use Rattle.streams.proofs.Seeding as seeding
 use Rattle.job_refusals.proofs.Theorems as refusals
 use Rattle.job_refusals.proofs.Accepted.{sigma-within}
 use Rattle.listing_reader.specs.Entries.{headerOf}
@@ -81,15 +82,17 @@ module _ (g : Generator) (h : Sound g) where
   seedsLine = seeds (g .a .s0) (g .a .s1) (g .a .s2) (g .b .s0) (g .b .s1) (g .b .s2)
 
   seeds-accepted : refusal 1 seedsLine ≡ 0
-  seeds-accepted = refusals.theorems .seeds-accepted 1 _ _ _ _ _ _ .1 (
+  seeds-accepted = refusals.theorems .seeds-codes 1 _ _ _ _ _ _ .just-0 .1 (
     refl,
-    omega (arith, h .range-a),
-    omega (arith, h .range-a),
-    omega (arith, h .range-a),
-    omega (arith, h .range-b),
-    omega (arith, h .range-b),
-    omega (arith, h .range-b),
-    reseeds,
+    (
+      omega (arith, h .range-a),
+      omega (arith, h .range-a),
+      omega (arith, h .range-a),
+      omega (arith, h .range-b),
+      omega (arith, h .range-b),
+      omega (arith, h .range-b),
+    ),
+    seeding.theorems .seeding _ _ _ _ _ _ .just-0 .0 reseeds,
   )
 
   seeds-printable : Printable seedsLine

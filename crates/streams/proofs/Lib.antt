@@ -4,3 +4,5 @@ pub mod Order
 pub mod Register
 pub mod Theorems
 pub mod Skip
+pub mod Seeding
+pub mod FirstCause

@@ -1,13 +1,13 @@
 -- The theorems of specs/Theorems.antt.
 use mathlib.Core.Path.{_≡_, refl, sym, ap, _∙_}
 use mathlib.Core.List.{[], _∷_}
-use Prim.Native.Nat.{ℕ, suc, zero, _+_, _*_, _%_, _<_}
+use Prim.Native.Nat.{ℕ, suc, zero, _+_, _*_, _/_, _%_, _≤_, _<_}
 use native.Mathlib.Nat.{mul-zero}
 use native.Mathlib.Omega.{arith}
 use lib.IntN.{ℤ, pos, negsuc, negℤ, negℤ-negℤ, _+ℤ_, _*ℤ_, +ℤ-idr, +ℤ-invr}
 use Rattle.angle.specs.Steps.{signedOf, quarterOn}
 use Rattle.angle.proofs.QuarterTurn.{signed-quarter}
-use Rattle.sums.specs.Sums.{Shot, sine, cosine, total}
+use Rattle.sums.specs.Sums.{Shot, sine, cosine, total, rounded}
 use Rattle.sums.specs.Theorems.{Theorems, halfTurned}
 use Rattle.sums.proofs.SumLaws.{sum-mono, total-joined, sums-overlap, sums-narrow}
 use Rattle.sums.proofs.Nearness.{close-within, within-margin, wider}
@@ -34,10 +34,19 @@ cancel G s e =
     ∙ ap (λ (y : ℤ). x +ℤ y) (+ℤ-idr (pos (s .distance) *ℤ negℤ (G (s .step))) ∙ times-negated (s .distance) (G (s .step)))
     ∙ +ℤ-invr x
 
+nearest : (n q : ℕ) → 1073741824 * q ≤ n + 536870912 → n + 536870912 < 1073741824 * (q + 1)
+    → (rounded (pos n) ≡ pos q) × (rounded (negℤ (pos n)) ≡ negℤ (pos q))
+nearest zero q low high = let none : 0 ≡ q = omega (arith, low, high) in (ap pos none, ap (λ (m : ℕ). negℤ (pos m)) none)
+nearest (suc n) q low high =
+    let e : (suc n + 536870912) / 1073741824 ≡ q = omega (arith, low, high) in
+    (ap pos e, ap (λ (m : ℕ). negℤ (pos m)) e)
+
 pub theorems : Theorems
 unfolding total
 theorems = record {
   limits = (refl, refl, refl);
+  nearest = nearest;
+  halves = λ q. nearest (1073741824 * q + 536870912) (q + 1) (omega arith) (omega arith);
   close = close-within _ (omega arith);
   closer = close-within _ (omega arith);
   within-margin = within-margin;

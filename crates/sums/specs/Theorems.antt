@@ -4,7 +4,7 @@ use mathlib.Core.Bool.{false}
 use mathlib.Core.List.{List, [], _∷_, _++_}
 use Prim.Native.Nat.{ℕ, zero, _+_, _*_, _/_, _%_, _≤_, _<_}
 use native.Mathlib.Omega.{arith}
-use lib.IntN.{ℤ, pos, _+ℤ_}
+use lib.IntN.{ℤ, pos, negℤ, _+ℤ_}
 use lib.ListN.{length}
 use Rattle.exact.specs.Fraction.{Fraction}
 use Rattle.exact.specs.Pair.{Enclosure}
@@ -25,6 +25,12 @@ pub record Theorems : Type 0 where
   -- "up to 500 shots"; "Distances are at most 1,008,242 mm, which the half step can reach": a job's longest distance and the noise of its largest sigma
   -- and the largest sample (crate read_back shows that a listing can have it, and no more)
   pub limits : (mostShots ≡ 500) × (mostDistance ≡ 1008242) × (mostDistance ≡ 1000000 + (1000 * 16879 + 1024) / 2048)
+  -- "rounded once to whole millimetres": n parts of 2^30 are the nearest q, on either side of zero
+  pub nearest : (n q : ℕ) → 1073741824 * q ≤ n + 536870912 → n + 536870912 < 1073741824 * (q + 1)
+      → (rounded (pos n) ≡ pos q) × (rounded (negℤ (pos n)) ≡ negℤ (pos q))
+  -- "halves away from zero": q and a half become q + 1, and -q and a half -(q + 1)
+  pub halves : (q : ℕ) → (rounded (pos (1073741824 * q + 536870912)) ≡ pos (q + 1))
+      × (rounded (negℤ (pos (1073741824 * q + 536870912))) ≡ negℤ (pos (q + 1)))
   -- "East and north, rounded, are each less than 3 mm from the exact sums"; and even less than 2
   pub close : (l : List Shot) → Allowed l → Close 3 l (rounded (total sine l)) (rounded (total cosine l))
   pub closer : (l : List Shot) → Allowed l → Close 2 l (rounded (total sine l)) (rounded (total cosine l))

@@ -4,3 +4,4 @@ pub mod Walks
 pub mod Answers
 pub mod Refusals
 pub mod Theorems
+pub mod TextReadings

@@ -2,19 +2,29 @@
 use Prim.Native.Nat.{ℕ, zero, suc, _+_, _<_}
 use native.Mathlib.Omega.{arith}
 use mathlib.Core.Path.{_≡_, refl, sym, ap, _∙_}
-use mathlib.Core.Bool.{Bool, true, false, cond, _&&_, _||_}
+use mathlib.Core.Bool.{Bool, true, false, cond, _&&_, _||_, true≢false}
 use mathlib.Core.List.{List, [], _∷_, _++_}
+use mathlib.Core.Logic.{_↔_}
 use lib.ListN.{length, getD}
+use Rattle.text.proofs.Tests.{test, _and_, each}
 use Rattle.job_lines.specs.Forms.{shot, printLine}
 use Rattle.job.specs.Job.{Outcome, refused, listed, onto}
 use Rattle.job.proofs.Jobs.{onto-refused, refused-not-listed}
 use Rattle.survex_lines.specs.Lines.{leftOf, fed, remains}
 use Rattle.survex_lines.specs.Theorems.{remaining}
 use Rattle.survex_leg.specs.Legs.{Said, leg, wrong, words, legForm, legRange, readLeg}
+use Rattle.survex_leg.proofs.Theorems as legs
 use Rattle.survex.specs.Survex.{isData, legLine, onLeg, legsFrom, survexFrom}
-use Rattle.survex.specs.Theorems.{codeOf, lineCode, lineCodes, FirstIn, isFormed, isRanged}
+use Rattle.survex.specs.Theorems.{codeOf, lineCode, lineCodes, FirstIn, FormedLine, RangedLine}
 
 -- ---- The code of one line
+
+-- its two tests
+abbrev isFormed : List ℕ → Bool
+isFormed l = fed l && legForm (words (leftOf l))
+
+abbrev isRanged : List ℕ → Bool
+isRanged l = legRange (words (leftOf l))
 
 leg-code : (l : List ℕ) → codeOf (legLine l) ≡ cond (isFormed l) (cond (isRanged l) 0 22) 21
 unfolding legLine readLeg codeOf
@@ -31,37 +41,54 @@ leg-code l = go _ _ _ _ (fed l) (legForm (words (leftOf l))) (legRange (words (l
 abbrev chain : Bool → Bool → ℕ
 chain x y = cond x (cond y 0 22) 21
 
-chain-21 : (x y : Bool) → chain x y ≡ 21 → x ≡ false
-chain-21 true true e = absurd (omega (arith, e))
-chain-21 true false e = absurd (omega (arith, e))
-chain-21 false y e = refl
-
-chain-22 : (x y : Bool) → chain x y ≡ 22 → (x ≡ true) × (y ≡ false)
-chain-22 true true e = absurd (omega (arith, e))
-chain-22 true false e = (refl, refl)
-chain-22 false y e = absurd (omega (arith, e))
-
-chain-0 : (x y : Bool) → chain x y ≡ 0 → (x ≡ true) × (y ≡ true)
-chain-0 true true e = (refl, refl)
-chain-0 true false e = absurd (omega (arith, e))
-chain-0 false y e = absurd (omega (arith, e))
-
 chain-other : (x y : Bool) (n : ℕ) → chain x y ≡ n → (n ≡ 0 → ⊥) → (n ≡ 21 → ⊥) → n ≡ 22
 chain-other true true n e p q = absurd (p (sym e))
 chain-other true false n e p q = sym e
 chain-other false y n e p q = absurd (q (sym e))
 
+record Codes (P Q : Type 0) (n : ℕ) : Type 0 where
+  at-21 : (n ≡ 21) ↔ (P → ⊥)
+  at-22 : (n ≡ 22) ↔ (P × (Q → ⊥))
+  at-0 : (n ≡ 0) ↔ (P × Q)
+
+chain-codes : (P Q : Type 0) (x y : Bool) → (x ≡ true) ↔ P → (y ≡ true) ↔ Q → Codes P Q (chain x y)
+chain-codes P Q false y p q =
+    record {
+      at-21 = (λ e h. true≢false (sym (p .1 h)), λ n. refl);
+      at-22 = (λ e. absurd (omega (arith, e)), λ h. absurd (true≢false (sym (p .1 (h .0)))));
+      at-0 = (λ e. absurd (omega (arith, e)), λ h. absurd (true≢false (sym (p .1 (h .0)))));
+    }
+chain-codes P Q true false p q =
+    record {
+      at-21 = (λ e. absurd (omega (arith, e)), λ n. absurd (n (p .0 refl)));
+      at-22 = (λ e. (p .0 refl, λ h. true≢false (sym (q .1 h))), λ n. refl);
+      at-0 = (λ e. absurd (omega (arith, e)), λ h. absurd (true≢false (sym (q .1 (h .1)))));
+    }
+chain-codes P Q true true p q =
+    record {
+      at-21 = (λ e. absurd (omega (arith, e)), λ n. absurd (n (p .0 refl)));
+      at-22 = (λ e. absurd (omega (arith, e)), λ h. absurd (h .1 (q .0 refl)));
+      at-0 = (λ e. (p .0 refl, q .0 refl), λ h. refl);
+    }
+
 module _ (l : List ℕ) where
-  pub leg-21 : (codeOf (legLine l) ≡ 21 → isFormed l ≡ false) × (isFormed l ≡ false → codeOf (legLine l) ≡ 21)
-  leg-21 = (λ e. chain-21 (isFormed l) (isRanged l) (sym (leg-code l) ∙ e), λ e. leg-code l ∙ rw e)
+  formed : (isFormed l ≡ true) ↔ FormedLine l
+  formed = (
+    λ h. let (f, v) = each (test (fed l) and test (legForm (words (leftOf l)))) h in (f, legs.theorems .formed _ .0 v),
+    λ h. rw (h .0) (legs.theorems .formed _ .1 (h .1)),
+  )
 
-  pub leg-22 : (codeOf (legLine l) ≡ 22 → (isFormed l ≡ true) × (isRanged l ≡ false)) ×
-      (isFormed l ≡ true → isRanged l ≡ false → codeOf (legLine l) ≡ 22)
-  leg-22 = (λ e. chain-22 _ _ (sym (leg-code l) ∙ e), λ e f. leg-code l ∙ rw (e, f))
+  codes : Codes (FormedLine l) (RangedLine l) (codeOf (legLine l))
+  codes = rw (leg-code l) (chain-codes (FormedLine l) (RangedLine l) (isFormed l) (isRanged l) formed (legs.theorems .ranged _))
 
-  pub leg-0 : (codeOf (legLine l) ≡ 0 → (isFormed l ≡ true) × (isRanged l ≡ true)) ×
-      (isFormed l ≡ true → isRanged l ≡ true → codeOf (legLine l) ≡ 0)
-  leg-0 = (λ e. chain-0 _ _ (sym (leg-code l) ∙ e), λ e f. leg-code l ∙ rw (e, f))
+  pub leg-21 : (codeOf (legLine l) ≡ 21) ↔ (FormedLine l → ⊥)
+  leg-21 = codes .at-21
+
+  pub leg-22 : (codeOf (legLine l) ≡ 22) ↔ (FormedLine l × (RangedLine l → ⊥))
+  leg-22 = codes .at-22
+
+  pub leg-0 : (codeOf (legLine l) ≡ 0) ↔ (FormedLine l × RangedLine l)
+  leg-0 = codes .at-0
 
   pub leg-codes : (code : ℕ) → codeOf (legLine l) ≡ code → (code ≡ 0 → ⊥) → (code ≡ 21 → ⊥) → code ≡ 22
   leg-codes code e = chain-other (isFormed l) (isRanged l) code (sym (leg-code l) ∙ e)

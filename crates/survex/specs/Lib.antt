@@ -1,3 +1,4 @@
 pub mod Survex
 pub mod Theorems
 pub mod Private
+pub mod TextReadings

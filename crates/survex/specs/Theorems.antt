@@ -1,8 +1,9 @@
 -- What the definitions of a Survex text say, as theorems: the record below has a proof in proofs/Theorems.antt.
 use Prim.Native.Nat.{ℕ, _+_, _≤_, _<_}
 use mathlib.Core.Path.{_≡_}
-use mathlib.Core.Bool.{Bool, true, false, cond, _&&_, _||_}
+use mathlib.Core.Bool.{Bool, true, false, cond, _||_}
 use mathlib.Core.List.{List, [], _∷_, _++_, map}
+use mathlib.Core.Logic.{_↔_}
 use lib.ListN.{length, getD, drop}
 use Rattle.text.specs.Fields.{name}
 use Rattle.text.specs.Scan.{lines}
@@ -13,7 +14,8 @@ use Rattle.job.specs.Job.{refused, listed, jobOf, answerOf}
 use Rattle.job.specs.Theorems.{textOf}
 use Rattle.survex_lines.specs.Lines.{leftOf, fed, remains}
 use Rattle.survex_lines.specs.Theorems.{remaining}
-use Rattle.survex_leg.specs.Legs.{Said, leg, wrong, words, legForm, legRange}
+use Rattle.survex_leg.specs.Legs.{Said, leg, wrong, words}
+use Rattle.survex_leg.specs.Theorems.{Formed, Ranged}
 use Rattle.survex.specs.Survex.{dataForm, isData, legLine, survexOf}
 
 -- the shot that a leg says
@@ -64,11 +66,11 @@ abbrev pub FirstBad : List ℕ → ℕ → ℕ → Type 0
 FirstBad text i code = FirstIn (lineCodes false (lines text)) i code
 
 -- a line has its line feed and a leg's form; and it is in its ranges too
-abbrev pub isFormed : List ℕ → Bool
-isFormed l = fed l && legForm (words (leftOf l))
+abbrev pub FormedLine : List ℕ → Type 0
+FormedLine l = (fed l ≡ true) × Formed (words (leftOf l))
 
-abbrev pub isRanged : List ℕ → Bool
-isRanged l = legRange (words (leftOf l))
+abbrev pub RangedLine : List ℕ → Type 0
+RangedLine l = Ranged (words (leftOf l))
 
 pub record Theorems : Type 0 where
   -- the data line is those bytes, and has its line feed
@@ -89,11 +91,9 @@ pub record Theorems : Type 0 where
   pub line-after : (text : List ℕ) (code k : ℕ) → survexOf text ≡ refused code k → length (lines text) < k → remaining (lines text) ≡ []
   -- "21 before 22": a leg's line gets 21 just where it lacks its line feed or a leg's form, 22 just where it has both and is not in its
   -- ranges, and no other code
-  pub leg-21 : (l : List ℕ) → (codeOf (legLine l) ≡ 21 → isFormed l ≡ false) × (isFormed l ≡ false → codeOf (legLine l) ≡ 21)
-  pub leg-22 : (l : List ℕ) → (codeOf (legLine l) ≡ 22 → (isFormed l ≡ true) × (isRanged l ≡ false)) ×
-      (isFormed l ≡ true → isRanged l ≡ false → codeOf (legLine l) ≡ 22)
-  pub leg-0 : (l : List ℕ) → (codeOf (legLine l) ≡ 0 → (isFormed l ≡ true) × (isRanged l ≡ true)) ×
-      (isFormed l ≡ true → isRanged l ≡ true → codeOf (legLine l) ≡ 0)
+  pub leg-21 : (l : List ℕ) → (codeOf (legLine l) ≡ 21) ↔ (FormedLine l → ⊥)
+  pub leg-22 : (l : List ℕ) → (codeOf (legLine l) ≡ 22) ↔ (FormedLine l × (RangedLine l → ⊥))
+  pub leg-0 : (l : List ℕ) → (codeOf (legLine l) ≡ 0) ↔ (FormedLine l × RangedLine l)
   pub leg-codes : (l : List ℕ) (code : ℕ) → codeOf (legLine l) ≡ code → (code ≡ 0 → ⊥) → (code ≡ 21 → ⊥) → code ≡ 22
   -- what is written has those lines, and the job's reader reads each as the shot
   pub read-back : (text bytes : List ℕ) → survexOf text ≡ listed bytes → map readLine (lines bytes) ≡ shotsIn text

@@ -17,6 +17,7 @@ use Rattle.survex_leg.specs.Limits.{wholeDigits, compassTurn}
 use Rattle.survex_leg.specs.Legs.{whole, pointed, decimals, digitsUpTo, isDecimal, scaled, stepOf}
 use Rattle.survex_leg.specs.Theorems.{Nearest, Theorems}
 use Rattle.survex_leg.proofs.Facts.{step-below}
+use Rattle.survex_leg.proofs.Forms.{form-passes, range-passes, not-formed, not-ranged, both-pass}
 
 -- the whole part of x / d + 1/2 is the nearest, halves up
 nearest-is : (x s : ℕ) → s ≡ (2 * x + 36000) / 72000 → Nearest x 36000 s
@@ -57,6 +58,11 @@ exact-is most l h =
 pub theorems : Theorems
 unfolding stepOf
 theorems = record {
+  formed = form-passes;
+  ranged = range-passes;
+  get-21 = not-formed;
+  get-22 = not-ranged;
+  get-leg = both-pass;
   bearing = λ c. ((2 * (c * turnSteps) + compassTurn) / (2 * compassTurn), nearest-is (c * turnSteps) _ refl, refl);
   no-half = λ c s e. omega (arith, e);
   whole-turn = refl;

@@ -26,7 +26,9 @@ startsWord (x ∷ xs) = not (blank x)
 -- the fields of a line
 unfoldable pub words : List ℕ → List (List ℕ)
 words [] = []
-words (x ∷ xs) = cond (blank x) (words xs) (cond (startsWord xs) (before x (words xs)) ((x ∷ []) ∷ words xs))
+words (x ∷ xs) =
+    let rest = words xs in
+    cond (blank x) rest (cond (startsWord xs) (before x rest) ((x ∷ []) ∷ rest))
 
 -- where the field after the blanks from a place on stands
 unfoldable pub wordAt : List ℕ → ℕ → Place

@@ -2,3 +2,4 @@ pub mod Limits
 pub mod Legs
 pub mod Theorems
 pub mod Private
+pub mod TextReadings

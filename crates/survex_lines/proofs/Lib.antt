@@ -2,3 +2,4 @@ pub mod Trim
 pub mod Places
 pub mod Onward
 pub mod Theorems
+pub mod TextReadings

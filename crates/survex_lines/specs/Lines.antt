@@ -30,7 +30,9 @@ trimStart l = drop (blanksBefore l) l
 
 unfoldable pub trimEnd : List ℕ → List ℕ
 trimEnd [] = []
-trimEnd (x ∷ xs) = cond (blank x && isEmpty (trimEnd xs)) [] (x ∷ trimEnd xs)
+trimEnd (x ∷ xs) =
+    let rest = trimEnd xs in
+    cond (blank x && isEmpty rest) [] (x ∷ rest)
 
 -- what is left of a line
 unfoldable pub leftOf : List ℕ → List ℕ

@@ -9,3 +9,4 @@ pub mod SameBytes
 pub mod Tests
 pub mod TypedFields
 pub mod Theorems
+pub mod TextReadings

@@ -50,7 +50,9 @@ value n (x ∷ xs) = value (n * 10 + (x - byte "0")) xs
 -- n in at most fuel + 1 digits
 unfoldable pub decimalBy : ℕ → ℕ → List ℕ
 decimalBy zero n = (byte "0" + n) ∷ []
-decimalBy (suc fuel) n = cond (ltb n 10) ((byte "0" + n) ∷ []) (decimalBy fuel (n / 10) ++ ((byte "0" + n % 10) ∷ []))
+decimalBy (suc fuel) n =
+    let before = decimalBy fuel (n / 10) in
+    cond (ltb n 10) ((byte "0" + n) ∷ []) (before ++ ((byte "0" + n % 10) ∷ []))
 
 -- "printed numbers are decimal without leading zeros": `decimal-one` and `decimal-more` say which digits these are
 unfoldable pub decimal : ℕ → List ℕ

@@ -25,7 +25,9 @@ marks (f ∷ form) = cond (mark f) (suc (marks form)) (marks form)
 unfoldable pub printForm : List ℕ → List (List ℕ) → List ℕ
 printForm [] fields = []
 printForm (f ∷ form) fields =
-    cond (mark f) (getD fields 0 [] ++ printForm form (drop 1 fields)) (f ∷ printForm form fields)
+    let filled = getD fields 0 [] ++ printForm form (drop 1 fields) in
+    let copied = f ∷ printForm form fields in
+    cond (mark f) filled copied
 
 unfoldable pub startsWith : ℕ → List ℕ → Bool
 startsWith f [] = false
@@ -43,9 +45,9 @@ lead v (some vs) = some (v ∷ vs)
 unfoldable pub readForm : List ℕ → List ℕ → Option (List (List ℕ))
 readForm [] line = cond (isEmpty line) (some []) none
 readForm (f ∷ form) line =
-    cond (mark f)
-    (lead (field line) (readForm form (drop (length (field line)) line)))
-    (cond (startsWith f line) (readForm form (drop 1 line)) none)
+    let afterField = readForm form (drop (length (field line)) line) in
+    let afterByte = readForm form (drop 1 line) in
+    cond (mark f) (lead (field line) afterField) (cond (startsWith f line) afterByte none)
 
 -- the reader of forms with few enough fields
 unfoldable pub readFew : List ℕ → List ℕ → Option (List (List ℕ))

@@ -4,3 +4,4 @@ pub mod Scan
 pub mod Fields
 pub mod Forms
 pub mod Theorems
+pub mod TextReadings

@@ -39,4 +39,6 @@ before x (l ∷ ls) = (x ∷ l) ∷ ls
 -- The lines of a text
 unfoldable pub lines : List ℕ → List (List ℕ)
 lines [] = []
-lines (x ∷ xs) = cond (lineFeed x) ((x ∷ []) ∷ lines xs) (before x (lines xs))
+lines (x ∷ xs) =
+    let rest = lines xs in
+    cond (lineFeed x) ((x ∷ []) ∷ rest) (before x rest)
