@@ -5,7 +5,6 @@ use native.Mathlib.Decide.{decLe}
 use native.Mathlib.Nat.{div-div-eq-div-mul, mul-comm, mul-le-mul-right, mod-eq-of-lt}
 use native.Mathlib.Omega.{arith}
 use lib.ListN.{getD}
-use lib.Pow.{pow-add}
 use Rattle.tables.specs.Tables.{entryOf, logCoarse, logFine, lnTwo}
 use Rattle.tables.proofs.Bounds.{bounds}
 use Rattle.log_coarse_lookup.specs.Reciprocals.{reciprocals}
@@ -90,11 +89,9 @@ module _ (k : ℕ) (below : k < 2 ^ numberBits) where
   pub top-few : topBit m ≤ 48
   top-few = omega (arith, top-at k below)
 
-  pub scaled-is : (e n s : ℕ) → e ≡ topBit m → n ≡ m → s ≡ 63 - e → n * 2 ^ s % 2 ^ 64 ≡ 2 ^ 15 * M
+  pub scaled-is : (e n s : ℕ) → e ≡ topBit m → n ≡ m * 2 ^ 15 → s ≡ width - 1 - e → n * 2 ^ s % 2 ^ 64 ≡ 2 ^ 15 * M
   unfolding mantissa
-  scaled-is e n s e-is n-is s-is =
-      let apart : 63 - topBit m ≡ 15 + (width - 1 - topBit m) = omega (arith, top-few) in
-      rw (n-is, s-is, e-is, apart, pow-add 2 15 (width - 1 - topBit m)) (mod-eq-of-lt (omega (arith, mantissa-at k below .1)) ∙ omega arith)
+  scaled-is e n s e-is n-is s-is = rw (n-is, s-is, e-is) (mod-eq-of-lt (omega (arith, mantissa-at k below .1)) ∙ omega arith)
 
   parts : (place : ℕ) → place ≡ 2 ^ 15 * M + i → Parts place h i (remainder width m)
   parts place is =

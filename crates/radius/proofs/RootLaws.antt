@@ -29,9 +29,8 @@ next-fits x g below low =
     (h, mul-le-mul h h)
 
 -- the next number's square, taken from x, wraps round just where it is above x
-pub root-is : (x g n d r : ℕ) → x < 2 ^ 48 → NearRoot x g → n ≡ (g + 1) % 2 ^ 32 → (d + n * n) % 2 ^ 64 ≡ x → d < 2 ^ 64 →
-    (r + d / 2 ^ 63) % 2 ^ 32 ≡ n → r < 2 ^ 32 → r ≡ wholeRoot x
-root-is x g n d r below near n-is wraps d-fits less r-fits = go (decLe ((g + 1) * (g + 1)) x)
+pub root-is : (x g n d : ℕ) → x < 2 ^ 48 → NearRoot x g → n ≡ g % 2 ^ 24 + 1 → (d + n * n) % 2 ^ 64 ≡ x → d < 2 ^ 64 → n - d / 2 ^ 63 ≡ wholeRoot x
+root-is x g n d below near n-is wraps d-fits = go (decLe ((g + 1) * (g + 1)) x)
   where
     small : (g + 1 ≤ 2 ^ 24) × ((g + 1) * (g + 1) ≤ 2 ^ 48)
     small = next-fits x g below (near .low)
@@ -42,6 +41,6 @@ root-is x g n d r below near n-is wraps d-fits less r-fits = go (decLe ((g + 1) 
     square : (d + (g + 1) * (g + 1)) % 2 ^ 64 ≡ x
     square = rw next at wraps
 
-    go : Dec ((g + 1) * (g + 1) ≤ x) → r ≡ wholeRoot x
+    go : Dec ((g + 1) * (g + 1) ≤ x) → n - d / 2 ^ 63 ≡ wholeRoot x
     go (yes l) = omega (arith, next, square, near, small, below-root x (g + 1) l)
     go (no l) = omega (arith, next, square, near, small, above-root x (g + 1) (omega arith))

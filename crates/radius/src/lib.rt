@@ -14,6 +14,9 @@ pub const LIMIT: u64 = 1 << 48;
 // The first number beyond 32 bits.
 const WORD: u64 = 1 << 32;
 
+// The roots of numbers below 2^48 are below this.
+const ROOTS: u32 = 1 << 24;
+
 // What steps 1, 2 and 3 and the tables say of a k: 2^15 M and, below it, i; the reciprocal of h; (49 - e) × K - A(h) - B(i), mod 2^64.
 pub struct Cell {
     pub place: u64,
@@ -22,11 +25,11 @@ pub struct Cell {
 }
 
 // 1. e, the position of the highest set bit of 2k + 1, from the leading zeros of k: one more than those of 2k + 1 for every k, 0 included.
-fn top_bit(k: u64) -> u32
+fn top_bit(k: u64) -> u64
     requires { ⌜ k < 2 ^ numberBits ⌝ }
     ensures { λ r. ⌜ (r ≡ topBit (numerator k)) × (2 ^ r ≤ numerator k) × (numerator k < 2 ^ (r + 1)) ⌝ }
 {
-    64 - u64::leading_zeros(k)
+    64 - u64::leading_zeros(k) as u64
 }
 
 // The cell of the k of z = 65536 k + v.
@@ -34,9 +37,9 @@ pub fn cell_of(z: u64) -> Cell
     ensures { λ r. ⌜ InCell (z / 65536) (r .place) (r .reciprocal) (r .log) ⌝ }
 {
     let k = z / 65536;
-    // 1. M = (2k + 1) × 2^(48-e), times 2^15: the highest bit is bit 63.
+    // 1. M = (2k + 1) × 2^(48-e), here times 2^15, so that its highest bit is bit 63.
     let e = top_bit(k);
-    let m = (2 * k + 1) << (63 - e);
+    let m = ((2 * k + 1) << 15) << (48 - e);
     // 2. h = floor(M / 2^40), from 256 to 511.
     let h = (m >> 55) % 256 + 256;
     let row = log_coarse_lookup::coarse(h);
@@ -44,11 +47,12 @@ pub fn cell_of(z: u64) -> Cell
     // 3. i = floor(d / (h × 2^24)), at most 255: the upper 16 bits of d by the reciprocal of h.
     let i = (m >> 39) % 65536 * reciprocal as u64 >> 39;
     // 5. (49 - e) × K - A(h) - B(i).
-    let doublings = (49 - e) as u64 * tables::ln_two();
+    let doublings = (49 - e) * tables::ln_two();
     let a = row.0 as u64 * WORD + row.1 as u64;
     let b = log_fine_lookup::fine(i) as u64;
+    let place = m + i;
     Cell {
-        place: m + i,
+        place,
         reciprocal,
         log: std::num::wrapping_sub_u64(doublings, a + b),
     }
@@ -113,7 +117,7 @@ pub fn near(x: u64) -> u32
 pub fn root(x: u64, near: u32) -> u32
     ensures { λ r. ⌜ (x < 2 ^ 48 → NearRoot x near → r ≡ wholeRoot x) ⌝ }
 {
-    let next = std::num::wrapping_add_u32(near, 1);
+    let next = near % ROOTS + 1;
     let above = std::num::wrapping_sub_u64(x, next as u64 * next as u64) >> 63;
-    std::num::wrapping_sub_u32(next, above as u32)
+    next - above as u32
 }

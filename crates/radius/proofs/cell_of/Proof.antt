@@ -1,5 +1,4 @@
 -- `radius::cell_of` meets its contract: M is by e, and i by the reciprocal of h.
-use mathlib.Core.Path.{refl}
 use Prim.Native.Nat.{ℕ, _+_, _-_, _*_, _/_, _%_, _^_, _≤_, _<_}
 use native.Mathlib.Nat.{mul-le-mul}
 use native.Mathlib.Omega.{arith}
@@ -41,19 +40,17 @@ mul-doublings c = record { fits = few _ _ (omega arith) (omega (arith, c .ln-two
 few-z : (c : tie.After-coarse) → c .before .before .args .z / 65536 < 2 ^ 48
 few-z c = few-bits _ (c .before .before .fits .z .fits)
 
-add-t16 : tie.Need-add-t16
-add-t16 c =
+add-place : tie.Need-add-place
+add-place c =
     let at = c .before .before .before .before in
-    let m-is = scaled-is _ (few-z at) _ _ _ (at .before .top-bit .ensures .0) refl refl in
-    record { fits = place-fits _ (few-z at) _ _ m-is (at .coarse .ensures .1) }
+    record { fits = place-fits _ (few-z at) _ _ (scaled-is _ (few-z at) _ _ _ (at .before .top-bit .ensures .0) (omega arith) (omega arith)) (at .coarse .ensures .1) }
 
 returns : tie.Need-returns
 returns c =
     let fine = c .before in
     let ln-two = fine .before .before .before in
     let at = ln-two .before in
-    let m-is = scaled-is _ (few-z at) _ _ _ (at .before .top-bit .ensures .0) refl refl in
-    cell-is _ (few-z at) _ _ m-is (at .coarse .ensures .1)
+    cell-is _ (few-z at) _ _ (scaled-is _ (few-z at) _ _ _ (at .before .top-bit .ensures .0) (omega arith) (omega arith)) (at .coarse .ensures .1)
     _ _ _ _ _ (at .coarse .ensures .0) (fine .fine .ensures) (ln-two .ln-two .ensures) (at .before .top-bit .ensures .0) (c .wrapping-sub-u64 .ensures)
 
 pub cell-of-spec : {M : Type 1} → statement M
@@ -66,12 +63,10 @@ cell-of-spec =
     sub-m
     (λ c. search needs)
     (λ c. search needs)
-    (λ c. search needs)
     (λ c κs. search needs)
     (λ c. search needs)
     mul-i
     sub-doublings
-    (λ c. search needs)
     (λ c κs. search needs)
     mul-doublings
     (λ c. search needs)
@@ -80,7 +75,7 @@ cell-of-spec =
     (λ c. search needs)
     (λ c κs. search needs)
     (λ c. search needs)
-    add-t16
+    add-place
     (λ c. search needs)
     (λ c κs. search needs)
     returns)
