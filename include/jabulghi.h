@@ -14,10 +14,7 @@
  * compared with another implementation there. For other processors the same modules are compiled by the same compiler (make lib TARGET=list names
  * them), which the toolchain does not support; that is tested under emulators, and on no device. Where a size_t has 32 bits, functions in C of a line or
  * two, which are not proved, pass the lengths on. The lowest byte of a number comes first.
- * Where a processor works with doubles itself, a call that makes more than four pairs guesses at their square roots in doubles, and no result depends on the
- * guess; on x86_64, aarch64 and x86_64-windows it also reads bits of a difference of two doubles, which is exact however doubles are rounded. Such a call may
- * raise the inexact flag, a trap on inexact would end the program, and an interrupt that makes calls must save the registers of the floating-point unit. On
- * thumbv6m, thumbv7m, thumbv7em, thumbv7em-hf, thumbv8m, thumbv8m-hf, riscv32imc and riscv32imac no call uses floating point.
+ * All arithmetic is on whole numbers: no call uses floating point or raises a floating-point flag.
  *
  * State and threads. The library has no data that is written. Calls on different records, windows and marks may run at once in several threads; on the
  * same one, one after another. A record has 40 bytes, a window 8,224 and a set of marks 960. All calls together are 88 KB of code and tables on x86-64, and

@@ -1,25 +1,25 @@
-//! The k at which a fast way to the radius may go wrong: where 2Q is a square or next to one, where a guess at its root in floating point
-//! is off, and at the edges of cells, where a guess at the quotient i may be. This side's own numbers tell which they are. Each is
-//! compared at v where a radius one off gives other samples.
+//! The k at which a fast way to the radius may go wrong: where 2Q is a square or next to one, where its root is so near a whole number that
+//! a guess may be one off, and at the edges of cells, where a guess at the quotient i may be. This side's own numbers tell which they are.
+//! Each is compared at v where a radius one off gives other samples.
 use crate::cases::{same, Call, Called, Sample};
 use crate::random::Random;
 use crate::sample::{root, Cell, Tables};
 use crate::stream::{fresh, step, A};
 
-/// A k with its cell, 2Q, the root of it, which is F, and the guess at it.
+/// A k with its cell, 2Q, the root of it, which is F, and the root's first 8 fraction bits.
 struct Place {
     k: u64,
     cell: Cell,
     x: i128,
     f: i128,
-    guess: i128,
+    fraction: i128,
 }
 
 impl Place {
     fn of(tables: &Tables, k: u64) -> Place {
         let cell = Cell::of(k);
         let x = tables.under_root(&cell);
-        Place { k, cell, x, f: root(x), guess: guess(x) }
+        Place { k, cell, x, f: root(x), fraction: root(x << 16) % 256 }
     }
 
     /// Whether i and so many more would give another radius.
@@ -29,16 +29,6 @@ impl Place {
     }
 }
 
-/// Near the root of x, in floating point: 1 over it from half of the exponent, a step of Newton's, one of the third order.
-fn guess(x: i128) -> i128 {
-    let f = x as f64;
-    let start = f64::from_bits(0x5fe6_eb3b_e000_0000 - f.to_bits() / 2);
-    let inverse = start * (1.5008789 - f * 0.5 * start * start);
-    let square = f * inverse * inverse;
-    let near = f * inverse * (1.875 - square * (1.25 - 0.375 * square));
-    (near - 0.5).round_ties_even() as i128
-}
-
 /// A kind of k, how many of it there have to be, and whether a k is of it. In the first and the last 2^24 of a multiple of h 2^24 a
 /// quotient from about 1 / h may be one off.
 type Kind = (&'static str, usize, fn(&Tables, &Place) -> bool);
@@ -46,8 +36,8 @@ const KINDS: [Kind; 8] = [
     ("2Q a square", 5000, |_, p| p.x == p.f * p.f),
     ("2Q one below a square", 5000, |_, p| p.x == p.f * p.f + 2 * p.f),
     ("2Q one above a square", 5000, |_, p| p.x == p.f * p.f + 1),
-    ("the guess below the root", 2000, |_, p| p.guess < p.f),
-    ("the guess above the root", 2000, |_, p| p.guess > p.f),
+    ("a root just above a whole number", 2000, |_, p| p.fraction == 0),
+    ("a root just below a whole number", 2000, |_, p| p.fraction == 255),
     ("d a multiple of h 2^24", 5000, |_, p| p.cell.rest() == 0),
     ("another radius by i - 1", 20, |t, p| p.cell.rest() < 1 << 24 && p.other_radius(t, -1)),
     ("another radius by i + 1", 10, |t, p| p.cell.rest() >= (p.cell.h - 1) << 24 && p.other_radius(t, 1)),

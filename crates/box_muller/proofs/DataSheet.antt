@@ -10,7 +10,7 @@ use Rattle.exact.specs.Pair.{members}
 use Rattle.exact.proofs.DistanceLaws.{far-above, far-bounds-close}
 use Rattle.radius.specs.Steps.{topBit, mantissa, coarseIndex, rest, fineIndex, remainder, correction, logarithm, underRoot, radiusOf}
 use Rattle.radius.proofs.RadiusMargin.{radiusWithin}
-use Rattle.roots.specs.Root.{wholeRoot}
+use Rattle.radius.specs.Root.{wholeRoot}
 use Rattle.angle.specs.Steps.{cosine, sine, cosineAt, sineAt, signedOf}
 use Rattle.tables.specs.Tables.{entryOf, logCoarse-is, logFine-is, cosCoarse-is, sinCoarse-is, cosFine-is, sinFine-is, lnTwo-is}
 use Rattle.tables.specs.Values.{lnTwoValue}

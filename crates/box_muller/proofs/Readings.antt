@@ -4,7 +4,7 @@ use lib.Count.{leadingZeros}
 use Rattle.exact.specs.Root.{rootDigits}
 use Rattle.radius.specs.Steps.{topBit, mantissa, coarseIndex, rest, fineIndex, remainder, correction, logarithm}
 use Rattle.radius.specs.Steps.{underRoot, radiusOf}
-use Rattle.roots.specs.Root.{wholeRoot}
+use Rattle.radius.specs.Root.{wholeRoot}
 use Rattle.angle.specs.Steps.{cosine, sine, cosineAt, sineAt, signedOf}
 use Rattle.tables.specs.Tables.{entryOf, logCoarse-is, logFine-is, cosCoarse-is, sinCoarse-is, cosFine-is, sinFine-is, lnTwo-is}
 use Rattle.tables.specs.Values.{lnTwoValue}

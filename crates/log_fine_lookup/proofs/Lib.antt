@@ -1,2 +1,1 @@
--- The arms of the match.
-pub mod Arms
+pub mod Entries

@@ -1,8 +1,11 @@
--- The laws of the steps, and how far F is from the exact radius.
+-- The laws of the root and of the steps, and how far F is from the exact radius.
+pub mod RootLaws
+mod Quartic
+mod CellLaws
+mod NearLaws
 pub mod StepLaws
-pub mod FloatBits
-pub mod NormalLaws
 mod Cells
+mod Inverses
 pub mod Ranges
 mod LastCell
 mod LogarithmMargin

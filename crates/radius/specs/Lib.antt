@@ -1,3 +1,4 @@
--- The whole-number steps from k to the radius, and the two numbers of a k that 2Q is made of.
+-- The whole part of a root, the whole-number steps from k to the radius, and what the tables say of a k.
+pub mod Root
 pub mod Steps
-pub mod Normal
+pub mod Cells

@@ -1,212 +1,123 @@
-// The number under the root, 2Q, of a first number k: the whole part of its root is F, the radius at 2^20 (document 01, 'Radius', with
-// the half step of document 02, Job 5).
+// The radius of a first number k: the six steps of document 01, 'Radius', in its order and with its names. By document 02, Job 5, the first number is
+// 2k + 1 over 2^49, so 2k + 1 stands for the document's k, and 49 bits for 48. A step that divides multiplies by an inverse from a table or a series.
 ghost use mathlib.Core.Path.{_≡_};
-ghost use Prim.Native.Nat.{_+_, _-_, _*_, _/_, _%_, _^_, _≤_, _<_};
-ghost use Rattle.tables.specs.Tables.{logFine, entryOf};
-ghost use Rattle.radius.specs.Steps.{numberBits, width, numerator, topBit, mantissa, coarseIndex, fineIndex, correction};
-ghost use Rattle.radius.specs.Normal.{floatBits, doublingsOf, underNormal};
+ghost use Prim.Native.Nat.{ℕ, _+_, _-_, _*_, _/_, _%_, _^_, _≤_, _<_};
+ghost use Rattle.tables.specs.Tables.{entryOf};
+ghost use Rattle.log_coarse_lookup.specs.Reciprocals.{reciprocals};
+ghost use Rattle.radius.specs.Root.{wholeRoot, NearRoot};
+ghost use Rattle.radius.specs.Steps.{numberBits, numerator, topBit, underRoot};
+ghost use Rattle.radius.specs.Cells.{InCell, NearInverse};
 
-// The bits of k and the first number beyond them; the width of the numerator 2k + 1, and the powers of 2 in steps 2, 3 and 4.
-const NUMBER_BITS: u32 = 48;
+// The first number beyond k's 48 bits.
+pub const LIMIT: u64 = 1 << 48;
 
-pub const LIMIT: u64 = 1 << NUMBER_BITS;
+// The first number beyond 32 bits.
+const WORD: u64 = 1 << 32;
 
-const WIDTH: u32 = 49;
+// The roots of numbers below 2^48 are below this.
+const ROOTS: u32 = 1 << 24;
 
-const TOP: u32 = WIDTH - 1;
-
-const COARSE: u64 = 1 << (WIDTH - 9);
-
-const FINE: u64 = 1 << (WIDTH - 25);
-
-const FRACTION: u64 = 1 << (65 - WIDTH);
-
-// The unit of a reciprocal: high / h is high times the reciprocal of h over it. That of the inverses above the entries of B, and of the
-// product of both.
-const RECIPROCAL: u64 = 1 << 39;
-
-const INVERSE: u64 = 1 << 32;
-
-const BOTH: u64 = 1 << 39;
-
-// The bits of the float 2^52, what the exponent of a float counts in its bits, and the exponent of 2^49 there.
-const BITS: u64 = 0x4330_0000_0000_0000;
-
-const EXPONENT: u64 = 1 << 52;
-
-const WIDTH_EXPONENT: u64 = 1072;
-
-// What M counts in the bits of the float 2k + 1, and its top bit, which they do not have.
-const PLACE: u64 = 1 << (53 - WIDTH);
-
-const TOP_BIT: u64 = 1 << TOP;
-
-// The number under the logarithm.
-fn numerator(k: u64) -> u64
-    requires { ⌜ k < 2 ^ numberBits ⌝ }
-    ensures { λ r. ⌜ r ≡ numerator k ⌝ }
-{
-    2 * k + 1
+// What steps 1, 2 and 3 and the tables say of a k: 2^15 M and, below it, i; the reciprocal of h; (49 - e) × K - A(h) - B(i), mod 2^64.
+pub struct Cell {
+    pub place: u64,
+    pub reciprocal: u32,
+    pub log: u64,
 }
 
-// e, the position of the highest set bit of 2k + 1, by the leading zeros of k: one more than those of 2k + 1 for every k, 0 included.
-// (Of 2k + 1 the compiler sees that it is not 0, and then takes the leading zeros by an instruction that waits for the pair before;
-// a block took 1.6 times as long.)
-fn top_bit(k: u64) -> u32
+// 1. e, the position of the highest set bit of 2k + 1, from the leading zeros of k: one more than those of 2k + 1 for every k, 0 included.
+fn top_bit(k: u64) -> u64
     requires { ⌜ k < 2 ^ numberBits ⌝ }
     ensures { λ r. ⌜ (r ≡ topBit (numerator k)) × (2 ^ r ≤ numerator k) × (numerator k < 2 ^ (r + 1)) ⌝ }
 {
-    64 - u64::leading_zeros(k)
+    64 - u64::leading_zeros(k) as u64
 }
 
-// M, the numerator moved up to the whole width.
-fn mantissa(k: u64) -> u64
-    requires { ⌜ k < 2 ^ numberBits ⌝ }
-    ensures { λ r. ⌜ r ≡ mantissa width (numerator k) ⌝ }
+// The cell of the k of z = 65536 k + v.
+pub fn cell_of(z: u64) -> Cell
+    ensures { λ r. ⌜ InCell (z / 65536) (r .place) (r .reciprocal) (r .log) ⌝ }
 {
-    numerator(k) << (TOP - top_bit(k))
-}
-
-// About r × 2^16 / (h (65536 + i)), from below, by the reciprocal of h and the inverse of 65536 + i. The contract is a bound alone.
-fn about(remainder: u64, reciprocal: u64, inverse: u64) -> u64
-    requires { ⌜ (remainder < 2 ^ 33) × (reciprocal ≤ 2 ^ 31) × (inverse < 2 ^ 32) ⌝ }
-    ensures { λ r. ⌜ r < 2 ^ 32 ⌝ }
-{
-    remainder * (reciprocal * inverse / INVERSE) / BOTH
-}
-
-// What a divisor of S is from on, and by how much it and its dividend are multiplied.
-const DIVISORS: u64 = 1 << 24;
-
-const MULTIPLE: u64 = 1 << 8;
-
-// n / d by division. (That d is from 2^24 to 2^25 is said again: the compiler then sees that the multiple of d has more than 32 bits, and divides
-// without a test whether 32 bits will do.)
-fn divided(n: u64, d: u64) -> u64
-    requires { ⌜ (n < 2 ^ 56) × (2 ^ 24 ≤ d) × (d < 2 ^ 25) ⌝ }
-    ensures { λ r. ⌜ r ≡ n / d ⌝ }
-{
-    n * MULTIPLE / ((d % DIVISORS + DIVISORS) * MULTIPLE)
-}
-
-// n / d with no division, unless the guess is far off: one that passes the test is the quotient, and so is the next number where that passes.
-fn guessed_quotient(n: u64, d: u64, guess: u64) -> u64
-    requires { ⌜ (n < 2 ^ 56) × (2 ^ 24 ≤ d) × (d < 2 ^ 25) × (guess < 2 ^ 32) ⌝ }
-    ensures { λ r. ⌜ r ≡ n / d ⌝ }
-{
-    let product = guess * d;
-    if product <= n {
-        let rest = n - product;
-        if rest < d {
-            return guess;
-        }
-        if rest - d < d {
-            return guess + 1;
-        }
-    }
-    n / d
-}
-
-// Whether a quotient is by division. Nothing is promised of it, so that `quotient` is proved both ways: its other way is there so that the module
-// has `guessed_quotient`, which tools/target names in place of `quotient` for a processor where a division of 64 bits is a call.
-fn divides() -> bool {
-    true
-}
-
-// n / d. What the guess is does not matter.
-fn quotient(n: u64, d: u64, guess: u64) -> u64
-    requires { ⌜ (n < 2 ^ 56) × (2 ^ 24 ≤ d) × (d < 2 ^ 25) × (guess < 2 ^ 32) ⌝ }
-    ensures { λ r. ⌜ r ≡ n / d ⌝ }
-{
-    if divides() {
-        return divided(n, d);
-    }
-    guessed_quotient(n, d, guess)
-}
-
-// The cell of a number in the logarithm tables: h, B(i) and S.
-struct Cell {
-    coarse: u64,
-    fine: u64,
-    correction: u64,
-}
-
-// With d = high × 2^24 + low, i is high / h, by the reciprocal of h, and r is M less 2^24 times the divisor of S. (That h is from 256 to 511
-// is said again, so that the compiler looks up without a test.)
-fn cell_of(scaled: u64) -> Cell
-    requires { ⌜ (2 ^ 48 ≤ scaled) × (scaled < 2 ^ 49) ⌝ }
-    ensures { λ r. ⌜ (r .coarse ≡ coarseIndex width scaled) × (r .fine ≡ entryOf logFine 0 (fineIndex width scaled)) × (r .correction ≡ correction width scaled) ⌝ }
-{
-    let coarse = scaled / COARSE % 256 + 256;
-    let rest = scaled % COARSE;
-    let reciprocal = reciprocal_lookup::reciprocal(coarse);
-    let fine = rest / FINE * reciprocal / RECIPROCAL;
-    let divisor = coarse * (65536 + fine);
-    let remainder = scaled - divisor * FINE;
-    let arm = log_fine_lookup::arm(fine);
-    let guess = about(remainder, reciprocal, arm / INVERSE);
-    let correction = quotient(remainder * FRACTION, divisor, guess);
+    let k = z / 65536;
+    // 1. M = (2k + 1) × 2^(48-e), here times 2^15, so that its highest bit is bit 63.
+    let e = top_bit(k);
+    let m = ((2 * k + 1) << 15) << (48 - e);
+    // 2. h = floor(M / 2^40), from 256 to 511.
+    let h = (m >> 55) % 256 + 256;
+    let row = log_coarse_lookup::coarse(h);
+    let reciprocal = row.2;
+    // 3. i = floor(d / (h × 2^24)), at most 255: the upper 16 bits of d by the reciprocal of h.
+    let i = (m >> 39) % 65536 * reciprocal as u64 >> 39;
+    // 5. (49 - e) × K - A(h) - B(i).
+    let doublings = (49 - e) * tables::ln_two();
+    let a = row.0 as u64 * WORD + row.1 as u64;
+    let b = log_fine_lookup::fine(i) as u64;
+    let place = m + i;
     Cell {
-        coarse,
-        fine: arm % INVERSE,
-        correction,
+        place,
+        reciprocal,
+        log: std::num::wrapping_sub_u64(doublings, a + b),
     }
 }
 
-// x - y, or 0 where that is below 0.
-fn difference_or_zero(x: u64, y: u64) -> u64
-    ensures { λ r. ⌜ r ≡ x - y ⌝ }
+// About 2^53 / (h × (65536 + i)), from the reciprocal of h: with t = i / 65536, 1 / (1 + t) is (1 - t) (1 + t^2) but for a part of t^4.
+fn inverse(reciprocal: u64, i: u64) -> u64
+    requires { ⌜ (reciprocal < 2 ^ 32) × (i < 256) ⌝ }
+    ensures { λ r. ⌜ (r < 2 ^ 31) × ((h : ℕ) → 256 ≤ h → h < 512 → reciprocal ≡ entryOf reciprocals 256 h → NearInverse r (h * (65536 + i))) ⌝ }
 {
-    if x < y { 0 } else { x - y }
+    let fine = (0x8000_0000 + i * i / 2) * (65536 - i) >> 18;
+    reciprocal * fine >> 31
 }
 
-// 2^49 / (2k + 1) is 2^(49-e) times 2^48 / M: (49 - e) K, the logarithm of the first factor, and M.
-pub struct Normal {
-    pub doublings: u64,
-    pub mantissa: u64,
+// 4. S = floor(r × 2^16 / divisor): the nearest whole number to the product of r with the divisor's inverse, less 1 where its product with the divisor is
+// above r × 2^16.
+fn correction(r: u64, divisor: u64, inverse: u64) -> u64
+    requires { ⌜ (divisor < 2 ^ 32) × (inverse < 2 ^ 31) ⌝ }
+    ensures { λ s. ⌜ (r < 2 ^ 33 → 2 ^ 24 ≤ divisor → divisor < 2 ^ 25 → NearInverse inverse divisor → s ≡ r * 2 ^ 16 / divisor) ⌝ }
+{
+    let nearest = (r / 2 % WORD * inverse + (1 << 35)) >> 36;
+    let above = std::num::wrapping_sub_u64(r << 16, nearest * divisor) >> 63;
+    std::num::wrapping_sub_u64(nearest, above)
 }
 
-// The bits of the float 2k + 1: of the float that has 2k + 1 in its last bits, less 2^52. No zeros are counted, so that the compiler makes
-// several at a time.
-fn float_bits(k: u64) -> u64
-    requires { ⌜ k < 2 ^ numberBits ⌝ }
-    ensures { λ r. ⌜ r ≡ floatBits k ⌝ }
+// x, or 0 where bit 50 is set: a difference mod 2^64 that is below 0 has it.
+fn or_zero(x: u64) -> u64
+    ensures { λ r. ⌜ r ≡ (1 - x / 2 ^ 50 % 2) * x ⌝ }
 {
-    f64::to_bits(f64::from_bits(BITS + numerator(k)) - 4503599627370496.0)
+    x & std::num::wrapping_sub_u64((x >> 50) % 2, 1)
 }
 
-// The two numbers of the k of z = 65536 k + v, from the bits of a float. (49 - e mod 64 is itself; the compiler sees so that it is small.)
-pub fn float_normal(z: u64) -> Normal
-    ensures { λ r. ⌜ (r .doublings ≡ doublingsOf (z / 65536)) × (r .mantissa ≡ mantissa width (numerator (z / 65536))) ⌝ }
+// 2Q, the number under the root, from the cell of a k.
+pub fn under_root(place: u64, reciprocal: u32, log: u64) -> u64
+    ensures { λ r. ⌜ ((k : ℕ) → k < 2 ^ numberBits → InCell k place reciprocal log → r ≡ underRoot k) ⌝ }
 {
-    let bits = float_bits(z / 65536);
-    let ln2 = tables::ln_two();
-    Normal {
-        doublings: (WIDTH_EXPONENT - bits / EXPONENT) % 64 * ln2,
-        mantissa: bits / PLACE % TOP_BIT + TOP_BIT,
-    }
+    let h = place >> 55;
+    let i = place % 256;
+    // 3. r = d - i × h × 2^24, which is M - h × (65536 + i) × 2^24.
+    let divisor = h * (65536 + i) % WORD;
+    let r = std::num::wrapping_sub_u64(place, divisor << 39) >> 15;
+    // 4. S.
+    let s = correction(r, divisor, inverse(reciprocal as u64, i));
+    // 5. Q, or 0 where that is below 0.
+    or_zero(std::num::wrapping_sub_u64(log, s)) << 1
 }
 
-// The same from leading zeros: of a few k it is faster, and on processors without floating point always.
-pub fn whole_normal(z: u64) -> Normal
-    ensures { λ r. ⌜ (r .doublings ≡ doublingsOf (z / 65536)) × (r .mantissa ≡ mantissa width (numerator (z / 65536))) ⌝ }
+// The root of x or one less, where x is below 2^48. x is moved up by an even number of places: its upper 7 bits are then its cell, and the next 32 say how far
+// it lies in the cell.
+pub fn near(x: u64) -> u32
+    ensures { λ r. ⌜ (x < 2 ^ 48 → NearRoot x r) ⌝ }
 {
-    let doublings = (WIDTH - top_bit(z / 65536)) as u64;
-    let ln2 = tables::ln_two();
-    Normal {
-        doublings: doublings * ln2,
-        mantissa: mantissa(z / 65536),
-    }
+    let places = u64::leading_zeros(x) % 64 / 2;
+    let scaled = x << (2 * places);
+    let cell = root_lookup::cell_at(scaled >> 57);
+    let along = (scaled >> 25) % WORD;
+    let slope = cell.1 as u64 - (cell.2 as u64 * along >> 32);
+    ((cell.0 as u64 * WORD + slope * along) >> (32 + places)) as u32
 }
 
-// 2Q, the number under the root, from (49 - e) K and M.
-pub fn under_root(doublings: u64, mantissa: u64) -> u64
-    ensures { λ r. ⌜ r ≡ underNormal doublings mantissa ⌝ }
+// 6. F = the whole part of the square root of x = 2Q, from a number that is it or one less: the next number, less 1 where its square is above x.
+pub fn root(x: u64, near: u32) -> u32
+    ensures { λ r. ⌜ (x < 2 ^ 48 → NearRoot x near → r ≡ wholeRoot x) ⌝ }
 {
-    let cell = cell_of(mantissa % TOP_BIT + TOP_BIT);
-    difference_or_zero(
-        doublings,
-        log_coarse_lookup::entry(cell.coarse) + cell.fine + cell.correction,
-    )
-        << 1
+    let next = near % ROOTS + 1;
+    let above = std::num::wrapping_sub_u64(x, next as u64 * next as u64) >> 63;
+    next - above as u32
 }

@@ -1,106 +1,81 @@
--- `radius::cell_of` meets its contract: h is its step of document 01, and i and S are by the laws of Cells. M from 2^48 to 2^49 keeps
--- every product within 64 bits.
-use mathlib.Core.Path.{_≡_, refl, ap, _∙_}
+-- `radius::cell_of` meets its contract: M is by e, and i by the reciprocal of h.
 use Prim.Native.Nat.{ℕ, _+_, _-_, _*_, _/_, _%_, _^_, _≤_, _<_}
+use native.Mathlib.Nat.{mul-le-mul}
 use native.Mathlib.Omega.{arith}
 use borrow.Author.Needs.{needs}
-use Rattle.tables.specs.Tables.{entryOf, logFine}
-use Rattle.radius.specs.Steps.{coarseIndex, rest, fineIndex, remainder, correction}
-use Rattle.radius.proofs.NormalLaws.{mantissa-again}
-use Rattle.radius.proofs.Cells.{Parts, reciprocal-small, product-fits, sum-fits, divisor-fits, parts, shifted-fits, fine-is, correction-is}
+use Rattle.tables.proofs.Bounds.{bounds}
+use Rattle.radius.specs.Steps.{numerator, topBit}
+use Rattle.radius.proofs.Cells.{top-few, scaled-is, place-fits, cell-is}
 use Rattle.radius.proofs.cell_of.Statement.{statement}
 use Rattle.radius.proofs.cell_of.Tie as tie
 
-add-coarse : tie.Need-add-coarse
-add-coarse c = search needs
+-- k has 48 bits, and so e is at most 48
+few-bits : (z : ℕ) → z < 2 ^ 64 → z / 65536 < 2 ^ 48
+few-bits z fits = omega arith
 
-reciprocal-requires : tie.Need-reciprocal-requires
-reciprocal-requires c κs = search needs
+top-of : (z : ℕ) → z < 2 ^ 64 → topBit (numerator (z / 65536)) ≤ 48
+top-of z fits = top-few (z / 65536) (few-bits z fits)
 
-mul-fine : tie.Need-mul-fine
-mul-fine c = record { fits = product-fits _ _ _ (c .reciprocal .ensures) (omega arith) (omega arith) (omega arith) }
+sub-m : tie.Need-sub-m
+sub-m c = omega (arith, top-of (c .before .args .z) (c .before .fits .z .fits), c .top-bit .ensures .0)
 
-add-divisor : tie.Need-add-divisor
-add-divisor c = record { fits = sum-fits _ _ _ (c .reciprocal .ensures) (omega arith) (omega arith) (omega arith) _ }
+mul-small : (x R : ℕ) → x < 65536 → R < 2 ^ 32 → x * R < 2 ^ 64
+mul-small x R few small = omega (arith, mul-le-mul few small)
 
-mul-divisor : tie.Need-mul-divisor
-mul-divisor c = record { fits = divisor-fits _ _ _ (c .reciprocal .ensures) (omega arith) (omega arith) (omega arith) _ }
+mul-i : tie.Need-mul-i
+mul-i c = record { fits = mul-small _ _ (omega arith) (omega arith) }
 
-mul-remainder : tie.Need-mul-remainder
-mul-remainder c =
-    record { fits = shifted-fits _ _ _ (omega (arith, c .before .pre)) (c .reciprocal .ensures) (omega arith) (omega arith) }
+sub-doublings : tie.Need-sub-doublings
+sub-doublings c =
+    let at = c .before in
+    omega (arith, top-of (at .before .args .z) (at .before .fits .z .fits), at .top-bit .ensures .0)
 
--- h is as it was
-coarse-is : (M : ℕ) → (2 ^ 48 ≤ M) × (M < 2 ^ 49) → M / 2 ^ 40 % 256 + 256 ≡ M / 2 ^ 40
-coarse-is M range = omega (arith, range)
+few : (t K : ℕ) → t ≤ 64 → K < 2 ^ 41 → t * K < 2 ^ 64
+few t K h k = omega (arith, mul-le-mul h k)
 
-module _ (c : tie.After-reciprocal) where
-  abbrev M : ℕ
-  M = c .before .args .scaled
+mul-doublings : tie.Need-mul-doublings
+mul-doublings c = record { fits = few _ _ (omega arith) (omega (arith, c .ln-two .ensures, bounds .ln-two)) }
 
-  abbrev h : ℕ
-  h = M / 2 ^ 40 % 256 + 256
+-- after the row of h
+few-z : (c : tie.After-coarse) → c .before .before .args .z / 65536 < 2 ^ 48
+few-z c = few-bits _ (c .before .before .fits .z .fits)
 
-  abbrev R : ℕ
-  R = c .reciprocal .result
-
-  abbrev i : ℕ
-  i = M % 2 ^ 40 / 2 ^ 24 * R / 2 ^ 39
-
-  cell-parts : Parts M h i
-  cell-parts = parts M h R (coarse-is M (c .before .pre)) (c .reciprocal .ensures) (omega arith) (omega arith)
-
-sub-remainder : tie.Need-sub-remainder
-sub-remainder c = cell-parts c .divisor-low
-
-arm-requires : tie.Need-arm-requires
-arm-requires c κs = search needs
-
-about-requires : tie.Need-about-requires
-about-requires c κs =
-    let at = c .before in (
-      cell-parts at .remainder-small,
-      reciprocal-small (M at % 2 ^ 40 / 2 ^ 24) (h at) (R at) (at .reciprocal .ensures) (omega arith) (omega arith) (omega arith),
-      omega arith,
-    )
-
-mul-quotient : tie.Need-mul-quotient
-mul-quotient c = omega (arith, cell-parts (c .before .before) .remainder-small)
-
-quotient-requires : tie.Need-quotient-requires
-quotient-requires c κs =
-    let cell = cell-parts (c .before .before) in
-    (omega (arith, cell .remainder-small), cell .divisor-least, cell .divisor-small, c .about .ensures)
+add-place : tie.Need-add-place
+add-place c =
+    let at = c .before .before .before .before in
+    record { fits = place-fits _ (few-z at) _ _ (scaled-is _ (few-z at) _ _ _ (at .before .top-bit .ensures .0) (omega arith) (omega arith)) (at .coarse .ensures .1) }
 
 returns : tie.Need-returns
-unfolding coarseIndex rest fineIndex remainder correction
 returns c =
-    let at = c .before .before .before in
-    let is = coarse-is (M at) (at .before .pre) in
-    let d : ℕ = M at % 2 ^ 40 in
-    rw (mantissa-again (M at) (at .before .pre .0) (at .before .pre .1)) (
-      is,
-      c .before .before .arm .ensures .1
-          ∙ ap (λ n. entryOf logFine 0 n)
-          (fine-is (M at) (h at) (R at) is (at .reciprocal .ensures) (omega arith) (omega arith) ∙ ap (λ n. d / (n * 2 ^ 24)) is),
-      c .quotient .ensures
-          ∙ correction-is (M at) (h at) (R at) is (at .reciprocal .ensures) (omega arith) (omega arith)
-          ∙ ap (λ n. (d - d / (n * 2 ^ 24) * (n * 2 ^ 24)) * 2 ^ 16 / (n * (65536 + d / (n * 2 ^ 24)))) is,
-    )
+    let fine = c .before in
+    let ln-two = fine .before .before .before in
+    let at = ln-two .before in
+    cell-is _ (few-z at) _ _ (scaled-is _ (few-z at) _ _ _ (at .before .top-bit .ensures .0) (omega arith) (omega arith)) (at .coarse .ensures .1)
+    _ _ _ _ _ (at .coarse .ensures .0) (fine .fine .ensures) (ln-two .ln-two .ensures) (at .before .top-bit .ensures .0) (c .wrapping-sub-u64 .ensures)
 
 pub cell-of-spec : {M : Type 1} → statement M
 cell-of-spec =
     tie.close
     (tie.spec
-    add-coarse
-    reciprocal-requires
-    mul-fine
-    add-divisor
-    mul-divisor
-    mul-remainder
-    sub-remainder
-    arm-requires
-    about-requires
-    mul-quotient
-    quotient-requires
+    (λ c κs. search needs)
+    (λ c. search needs)
+    (λ c. search needs)
+    sub-m
+    (λ c. search needs)
+    (λ c. search needs)
+    (λ c κs. search needs)
+    (λ c. search needs)
+    mul-i
+    sub-doublings
+    (λ c κs. search needs)
+    mul-doublings
+    (λ c. search needs)
+    (λ c. search needs)
+    (λ c. search needs)
+    (λ c. search needs)
+    (λ c κs. search needs)
+    (λ c. search needs)
+    add-place
+    (λ c. search needs)
+    (λ c κs. search needs)
     returns)

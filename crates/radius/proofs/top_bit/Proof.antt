@@ -7,6 +7,9 @@ use Rattle.radius.proofs.StepLaws.{top-bit, top-bit-odd}
 use Rattle.radius.proofs.top_bit.Statement.{statement}
 use Rattle.radius.proofs.top_bit.Tie as tie
 
+cast-result : tie.Need-cast-result
+cast-result c = omega (arith, leading-le 64 (c .args .k))
+
 sub-result : tie.Need-sub-result
 sub-result c = leading-le 64 (c .args .k)
 
@@ -16,4 +19,4 @@ returns c =
     rw (← top-bit-odd (c .args .k) (omega (arith, c .pre))) (refl, top .0, top .1)
 
 pub top-bit-spec : {M : Type 1} → statement M
-top-bit-spec = tie.close (tie.spec sub-result returns)
+top-bit-spec = tie.close (tie.spec cast-result sub-result returns)
