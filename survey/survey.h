@@ -61,13 +61,12 @@ struct survey_sd {
 
 /* A leg of the centre line; splays and lines of sight are none. Its vector is east, north and up in metres, from `from` to `to`. */
 struct survey_leg {
-    size_t file, line; /* of `files`; the line on which the leg is complete */
-    size_t from, to;   /* of `stations`, as named on this leg */
+    size_t file, line; /* of `files`; the line of its readings */
+    size_t from, to;   /* of `stations`, as named on this leg; a leg of direction B is from the later station to the one before */
     enum survey_style style;
     enum survey_slope slope_by;
     const struct survey_reading *readings; /* those that are written, in the order of the file */
     size_t reading_count;
-    bool turned;        /* direction B: it was measured from `to` to `from`, and the readings are of that */
     bool surface;       /* *flags */
     bool duplicate;     /* *flags */
     double declination; /* degrees, added to compass and backcompass */
