@@ -13,12 +13,16 @@ static const struct {
     const char *word;
     void (*take)(reader *r);
 } COMMANDS[] = {
-    {"alias", take_alias},   {"begin", take_begin},       {"calibrate", take_calibrate},     {"case", take_case},         {"copyright", skip},
-    {"cs", take_cs},         {"data", take_data},         {"date", take_date},               {"declination", take_declination}, {"default", take_default},
-    {"end", take_end},       {"entrance", take_entrance}, {"equate", take_equate},           {"export", skip},            {"fix", take_fix},
-    {"flags", take_flags},   {"include", take_include},   {"infer", take_infer},             {"instrument", skip},        {"prefix", take_prefix},
-    {"ref", skip},           {"require", skip},           {"sd", take_sd},                   {"set", take_set},           {"solve", take_solve},
-    {"team", take_team},     {"title", skip},             {"truncate", take_truncate},       {"units", take_units},
+    {"alias", take_alias},       {"begin", take_begin},     {"calibrate", take_calibrate},
+    {"case", take_case},         {"copyright", skip},       {"cs", take_cs},
+    {"data", take_data},         {"date", take_date},       {"declination", take_declination},
+    {"default", take_default},   {"end", take_end},         {"entrance", take_entrance},
+    {"equate", take_equate},     {"export", skip},          {"fix", take_fix},
+    {"flags", take_flags},       {"include", take_include}, {"infer", take_infer},
+    {"instrument", skip},        {"prefix", take_prefix},   {"ref", skip},
+    {"require", skip},           {"sd", take_sd},           {"set", take_set},
+    {"solve", take_solve},       {"team", take_team},       {"title", skip},
+    {"truncate", take_truncate}, {"units", take_units},
 };
 
 void take_command(reader *r) {

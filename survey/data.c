@@ -7,7 +7,8 @@
 
 static struct survey_reading reading_of(reader *r, enum survey_quantity what, part word) {
     const quantity *q = &now(r)->of[quantity_of(what)];
-    struct survey_reading made = {what, q->form, copy_of(r, word), r->at.file, r->at.number, 0, -1, 0, q->unit, q->zero, q->scale, 0, q->sd};
+    struct survey_reading made = {what,    q->form, copy_of(r, word), r->at.file, r->at.number, 0, -1, 0,
+                                  q->unit, q->zero, q->scale,         0,          q->sd};
     made.at = (size_t)(word.bytes - r->s->files[r->at.file].bytes);
     return made;
 }
@@ -35,7 +36,8 @@ static bool read_quadrant(const reader *r, part word, double *degrees, int *deci
     uint8_t last = word.bytes[word.length - 1] & (uint8_t)~32;
     bool south = *first == 'S', west = last == 'W';
     if ((*first != 'N' && !south) || (last != 'E' && !west)) return false;
-    if (!read_number(r, (part){word.bytes + 1, word.length - 2}, degrees, decimals) || *degrees < 0 || *degrees > 90) return false;
+    if (!read_number(r, (part){word.bytes + 1, word.length - 2}, degrees, decimals) || *degrees < 0 || *degrees > 90)
+        return false;
     if (south != west) *degrees = -*degrees;
     *degrees = fmod(*degrees + (south ? 180 : 360), 360);
     return true;
@@ -43,7 +45,8 @@ static bool read_quadrant(const reader *r, part word, double *degrees, int *deci
 
 /* up, down and level are no readings, and have no corrections. */
 static bool read_slope_word(part word, double *degrees) {
-    static const char *const LEVEL[] = {"level", "h", NULL}, *const UP[] = {"up", "u", "+v", "v", NULL}, *const DOWN[] = {"down", "d", "-v", NULL};
+    static const char *const LEVEL[] = {"level", "h", NULL}, *const UP[] = {"up", "u", "+v", "v", NULL},
+                             *const DOWN[] = {"down", "d", "-v", NULL};
     *degrees = index_of(word, UP) >= 0 ? 90 : index_of(word, DOWN) >= 0 ? -90 : 0;
     return *degrees != 0 || index_of(word, LEVEL) >= 0;
 }
@@ -60,7 +63,8 @@ static bool take_reading(reader *r, enum survey_quantity what, part word, struct
     *one = reading_of(r, what, word);
     if (is_optional(what) && is_omitted(r, word)) return one->form = SURVEY_OMITTED, true;
     if (is_slope(what) && read_slope_word(word, &one->value)) return one->form = SURVEY_WORD, true;
-    bool taken = one->form == SURVEY_QUADRANT ? read_quadrant(r, word, &one->written, &one->decimals) : read_number(r, word, &one->written, &one->decimals);
+    bool taken = one->form == SURVEY_QUADRANT ? read_quadrant(r, word, &one->written, &one->decimals)
+                                              : read_number(r, word, &one->written, &one->decimals);
     if (!taken) return complain(r, trouble_of(one), word), false;
     check_number(r, one, word);
     one->value = survey_value_of(one, one->written);

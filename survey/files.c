@@ -7,7 +7,11 @@
 
 static bool is_utf8(const uint8_t *at, const uint8_t *end) {
     while (at < end) {
-        size_t more = *at < 0x80 ? 0 : *at >= 0xc2 && *at < 0xe0 ? 1 : *at >= 0xe0 && *at < 0xf0 ? 2 : *at >= 0xf0 && *at < 0xf5 ? 3 : SIZE_MAX;
+        size_t more = *at < 0x80                  ? 0
+                      : *at >= 0xc2 && *at < 0xe0 ? 1
+                      : *at >= 0xe0 && *at < 0xf0 ? 2
+                      : *at >= 0xf0 && *at < 0xf5 ? 3
+                                                  : SIZE_MAX;
         if (more >= (size_t)(end - at)) return false;
         for (at++; more > 0; more--, at++) {
             if ((*at & 0xc0) != 0x80) return false;

@@ -31,7 +31,9 @@ static bool is_same_text(part one, part other) {
 
 /* ---- *fix */
 
-static bool is_at(const struct survey_fix *one, const struct survey_fix *other) { return one->east == other->east && one->north == other->north && one->up == other->up; }
+static bool is_at(const struct survey_fix *one, const struct survey_fix *other) {
+    return one->east == other->east && one->north == other->north && one->up == other->up;
+}
 
 /* The numbers after the station, as many as there are up to nine. */
 static bool read_fix(reader *r, double numbers[9], size_t *count) {
@@ -76,7 +78,8 @@ void take_fix(reader *r) {
     if (!read_fix(r, numbers, &count)) return;
     if (count == 0 && r->fixed_nowhere) return complain(r, FIXED_NOWHERE, NO_WORD);
     r->fixed_nowhere = r->fixed_nowhere || count == 0;
-    if (now(r)->system.length > 0 && !is_same_text(now(r)->system, r->output_system)) return remark(r, CONVERTED_FIXES, NO_WORD);
+    if (now(r)->system.length > 0 && !is_same_text(now(r)->system, r->output_system))
+        return remark(r, CONVERTED_FIXES, NO_WORD);
     add_fix(r, fix_of(r, station, numbers, count));
 }
 
@@ -86,7 +89,8 @@ void join_stations(reader *r, size_t one, size_t other) {
     struct survey *s = r->s;
     size_t a = same_as(s, one), b = same_as(s, other), fix = s->stations[a].fix, other_fix = s->stations[b].fix;
     if (one == other) return remark(r, EQUATED_TO_ITSELF, NO_WORD);
-    if (a != b && fix != SURVEY_NONE && other_fix != SURVEY_NONE && !is_at(&s->fixes[fix], &s->fixes[other_fix])) return complain(r, FIXES_DIFFER, NO_WORD);
+    if (a != b && fix != SURVEY_NONE && other_fix != SURVEY_NONE && !is_at(&s->fixes[fix], &s->fixes[other_fix]))
+        return complain(r, FIXES_DIFFER, NO_WORD);
     if (!room_for_one(r, &s->equates, s->equate_count, &r->equate_room, sizeof *s->equates)) return;
     s->equates[s->equate_count++] = (struct survey_equate){r->at.file, r->at.number, one, other};
     make_same(r, one, other);

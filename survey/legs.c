@@ -43,7 +43,8 @@ static readings gather(const struct survey_reading *all, size_t count, const dou
     memset(&found, 0, sizeof found);
     for (size_t j = 0; j < count; j++) {
         bool known = all[j].form != SURVEY_OMITTED;
-        found.of[all[j].what] = (measured){known, value == NULL ? all[j].value : value[j], all[j].sd * all[j].sd, all[j].form};
+        found.of[all[j].what] =
+            (measured){known, value == NULL ? all[j].value : value[j], all[j].sd * all[j].sd, all[j].form};
     }
     return found;
 }
@@ -90,7 +91,10 @@ static measured slope_of(const readings *m, enum survey_slope *by) {
     measured fore = m->of[SURVEY_CLINO], back = m->of[SURVEY_BACKCLINO];
     back.value = -back.value;
     measured mean = mean_of(fore, back);
-    *by = !mean.known ? SURVEY_UNKNOWN : is_plumb(mean) ? SURVEY_BY_PLUMB : is_level(mean) ? SURVEY_BY_LEVEL : SURVEY_BY_CLINO;
+    *by = !mean.known      ? SURVEY_UNKNOWN
+          : is_plumb(mean) ? SURVEY_BY_PLUMB
+          : is_level(mean) ? SURVEY_BY_LEVEL
+                           : SURVEY_BY_CLINO;
     return mean;
 }
 
@@ -122,13 +126,15 @@ static void work_out_depths(const readings *m, enum survey_style style, result *
     e->slope_by = SURVEY_BY_HEIGHT;
     e->depth_variance = change.known ? change.variance : from.variance + to.variance;
     if (style == SURVEY_CYLPOLAR) set_vector(e, length, up);
-    else if (fabs(up) > fabs(length) && e->length.variance + e->depth_variance > 0) set_vector(e, 0, length == 0 ? 0 : shortened(e, up));
+    else if (fabs(up) > fabs(length) && e->length.variance + e->depth_variance > 0)
+        set_vector(e, 0, length == 0 ? 0 : shortened(e, up));
     else set_vector(e, sqrt(fmax(0, length * length - up * up)), up);
     e->slope.value = e->vector[2] == 0 ? 0 : atan2(e->vector[2], hypot(e->vector[0], e->vector[1])) * RADIAN;
 }
 
 static void work_out_changes(const readings *m, result *e) {
-    double east = m->of[SURVEY_EASTING].value, north = m->of[SURVEY_NORTHING].value, up = m->of[SURVEY_ALTITUDE].value, plan = hypot(east, north);
+    double east = m->of[SURVEY_EASTING].value, north = m->of[SURVEY_NORTHING].value, up = m->of[SURVEY_ALTITUDE].value,
+           plan = hypot(east, north);
     e->slope_by = SURVEY_BY_HEIGHT;
     e->length = (measured){true, hypot(plan, up), m->of[SURVEY_EASTING].variance, SURVEY_NUMBER};
     e->bearing = (measured){true, plan > 0 ? full_turn(atan2(east, north) * RADIAN) : 0, 0, SURVEY_NUMBER};
@@ -148,24 +154,35 @@ static result work_out(enum survey_style style, double declination, const readin
 }
 
 void survey_vector_of(const struct survey_leg *leg, const double *value, double vector[3]) {
-    readings m = gather(leg->readings, leg->reading_count, value);
-    result e = work_out(leg->style, leg->declination, &m);
-    memcpy(vector, e.vector, sizeof e.vector);
+    size_t each = leg->reading_count / leg->shots;
+    double sum[3] = {0, 0, 0};
+    for (size_t j = 0; j < leg->shots; j++) {
+        readings m = gather(leg->readings + j * each, each, value + j * each);
+        result e = work_out(leg->style, leg->declination, &m);
+        for (int k = 0; k < 3; k++) sum[k] += e.vector[k];
+    }
+    for (int k = 0; k < 3; k++) vector[k] = sum[k] / (double)leg->shots;
 }
 
 /* ---- What is wrong with a leg, or worth a note */
 
-static bool differ(measured one, measured other, double by) { return one.known && other.known && by * by > 9 * (one.variance + other.variance) + 1e-18; }
+static bool differ(measured one, measured other, double by) {
+    return one.known && other.known && by * by > 9 * (one.variance + other.variance) + 1e-18;
+}
 
 static void note_differences(reader *r, const readings *m) {
     measured tape = m->of[SURVEY_TAPE], compass = m->of[SURVEY_COMPASS], clino = m->of[SURVEY_CLINO];
-    measured backtape = m->of[SURVEY_BACKTAPE], backcompass = m->of[SURVEY_BACKCOMPASS], backclino = m->of[SURVEY_BACKCLINO];
+    measured backtape = m->of[SURVEY_BACKTAPE], backcompass = m->of[SURVEY_BACKCOMPASS],
+             backclino = m->of[SURVEY_BACKCLINO];
     if (differ(tape, backtape, tape.value - backtape.value)) remark(r, TAPES_DIFFER, NO_WORD);
-    if (differ(compass, backcompass, small_turn(compass.value - backcompass.value + 180))) remark(r, COMPASSES_DIFFER, NO_WORD);
+    if (differ(compass, backcompass, small_turn(compass.value - backcompass.value + 180)))
+        remark(r, COMPASSES_DIFFER, NO_WORD);
     if (differ(clino, backclino, clino.value + backclino.value)) remark(r, CLINOS_DIFFER, NO_WORD);
 }
 
-static bool are_mixed(measured one, measured other) { return one.known && other.known && (is_plumb(one) != is_plumb(other) || is_level(one) != is_level(other)); }
+static bool are_mixed(measured one, measured other) {
+    return one.known && other.known && (is_plumb(one) != is_plumb(other) || is_level(one) != is_level(other));
+}
 
 /* Whether the readings make a leg of this style; where not, it is reported. */
 static bool is_whole(reader *r, enum survey_style style, const readings *m, const result *e) {
@@ -190,7 +207,9 @@ static struct survey_sd deviations(const settings *s, const result *e) {
                                    [SURVEY_SD_CLINO] = {Q_CLINO, Q_BACKCLINO},
                                    [SURVEY_SD_DEPTH] = {Q_DEPTH, Q_DEPTH},
                                    [SURVEY_SD_POSITION] = {Q_POSITION, Q_POSITION}};
-    struct survey_sd sd = {sd_of(e->length), e->bearing.known ? sd_of(e->bearing) : s->of[Q_COMPASS].sd, sd_of(e->slope), s->of[Q_DEPTH].sd, s->of[Q_POSITION].sd, 0};
+    struct survey_sd sd = {sd_of(e->length),     e->bearing.known ? sd_of(e->bearing) : s->of[Q_COMPASS].sd,
+                           sd_of(e->slope),      s->of[Q_DEPTH].sd,
+                           s->of[Q_POSITION].sd, 0};
     if (e->slope_by == SURVEY_BY_LEVEL) sd.clino = s->of[Q_LEVEL].sd;
     if (e->slope_by == SURVEY_BY_PLUMB) sd.clino = s->of[Q_PLUMB].sd;
     if (e->slope_by == SURVEY_UNKNOWN) sd.clino = s->of[Q_CLINO].sd;
@@ -212,14 +231,46 @@ static struct survey_reading *keep_readings(reader *r, size_t *count) {
     return kept;
 }
 
+/* Whether a leg repeats the one before, as electronic instruments shoot a leg several times. */
+static bool repeats(const struct survey *s, const struct survey_leg *leg) {
+    if (s->leg_count == 0) return false;
+    const struct survey_leg *last = &s->legs[s->leg_count - 1];
+    bool alike = last->style == leg->style && last->declination == leg->declination && last->slope_by == leg->slope_by;
+    return alike && last->from == leg->from && last->to == leg->to &&
+           last->reading_count / last->shots == leg->reading_count;
+}
+
+static double with_mean(double mean, size_t count, double one) { return mean + (one - mean) / (double)(count + 1); }
+
+/* Works one more shot into the last leg: the mean of the vectors, as in Survex. */
+static void add_shot(reader *r, const struct survey_leg *shot) {
+    struct survey_leg *leg = &r->s->legs[r->s->leg_count - 1];
+    size_t count = leg->shots, all = leg->reading_count + shot->reading_count;
+    struct survey_reading *kept = allot(r, all * sizeof *kept);
+    if (kept == NULL) return;
+    memcpy(kept, leg->readings, leg->reading_count * sizeof *kept);
+    memcpy(kept + leg->reading_count, shot->readings, shot->reading_count * sizeof *kept);
+    leg->readings = kept, leg->reading_count = all, leg->shots = count + 1;
+    leg->length = with_mean(leg->length, count, shot->length);
+    leg->east = with_mean(leg->east, count, shot->east);
+    leg->north = with_mean(leg->north, count, shot->north);
+    leg->up = with_mean(leg->up, count, shot->up);
+    double plan = hypot(leg->east, leg->north), less = sqrt((double)count / (double)(count + 1));
+    if (plan > 0) leg->bearing = full_turn(atan2(leg->east, leg->north) * RADIAN);
+    leg->slope = plan > 0 || leg->up != 0 ? atan2(leg->up, plan) * RADIAN : 0;
+    leg->sd.tape *= less, leg->sd.compass *= less, leg->sd.clino *= less, leg->sd.depth *= less;
+}
+
 static void keep_leg(reader *r, struct survey_leg leg, const readings *m) {
     struct survey *s = r->s;
     const settings *in = now(r);
     result e = work_out(leg.style, leg.declination, m);
-    if (!is_whole(r, leg.style, m, &e) || !room_for_one(r, &s->legs, s->leg_count, &r->leg_room, sizeof *s->legs)) return;
+    if (!is_whole(r, leg.style, m, &e) || !room_for_one(r, &s->legs, s->leg_count, &r->leg_room, sizeof *s->legs))
+        return;
     leg.slope_by = e.slope_by;
     leg.length = e.length.value, leg.bearing = e.bearing.known ? e.bearing.value : 0, leg.slope = e.slope.value;
     leg.east = e.vector[0], leg.north = e.vector[1], leg.up = e.vector[2];
+    if (repeats(s, &leg)) return add_shot(r, &leg);
     leg.surface = in->surface, leg.duplicate = in->duplicate;
     if (leg.surface) remark(r, SURFACE_LEGS, NO_WORD);
     if (leg.duplicate) remark(r, DUPLICATE_LEGS, NO_WORD);
@@ -232,7 +283,8 @@ static void keep_leg(reader *r, struct survey_leg leg, const readings *m) {
 static bool is_equate(const reader *r) {
     const traverse *t = &r->run;
     for (size_t j = 0; j < t->count; j++) {
-        if (t->readings[j].what == SURVEY_TAPE) return t->readings[j].form == SURVEY_NUMBER && t->readings[j].written == 0;
+        if (t->readings[j].what == SURVEY_TAPE)
+            return t->readings[j].form == SURVEY_NUMBER && t->readings[j].written == 0;
     }
     return false;
 }
@@ -253,6 +305,7 @@ void add_leg(reader *r) {
         leg.file = r->at.file, leg.line = t->line;
         leg.from = t->backwards ? t->to : t->from, leg.to = t->backwards ? t->from : t->to;
         leg.style = (enum survey_style)now(r)->fields->style;
+        leg.shots = 1;
         leg.declination = now(r)->declination;
         leg.readings = keep_readings(r, &leg.reading_count);
         readings m = gather(leg.readings, leg.reading_count, NULL);

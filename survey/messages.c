@@ -70,9 +70,11 @@ static const char *const TROUBLES_SAID[TROUBLES] = {
     [IS_3D] = "this is a processed survey (.3d): give the .svx file that it was made from",
     [IS_THERION] = "this is a Therion file: export it as Survex, or rewrite it as .svx",
     [IS_COMPASS] = "this is a Compass survey (.dat): convert it to Survex first, for example with CaveConverter",
-    [IS_COMPASS_PROJECT] = "this is a Compass project (.mak): convert its surveys to Survex first, for example with CaveConverter",
+    [IS_COMPASS_PROJECT] =
+        "this is a Compass project (.mak): convert its surveys to Survex first, for example with CaveConverter",
     [IS_WALLS] = "this is a Walls file: export it as Survex first",
-    [IS_POCKETTOPO] = "this is a PocketTopo file: export it as Survex, or convert it first, for example with CaveConverter",
+    [IS_POCKETTOPO] =
+        "this is a PocketTopo file: export it as Survex, or convert it first, for example with CaveConverter",
     [IS_TABLE] = "this is a table: write a line *data normal from to tape compass clino, and a leg on each line",
     [IS_ARCHIVE] = "this is an archive or an office document: take the survey out of it and save it as plain text",
     [IS_PAGE] = "this is a web page or XML: save the survey itself as plain text",
@@ -85,13 +87,18 @@ static const struct {
     const char *one, *several;
 } NOTES_SAID[NOTES] = {
     [SPLAYS] = {true, "splay is left out", "splays are left out"},
-    [SIGHTS] = {true, "leg without readings (nosurvey) joins its stations, and is no leg", "legs without readings (nosurvey) join their stations, and are no legs"},
+    [SIGHTS] = {true, "leg without readings (nosurvey) joins its stations, and is no leg",
+                "legs without readings (nosurvey) join their stations, and are no legs"},
     [SURFACE_LEGS] = {true, "leg is flagged surface, and is kept", "legs are flagged surface, and are kept"},
     [DUPLICATE_LEGS] = {true, "leg is flagged duplicate, and is kept", "legs are flagged duplicate, and are kept"},
     [PASSAGE_LINES] = {true, "line of passage data is skipped", "lines of passage data are skipped"},
-    [SOLVES] = {true, "*solve is skipped: all loops are taken together", "*solve are skipped: all loops are taken together"},
-    [AUTO_DECLINATION] = {true, "*declination auto is not computed: bearings stay magnetic, so give each trip its declination where trips are years apart",
-                          "*declination auto are not computed: bearings stay magnetic, so give each trip its declination where trips are years apart"},
+    [SOLVES] = {true, "*solve is skipped: all loops are taken together",
+                "*solve are skipped: all loops are taken together"},
+    [AUTO_DECLINATION] = {true,
+                          "*declination auto is not computed: bearings stay magnetic, so give each trip its "
+                          "declination where trips are years apart",
+                          "*declination auto are not computed: bearings stay magnetic, so give each trip its "
+                          "declination where trips are years apart"},
     [CONVERTED_FIXES] = {true, "fixed point is left out: coordinates of another system than *cs out are not converted",
                          "fixed points are left out: coordinates of another system than *cs out are not converted"},
     [LARGE_COMPASS] = {false, "compass is not from 0 to 360", NULL},
@@ -185,7 +192,8 @@ void keep_only(reader *r, trouble_kind why) {
 
 static void add_note(reader *r, size_t file, size_t line, const char *text) {
     struct survey *s = r->s;
-    if (room_for_one(r, &s->notes, s->note_count, &r->note_room, sizeof *s->notes)) s->notes[s->note_count++] = (struct survey_message){file, line, text};
+    if (room_for_one(r, &s->notes, s->note_count, &r->note_room, sizeof *s->notes))
+        s->notes[s->note_count++] = (struct survey_message){file, line, text};
 }
 
 void remark(reader *r, note_kind what, part word) {
@@ -199,7 +207,8 @@ void remark(reader *r, note_kind what, part word) {
 void tell_notes(reader *r) {
     for (int j = 0; j < NOTES; j++) {
         size_t count = r->notes[j].count;
-        if (NOTES_SAID[j].counts && count > 0) add_note(r, 0, 0, with_count(r, count, count == 1 ? NOTES_SAID[j].one : NOTES_SAID[j].several));
+        if (NOTES_SAID[j].counts && count > 0)
+            add_note(r, 0, 0, with_count(r, count, count == 1 ? NOTES_SAID[j].one : NOTES_SAID[j].several));
         if (!NOTES_SAID[j].counts && count > MOST_LISTED) {
             static const char MORE[] = "lines more: ";
             char *text = allot(r, sizeof MORE + strlen(NOTES_SAID[j].one));

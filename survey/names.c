@@ -3,9 +3,13 @@
 #include <stdlib.h>
 #include <string.h>
 
-static bool is_letter_or_digit(uint8_t byte) { return (byte >= '0' && byte <= '9') || (byte >= 'A' && byte <= 'Z') || (byte >= 'a' && byte <= 'z'); }
+static bool is_letter_or_digit(uint8_t byte) {
+    return (byte >= '0' && byte <= '9') || (byte >= 'A' && byte <= 'Z') || (byte >= 'a' && byte <= 'z');
+}
 
-static bool is_name_sign(const reader *r, uint8_t byte) { return is_letter_or_digit(byte) || byte > 127 || has_sign(r, byte, SIGN_NAMES); }
+static bool is_name_sign(const reader *r, uint8_t byte) {
+    return is_letter_or_digit(byte) || byte > 127 || has_sign(r, byte, SIGN_NAMES);
+}
 
 static uint8_t letter_as(uint8_t byte, letter_case as) {
     if (as == AS_LOWER && byte >= 'A' && byte <= 'Z') return (uint8_t)(byte + 32);
@@ -79,13 +83,15 @@ static size_t label_below(reader *r, size_t above, part label) {
     uint8_t bytes[2 * MOST_NAME], compared[2 * MOST_NAME];
     const settings *s = now(r);
     if (label.length > MOST_NAME) return complain(r, LONG_NAME, label), NO_NAME;
-    if (!room_for_slot(r) || !room_for_one(r, &r->names, r->name_count, &r->name_room, sizeof *r->names)) return NO_NAME;
+    if (!room_for_slot(r) || !room_for_one(r, &r->names, r->name_count, &r->name_room, sizeof *r->names))
+        return NO_NAME;
     part written = as_utf8(r, (part){label.bytes, label.length < s->truncate ? label.length : s->truncate}, bytes);
     for (size_t j = 0; j < written.length; j++) compared[j] = letter_as(bytes[j], s->as);
     part key = {compared, written.length};
     size_t at = slot_of(r, above, key);
     if (r->slots[at] != 0) return r->slots[at];
-    if (r->names[above].length + (above != 0) + written.length > MOST_NAME) return complain(r, LONG_NAME, label), NO_NAME;
+    if (r->names[above].length + (above != 0) + written.length > MOST_NAME)
+        return complain(r, LONG_NAME, label), NO_NAME;
     size_t made = new_name(r, above, key, written);
     if (made != NO_NAME) r->slots[at] = made;
     return made;
@@ -106,7 +112,8 @@ size_t name_below(reader *r, size_t scope, part word) {
     do {
         part label = label_at(r, word, at);
         at += label.length;
-        if (label.length == 0 || (at < word.length && !has_sign(r, word.bytes[at], SIGN_SEPARATOR))) return complain(r, BAD_NAME, word), NO_NAME;
+        if (label.length == 0 || (at < word.length && !has_sign(r, word.bytes[at], SIGN_SEPARATOR)))
+            return complain(r, BAD_NAME, word), NO_NAME;
         found = label_below(r, found, label);
     } while (found != NO_NAME && at++ < word.length);
     return found;
@@ -123,7 +130,8 @@ size_t station_named(reader *r, part word) {
     if (n->station != SURVEY_NONE) return n->station;
     if (!room_for_one(r, &s->stations, s->station_count, &r->station_room, sizeof *s->stations)) return SURVEY_NONE;
     n->station = s->station_count;
-    s->stations[s->station_count] = (struct survey_station){NULL, s->station_count, r->at.file, r->at.number, SURVEY_NONE, false};
+    s->stations[s->station_count] =
+        (struct survey_station){NULL, s->station_count, r->at.file, r->at.number, SURVEY_NONE, false};
     return s->station_count++;
 }
 

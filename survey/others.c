@@ -2,7 +2,9 @@
 #include "reader.h"
 #include <string.h>
 
-static bool starts_with(const struct survey_file *f, const char *start) { return f->length >= strlen(start) && memcmp(f->bytes, start, strlen(start)) == 0; }
+static bool starts_with(const struct survey_file *f, const char *start) {
+    return f->length >= strlen(start) && memcmp(f->bytes, start, strlen(start)) == 0;
+}
 
 static uint8_t small(uint8_t byte) { return byte >= 'A' && byte <= 'Z' ? (uint8_t)(byte + 32) : byte; }
 
@@ -32,18 +34,19 @@ static const struct {
     const char *line;
     trouble_kind is;
 } LINES[] = {
-    {"endsurvey", IS_THERION},    {"centreline", IS_THERION},  {"centerline", IS_THERION},     {"endcentreline", IS_THERION}, {"scrap", IS_THERION},
-    {"endlayout", IS_THERION},    {"survey name", IS_COMPASS}, {"survey date", IS_COMPASS},    {"#units", IS_WALLS},          {"#date", IS_WALLS},
-    {"#prefix", IS_WALLS},        {".book", IS_WALLS},         {".survey", IS_WALLS},          {"#fix", IS_WALLS},
+    {"endsurvey", IS_THERION}, {"centreline", IS_THERION}, {"centerline", IS_THERION},  {"endcentreline", IS_THERION},
+    {"scrap", IS_THERION},     {"endlayout", IS_THERION},  {"survey name", IS_COMPASS}, {"survey date", IS_COMPASS},
+    {"#units", IS_WALLS},      {"#date", IS_WALLS},        {"#prefix", IS_WALLS},       {".book", IS_WALLS},
+    {".survey", IS_WALLS},     {"#fix", IS_WALLS},
 };
 
 static const struct {
     const char *start;
     trouble_kind is;
 } STARTS[] = {
-    {"Survex 3D Image File", IS_3D}, {"\xff\xfe", IS_UTF16},     {"\xfe\xff", IS_UTF16}, {"PK\x03\x04", IS_ARCHIVE}, {"\x1f\x8b", IS_ARCHIVE},
-    {"%PDF", IS_ARCHIVE},            {"\xd0\xcf\x11", IS_ARCHIVE}, {"<?xml", IS_PAGE},   {"<!DOCTYPE", IS_PAGE},     {"<!doctype", IS_PAGE},
-    {"<html", IS_PAGE},              {"Top\x03", IS_POCKETTOPO},
+    {"Survex 3D Image File", IS_3D}, {"\xff\xfe", IS_UTF16}, {"\xfe\xff", IS_UTF16},       {"PK\x03\x04", IS_ARCHIVE},
+    {"\x1f\x8b", IS_ARCHIVE},        {"%PDF", IS_ARCHIVE},   {"\xd0\xcf\x11", IS_ARCHIVE}, {"<?xml", IS_PAGE},
+    {"<!DOCTYPE", IS_PAGE},          {"<!doctype", IS_PAGE}, {"<html", IS_PAGE},           {"Top\x03", IS_POCKETTOPO},
 };
 
 /* "Name (m, 360)" and "[1]: 2010/05/21" head PocketTopo's text. */
@@ -59,7 +62,9 @@ static bool is_pockettopo(const struct survey_file *f) {
 static bool is_compass_project(const struct survey_file *f) {
     const uint8_t *at = f->bytes;
     for (; at + 4 < f->bytes + f->length; at++) {
-        if (at[0] == '.' && small(at[1]) == 'd' && small(at[2]) == 'a' && small(at[3]) == 't' && (at[4] == ',' || at[4] == ';')) return true;
+        if (at[0] == '.' && small(at[1]) == 'd' && small(at[2]) == 'a' && small(at[3]) == 't' &&
+            (at[4] == ',' || at[4] == ';'))
+            return true;
     }
     return false;
 }

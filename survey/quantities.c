@@ -10,18 +10,43 @@ static const struct {
     const char *word;
     int is;
 } WORDS[] = {
-    {"tape", Q_TAPE},           {"length", Q_TAPE},           {"compass", Q_COMPASS},   {"bearing", Q_COMPASS},       {"clino", Q_CLINO},
-    {"gradient", Q_CLINO},      {"backtape", Q_BACKTAPE},     {"backlength", Q_BACKTAPE}, {"backcompass", Q_BACKCOMPASS}, {"backbearing", Q_BACKCOMPASS},
-    {"backclino", Q_BACKCLINO}, {"backgradient", Q_BACKCLINO}, {"depth", Q_DEPTH},      {"count", Q_COUNT},           {"counter", Q_COUNT},
-    {"dx", Q_EASTING},          {"easting", Q_EASTING},       {"dy", Q_NORTHING},       {"northing", Q_NORTHING},     {"dz", Q_ALTITUDE},
-    {"altitude", Q_ALTITUDE},   {"declination", Q_DECLINATION}, {"left", Q_WALLS},      {"right", Q_WALLS},           {"up", Q_WALLS},
-    {"ceiling", Q_WALLS},       {"down", Q_WALLS},            {"floor", Q_WALLS},       {"level", Q_LEVEL},           {"plumb", Q_PLUMB},
+    {"tape", Q_TAPE},
+    {"length", Q_TAPE},
+    {"compass", Q_COMPASS},
+    {"bearing", Q_COMPASS},
+    {"clino", Q_CLINO},
+    {"gradient", Q_CLINO},
+    {"backtape", Q_BACKTAPE},
+    {"backlength", Q_BACKTAPE},
+    {"backcompass", Q_BACKCOMPASS},
+    {"backbearing", Q_BACKCOMPASS},
+    {"backclino", Q_BACKCLINO},
+    {"backgradient", Q_BACKCLINO},
+    {"depth", Q_DEPTH},
+    {"count", Q_COUNT},
+    {"counter", Q_COUNT},
+    {"dx", Q_EASTING},
+    {"easting", Q_EASTING},
+    {"dy", Q_NORTHING},
+    {"northing", Q_NORTHING},
+    {"dz", Q_ALTITUDE},
+    {"altitude", Q_ALTITUDE},
+    {"declination", Q_DECLINATION},
+    {"left", Q_WALLS},
+    {"right", Q_WALLS},
+    {"up", Q_WALLS},
+    {"ceiling", Q_WALLS},
+    {"down", Q_WALLS},
+    {"floor", Q_WALLS},
+    {"level", Q_LEVEL},
+    {"plumb", Q_PLUMB},
     {"position", Q_POSITION},
 };
 
 static const unsigned BEARINGS = 1u << Q_COMPASS | 1u << Q_BACKCOMPASS | 1u << Q_DECLINATION;
 static const unsigned SLOPES = 1u << Q_CLINO | 1u << Q_BACKCLINO;
-static const unsigned ANGLES = 1u << Q_COMPASS | 1u << Q_BACKCOMPASS | 1u << Q_DECLINATION | 1u << Q_CLINO | 1u << Q_BACKCLINO | 1u << Q_LEVEL | 1u << Q_PLUMB;
+static const unsigned ANGLES = 1u << Q_COMPASS | 1u << Q_BACKCOMPASS | 1u << Q_DECLINATION | 1u << Q_CLINO |
+                               1u << Q_BACKCLINO | 1u << Q_LEVEL | 1u << Q_PLUMB;
 
 /* What *sd alone has, and no unit or correction. */
 static const unsigned DEVIATIONS = 1u << Q_LEVEL | 1u << Q_PLUMB | 1u << Q_POSITION;
@@ -33,14 +58,16 @@ static const struct {
     enum dimension is;
     double of;
 } UNITS[] = {
-    {"metres", LENGTH, 1},         {"meters", LENGTH, 1},      {"metric", LENGTH, 1},   {"feet", LENGTH, 0.3048},    {"yards", LENGTH, 0.9144},
-    {"degrees", ANGLE, 1},         {"degs", ANGLE, 1},         {"grads", ANGLE, 0.9},   {"mils", ANGLE, 0.9},        {"minutes", ANGLE, 1 / 60.0},
-    {"quads", QUADRANT, 1},        {"quadrants", QUADRANT, 1}, {"percent", PERCENT, 0.01}, {"percentage", PERCENT, 0.01},
+    {"metres", LENGTH, 1},      {"meters", LENGTH, 1},         {"metric", LENGTH, 1},  {"feet", LENGTH, 0.3048},
+    {"yards", LENGTH, 0.9144},  {"degrees", ANGLE, 1},         {"degs", ANGLE, 1},     {"grads", ANGLE, 0.9},
+    {"mils", ANGLE, 0.9},       {"minutes", ANGLE, 1 / 60.0},  {"quads", QUADRANT, 1}, {"quadrants", QUADRANT, 1},
+    {"percent", PERCENT, 0.01}, {"percentage", PERCENT, 0.01},
 };
 
 int quantity_of(enum survey_quantity what) {
-    static const int OF[SURVEY_QUANTITIES] = {Q_TAPE,  Q_COMPASS, Q_CLINO, Q_BACKTAPE, Q_BACKCOMPASS, Q_BACKCLINO, Q_DEPTH,
-                                              Q_DEPTH, Q_DEPTH,   Q_COUNT, Q_COUNT,    Q_EASTING,     Q_NORTHING,  Q_ALTITUDE};
+    static const int OF[SURVEY_QUANTITIES] = {Q_TAPE,      Q_COMPASS, Q_CLINO,    Q_BACKTAPE, Q_BACKCOMPASS,
+                                              Q_BACKCLINO, Q_DEPTH,   Q_DEPTH,    Q_DEPTH,    Q_COUNT,
+                                              Q_COUNT,     Q_EASTING, Q_NORTHING, Q_ALTITUDE};
     return OF[what];
 }
 
@@ -114,12 +141,17 @@ void take_units(reader *r) {
     for (int j = 0; j < QUANTITIES; j++) {
         if ((of & 1u << j) == 0) continue;
         now(r)->of[j].unit = factor * UNITS[unit].of;
-        now(r)->of[j].form = UNITS[unit].is == PERCENT ? SURVEY_PERCENT : UNITS[unit].is == QUADRANT ? SURVEY_QUADRANT : SURVEY_NUMBER;
+        now(r)->of[j].form = UNITS[unit].is == PERCENT    ? SURVEY_PERCENT
+                             : UNITS[unit].is == QUADRANT ? SURVEY_QUADRANT
+                                                          : SURVEY_NUMBER;
     }
 }
 
-/* A zero in the unit of the quantity: an error of a slope in percent is so many hundredths of a radian, as in Survex. */
-static double zero_in_unit(const quantity *q, double zero) { return zero * q->unit * (q->form == SURVEY_PERCENT ? RADIAN : 1); }
+/* A zero in the unit of the quantity: an error of a slope in percent is so many hundredths of a radian, as in Survex.
+ */
+static double zero_in_unit(const quantity *q, double zero) {
+    return zero * q->unit * (q->form == SURVEY_PERCENT ? RADIAN : 1);
+}
 
 /* A unit after the zero says that it was measured apart from the instrument, and has no scale. */
 static void calibrate(reader *r, unsigned of, double zero, int unit, double scale) {
@@ -168,7 +200,8 @@ void take_sd(reader *r) {
     int unit = unit_of(r, word, of);
     if (unit < 0 || !ends_here(r)) return;
     for (int j = 0; j < QUANTITIES; j++) {
-        if ((of & 1u << j) != 0) now(r)->of[j].sd = fabs(sd) * UNITS[unit].of * (UNITS[unit].is == PERCENT ? RADIAN : 1);
+        if ((of & 1u << j) != 0)
+            now(r)->of[j].sd = fabs(sd) * UNITS[unit].of * (UNITS[unit].is == PERCENT ? RADIAN : 1);
     }
     now(r)->sd_given |= of;
 }

@@ -138,7 +138,8 @@ typedef struct {
     uint16_t of[256];
 } signs;
 
-/* ---- names.c: names are a tree, a label below another name; the first is the root. `key` is what is compared, `label` what was written. */
+/* ---- names.c: names are a tree, a label below another name; the first is the root. `key` is what is compared, `label`
+ * what was written. */
 typedef struct {
     size_t above, length, station;
     part key, label;
@@ -148,7 +149,17 @@ typedef struct {
 typedef enum { AS_LOWER, AS_UPPER, AS_WRITTEN } letter_case;
 
 /* ---- styles.c: what a field of a data line is, quantities first. */
-enum { FIELD_FROM = SURVEY_QUANTITIES, FIELD_TO, FIELD_STATION, FIELD_DEPTH, FIELD_COUNT, FIELD_DIRECTION, FIELD_NEWLINE, FIELD_IGNORE, FIELD_IGNORE_ALL };
+enum {
+    FIELD_FROM = SURVEY_QUANTITIES,
+    FIELD_TO,
+    FIELD_STATION,
+    FIELD_DEPTH,
+    FIELD_COUNT,
+    FIELD_DIRECTION,
+    FIELD_NEWLINE,
+    FIELD_IGNORE,
+    FIELD_IGNORE_ALL
+};
 
 /* Styles that are no legs. */
 enum { STYLE_NOSURVEY = SURVEY_CARTESIAN + 1, STYLE_PASSAGE };
@@ -161,7 +172,8 @@ typedef struct {
     uint8_t fields[MOST_FIELDS];
 } order;
 
-/* ---- quantities.c: what has units, corrections and standard deviations. Length and angle quantities are in metres and degrees. */
+/* ---- quantities.c: what has units, corrections and standard deviations. Length and angle quantities are in metres and
+ * degrees. */
 enum {
     Q_TAPE,
     Q_COMPASS,
@@ -210,7 +222,8 @@ typedef struct {
     const uint8_t *word, *line, *line_end, *next, *end;
 } cursor;
 
-/* What lines of data have said since the last leg: its stations, readings that two legs share (from and to), and readings of its own. */
+/* What lines of data have said since the last leg: its stations, readings that two legs share (from and to), and
+ * readings of its own. */
 typedef struct {
     size_t count, shared_count, from, to, line;
     bool has_from, has_to, from_unnamed, to_unnamed; /* a station that is neither unnamed nor known was bad */
@@ -245,7 +258,8 @@ void *allot(reader *r, size_t size);
 bool room_for_one(reader *r, void *array, size_t count, size_t *room, size_t size);
 char *copy_of(reader *r, part of);
 
-/* messages.c: reports a trouble of the line that is read, once for a line of data; counts a note, or tells it with its line. */
+/* messages.c: reports a trouble of the line that is read, once for a line of data; counts a note, or tells it with its
+ * line. */
 void complain_at(reader *r, size_t file, size_t line, trouble_kind why, part word);
 void complain(reader *r, trouble_kind why, part word);
 void remark(reader *r, note_kind what, part word);

@@ -44,7 +44,8 @@ void take_end(reader *r) {
     if (r->depth == r->at.depth) return complain(r, NO_BEGIN, label);
     const settings inside = *now(r);
     r->depth--;
-    bool other = named && (inside.label.length == 0 || name_below(r, now(r)->prefix, label) != name_below(r, now(r)->prefix, inside.label));
+    bool other = named && (inside.label.length == 0 ||
+                           name_below(r, now(r)->prefix, label) != name_below(r, now(r)->prefix, inside.label));
     if (other) complain(r, OTHER_END, label);
     ends_here(r);
 }
@@ -94,7 +95,8 @@ void take_alias(reader *r) {
     next_word(r, &kind);
     next_word(r, &from);
     bool given = next_word(r, &to);
-    if (!is_word(kind, "station") || !is_word(from, "-") || (given && !is_word(to, ".."))) return complain(r, BAD_ALIAS, given ? to : from);
+    if (!is_word(kind, "station") || !is_word(from, "-") || (given && !is_word(to, "..")))
+        return complain(r, BAD_ALIAS, given ? to : from);
     now(r)->dash_is_splay = given;
     ends_here(r);
 }
@@ -137,10 +139,12 @@ static int hex_digit(uint8_t byte) {
     return byte >= 'a' && byte <= 'f' ? byte - 'a' + 10 : -1;
 }
 
-/* The sign at a place of a word, x20 being that of number 32; how many bytes it takes, 0 where a letter or digit stands there. */
+/* The sign at a place of a word, x20 being that of number 32; how many bytes it takes, 0 where a letter or digit stands
+ * there. */
 static size_t sign_at(part word, size_t at, uint8_t *sign) {
     uint8_t byte = word.bytes[at];
-    if ((byte | 32) == 'x' && at + 2 < word.length + 0 && hex_digit(word.bytes[at + 1]) >= 0 && hex_digit(word.bytes[at + 2]) >= 0) {
+    if ((byte | 32) == 'x' && at + 2 < word.length + 0 && hex_digit(word.bytes[at + 1]) >= 0 &&
+        hex_digit(word.bytes[at + 2]) >= 0) {
         *sign = (uint8_t)(hex_digit(word.bytes[at + 1]) * 16 + hex_digit(word.bytes[at + 2]));
         return 3;
     }
@@ -148,7 +152,9 @@ static size_t sign_at(part word, size_t at, uint8_t *sign) {
     return 1;
 }
 
-static bool is_letter_or_digit(uint8_t byte) { return hex_digit(byte) >= 0 || ((byte | 32) >= 'a' && (byte | 32) <= 'z'); }
+static bool is_letter_or_digit(uint8_t byte) {
+    return hex_digit(byte) >= 0 || ((byte | 32) >= 'a' && (byte | 32) <= 'z');
+}
 
 /* Gives the signs of a word this use, and takes it from all others. */
 static void use_signs(reader *r, part word, unsigned use) {
@@ -166,7 +172,8 @@ static void use_signs(reader *r, part word, unsigned use) {
 }
 
 void take_set(reader *r) {
-    static const char *const ITEMS[] = {"blank", "comment", "decimal", "eol", "keyword", "minus", "names", "omit", "plus", "root", "separator", NULL};
+    static const char *const ITEMS[] = {"blank", "comment", "decimal", "eol",  "keyword",   "minus",
+                                        "names", "omit",    "plus",    "root", "separator", NULL};
     part word, item;
     next_word(r, &item);
     int which = index_of(item, ITEMS);
@@ -174,7 +181,8 @@ void take_set(reader *r) {
     const uint8_t *start = r->at.word;
     while (start < r->at.line_end && has_sign(r, *start, SIGN_BLANK)) start++;
     r->at.word = start;
-    while (r->at.word < r->at.line_end && !has_sign(r, *r->at.word, SIGN_BLANK)) r->at.word++; /* a comment's sign may be set */
+    while (r->at.word < r->at.line_end && !has_sign(r, *r->at.word, SIGN_BLANK))
+        r->at.word++; /* a comment's sign may be set */
     word = (part){start, (size_t)(r->at.word - start)};
     use_signs(r, word, 1u << which);
     r->at.word = r->at.line_end;

@@ -2,16 +2,20 @@
 #include "reader.h"
 #include <string.h>
 
-const order DEFAULT_ORDER = {SURVEY_NORMAL, 5, 5, false, {FIELD_FROM, FIELD_TO, SURVEY_TAPE, SURVEY_COMPASS, SURVEY_CLINO}};
+const order DEFAULT_ORDER = {
+    SURVEY_NORMAL, 5, 5, false, {FIELD_FROM, FIELD_TO, SURVEY_TAPE, SURVEY_COMPASS, SURVEY_CLINO}};
 
 #define BIT(field) (1u << (field))
 
 static const unsigned ENDS = BIT(FIELD_FROM) | BIT(FIELD_TO);
-static const unsigned COMMON = BIT(FIELD_FROM) | BIT(FIELD_TO) | BIT(FIELD_STATION) | BIT(FIELD_DIRECTION) | BIT(FIELD_NEWLINE) | BIT(FIELD_IGNORE) | BIT(FIELD_IGNORE_ALL);
-static const unsigned LENGTHS = BIT(SURVEY_TAPE) | BIT(SURVEY_BACKTAPE) | BIT(SURVEY_FROM_COUNT) | BIT(SURVEY_TO_COUNT) | BIT(FIELD_COUNT);
+static const unsigned COMMON = BIT(FIELD_FROM) | BIT(FIELD_TO) | BIT(FIELD_STATION) | BIT(FIELD_DIRECTION) |
+                               BIT(FIELD_NEWLINE) | BIT(FIELD_IGNORE) | BIT(FIELD_IGNORE_ALL);
+static const unsigned LENGTHS =
+    BIT(SURVEY_TAPE) | BIT(SURVEY_BACKTAPE) | BIT(SURVEY_FROM_COUNT) | BIT(SURVEY_TO_COUNT) | BIT(FIELD_COUNT);
 static const unsigned BEARINGS = BIT(SURVEY_COMPASS) | BIT(SURVEY_BACKCOMPASS);
 static const unsigned SLOPES = BIT(SURVEY_CLINO) | BIT(SURVEY_BACKCLINO);
-static const unsigned DEPTHS = BIT(SURVEY_FROM_DEPTH) | BIT(SURVEY_TO_DEPTH) | BIT(SURVEY_DEPTH_CHANGE) | BIT(FIELD_DEPTH);
+static const unsigned DEPTHS =
+    BIT(SURVEY_FROM_DEPTH) | BIT(SURVEY_TO_DEPTH) | BIT(SURVEY_DEPTH_CHANGE) | BIT(FIELD_DEPTH);
 static const unsigned CHANGES = BIT(SURVEY_EASTING) | BIT(SURVEY_NORTHING) | BIT(SURVEY_ALTITUDE);
 
 static const struct {
@@ -57,8 +61,9 @@ static const struct {
     const char *word;
     int style;
 } STYLES[] = {
-    {"normal", SURVEY_NORMAL},       {"topofil", SURVEY_NORMAL},     {"diving", SURVEY_DIVING},   {"cylpolar", SURVEY_CYLPOLAR},
-    {"cartesian", SURVEY_CARTESIAN}, {"nosurvey", STYLE_NOSURVEY}, {"passage", STYLE_PASSAGE}, {"ignore", STYLE_PASSAGE},
+    {"normal", SURVEY_NORMAL},     {"topofil", SURVEY_NORMAL},      {"diving", SURVEY_DIVING},
+    {"cylpolar", SURVEY_CYLPOLAR}, {"cartesian", SURVEY_CARTESIAN}, {"nosurvey", STYLE_NOSURVEY},
+    {"passage", STYLE_PASSAGE},    {"ignore", STYLE_PASSAGE},
 };
 
 static unsigned allowed_in(int style) {
@@ -76,11 +81,13 @@ static bool has_stations(unsigned seen, int style) {
 }
 
 static bool has_length(unsigned seen) {
-    return has_one(seen, BIT(SURVEY_TAPE) | BIT(SURVEY_BACKTAPE) | BIT(FIELD_COUNT)) || has_all(seen, BIT(SURVEY_FROM_COUNT) | BIT(SURVEY_TO_COUNT));
+    return has_one(seen, BIT(SURVEY_TAPE) | BIT(SURVEY_BACKTAPE) | BIT(FIELD_COUNT)) ||
+           has_all(seen, BIT(SURVEY_FROM_COUNT) | BIT(SURVEY_TO_COUNT));
 }
 
 static bool has_depth(unsigned seen) {
-    return has_one(seen, BIT(FIELD_DEPTH) | BIT(SURVEY_DEPTH_CHANGE)) || has_all(seen, BIT(SURVEY_FROM_DEPTH) | BIT(SURVEY_TO_DEPTH));
+    return has_one(seen, BIT(FIELD_DEPTH) | BIT(SURVEY_DEPTH_CHANGE)) ||
+           has_all(seen, BIT(SURVEY_FROM_DEPTH) | BIT(SURVEY_TO_DEPTH));
 }
 
 /* Without a clino legs are level. */
@@ -97,8 +104,10 @@ static bool add_field(reader *r, order *o, part word, unsigned *seen) {
     if (which == all) return complain(r, NO_READING, word), false;
     int field = FIELDS[which].field;
     if ((allowed_in(o->style) & BIT(field)) == 0) return complain(r, OTHER_READING, word), false;
-    if ((*seen & BIT(field)) != 0 && field != FIELD_IGNORE && field != FIELD_IGNORE_ALL) return complain(r, TWICE, word), false;
-    if (o->count > 0 && o->fields[o->count - 1] == FIELD_IGNORE_ALL && field != FIELD_NEWLINE) return complain(r, NOT_LAST, word), false;
+    if ((*seen & BIT(field)) != 0 && field != FIELD_IGNORE && field != FIELD_IGNORE_ALL)
+        return complain(r, TWICE, word), false;
+    if (o->count > 0 && o->fields[o->count - 1] == FIELD_IGNORE_ALL && field != FIELD_NEWLINE)
+        return complain(r, NOT_LAST, word), false;
     if (o->count == MOST_FIELDS) return complain(r, MANY_READINGS, NO_WORD), false;
     if (field == FIELD_NEWLINE) o->newline = o->count;
     *seen |= BIT(field);

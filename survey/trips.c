@@ -21,7 +21,9 @@ size_t trip_now(reader *r) {
 }
 
 /* Whether the last leg belongs to the trip that is open. */
-static bool has_legs(const reader *r, size_t trip) { return r->s->leg_count > 0 && r->s->legs[r->s->leg_count - 1].trip == trip; }
+static bool has_legs(const reader *r, size_t trip) {
+    return r->s->leg_count > 0 && r->s->legs[r->s->leg_count - 1].trip == trip;
+}
 
 /* The trip that a date or a team belongs to: a new one where legs have been read in it, or where it began outside. */
 static struct survey_trip *trip_to_describe(reader *r) {

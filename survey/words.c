@@ -90,10 +90,11 @@ int index_of(part word, const char *const *small_letters) {
 
 /* ---- Numbers */
 
-static const double TENS[] = {1e0, 1e1, 1e2, 1e3, 1e4, 1e5, 1e6, 1e7, 1e8, 1e9, 1e10, 1e11, 1e12, 1e13, 1e14, 1e15, 1e16, 1e17, 1e18};
+static const double TENS[] = {1e0,  1e1,  1e2,  1e3,  1e4,  1e5,  1e6,  1e7,  1e8, 1e9,
+                              1e10, 1e11, 1e12, 1e13, 1e14, 1e15, 1e16, 1e17, 1e18};
 
-/* Digits as a whole number and how many of them stand after the point. Those that would make it 10^17 or more are dropped: after the point they are
- * below what a double can tell, and before it the number is then too large. */
+/* Digits as a whole number and how many of them stand after the point. Those that would make it 10^17 or more are
+ * dropped: after the point they are below what a double can tell, and before it the number is then too large. */
 typedef struct {
     uint64_t whole;
     int decimals, dropped;
@@ -141,7 +142,9 @@ bool next_number(reader *r, double *number) {
 
 /* ---- Decimal commas */
 
-static bool is_digit_at(const cursor *c, const uint8_t *at) { return at >= c->line && at < c->line_end && *at >= '0' && *at <= '9'; }
+static bool is_digit_at(const cursor *c, const uint8_t *at) {
+    return at >= c->line && at < c->line_end && *at >= '0' && *at <= '9';
+}
 
 static bool is_blank_or_end(const reader *r, const uint8_t *at) {
     return at < r->at.line || at >= r->at.line_end || *at == ' ' || *at == '\t' || has_sign(r, *at, SIGN_COMMENT);

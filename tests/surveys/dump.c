@@ -29,26 +29,35 @@ static void put_readings(const struct survey_leg *l) {
 }
 
 static void put_leg(const struct survey *s, const struct survey_leg *l) {
-    printf("leg\t%s:%zu\t%s\t%s\t%d\t%d\t%.9f\t%.9f\t%.9f\t%.9f\t%.9f\t%.9f", s->files[l->file].name, l->line, s->stations[l->from].name, s->stations[l->to].name,
-           (int)l->style, (int)l->slope_by, l->length, l->bearing, l->slope, l->east, l->north, l->up);
-    printf("\t%.9g %.9g %.9g %.9g %.9g %u\t%s%s\t%zu", l->sd.tape, l->sd.compass, l->sd.clino, l->sd.depth, l->sd.position, l->sd.given, l->surface ? "s" : "",
-           l->duplicate ? "d" : "", l->trip);
+    printf("leg\t%s:%zu\t%s\t%s\t%d\t%d\t%.9f\t%.9f\t%.9f\t%.9f\t%.9f\t%.9f", s->files[l->file].name, l->line,
+           s->stations[l->from].name, s->stations[l->to].name, (int)l->style, (int)l->slope_by, l->length, l->bearing,
+           l->slope, l->east, l->north, l->up);
+    printf("\t%.9g %.9g %.9g %.9g %.9g %u\t%s%s\t%zu", l->sd.tape, l->sd.compass, l->sd.clino, l->sd.depth,
+           l->sd.position, l->sd.given, l->surface ? "s" : "", l->duplicate ? "d" : "", l->trip);
     put_readings(l);
     putchar('\n');
 }
 
 static void put_messages(const struct survey *s, const char *kind, const struct survey_message *all, size_t count) {
-    for (size_t j = 0; j < count; j++) printf("%s\t%s:%zu: %s\n", kind, s->files[all[j].file].name, all[j].line, all[j].text);
+    for (size_t j = 0; j < count; j++)
+        printf("%s\t%s:%zu: %s\n", kind, s->files[all[j].file].name, all[j].line, all[j].text);
 }
 
 static void put_stations(const struct survey *s) {
-    for (size_t j = 0; j < s->station_count; j++) printf("station\t%s\t%s%s\n", s->stations[j].name, s->stations[s->stations[j].same].name, s->stations[j].entrance ? "\tentrance" : "");
+    for (size_t j = 0; j < s->station_count; j++)
+        printf("station\t%s\t%s%s\n", s->stations[j].name, s->stations[s->stations[j].same].name,
+               s->stations[j].entrance ? "\tentrance" : "");
     for (size_t j = 0; j < s->equate_count; j++) {
-        printf("equate\t%s:%zu\t%s\t%s\n", s->files[s->equates[j].file].name, s->equates[j].line, s->stations[s->equates[j].one].name, s->stations[s->equates[j].other].name);
+        printf("equate\t%s:%zu\t%s\t%s\n", s->files[s->equates[j].file].name, s->equates[j].line,
+               s->stations[s->equates[j].one].name, s->stations[s->equates[j].other].name);
     }
-    for (size_t j = 0; j < s->sight_count; j++) printf("sight\t%s\t%s\n", s->stations[s->sights[j].from].name, s->stations[s->sights[j].to].name);
-    for (size_t j = 0; j < s->fix_count; j++) printf("fix\t%s\t%.9g\t%.9g\t%.9g\n", s->stations[s->fixes[j].station].name, s->fixes[j].east, s->fixes[j].north, s->fixes[j].up);
-    for (size_t j = 0; j < s->trip_count; j++) printf("trip\t%zu\t%s\t%s\t%s\n", j, s->trips[j].name, s->trips[j].date, s->trips[j].team);
+    for (size_t j = 0; j < s->sight_count; j++)
+        printf("sight\t%s\t%s\n", s->stations[s->sights[j].from].name, s->stations[s->sights[j].to].name);
+    for (size_t j = 0; j < s->fix_count; j++)
+        printf("fix\t%s\t%.9g\t%.9g\t%.9g\n", s->stations[s->fixes[j].station].name, s->fixes[j].east,
+               s->fixes[j].north, s->fixes[j].up);
+    for (size_t j = 0; j < s->trip_count; j++)
+        printf("trip\t%zu\t%s\t%s\t%s\n", j, s->trips[j].name, s->trips[j].date, s->trips[j].team);
 }
 
 int main(int count, char **words) {
