@@ -11,7 +11,7 @@ static bool starts_with(const text *t, const char *start) { return t->length >= 
 static bool ends_with(const char *name, const char *end) { return strlen(name) >= strlen(end) && strcmp(name + strlen(name) - strlen(end), end) == 0; }
 
 /* What a text is: as its name says, or else its first line. */
-static subject kind_of(const text *t) {
+subject kind_of(const text *t) {
     if (ends_with(t->name, ".job")) return JOB;
     if (ends_with(t->name, ".listing")) return LISTING;
     if (ends_with(t->name, ".svx")) return SURVEY;

@@ -41,15 +41,6 @@ static int numbers_of(const option asked[ASKED], task *t) {
     return status;
 }
 
-int put_grown(const char *name, growing *written) {
-    int status;
-    if (written->failed) status = trouble("tolerance", strerror(ENOMEM));
-    else status = name == NULL ? put(written->bytes, written->length) : put_file(name, written->bytes, written->length);
-    free(written->bytes);
-    *written = (growing){NULL, 0, 0, false};
-    return status;
-}
-
 static int write_all(const option asked[ASKED], const task *t, const tally *kept) {
     growing written = {NULL, 0, 0, false};
     int status = DONE;

@@ -16,7 +16,8 @@ void read_shots(const uint8_t *bytes, size_t length, bool listed, traverse *read
 /* loop.c: whether the shots follow each other and end where they start; where not, says why on standard error, and names the longest part that closes. */
 bool is_loop(const char *name, const traverse *t);
 
-/* survey.c: takes a text for what it is, a job, a listing or a survey; the line of it that a line of the job stands for; a survey's legs as shot lines. */
+/* survey.c: what a text is, by its name or its first line; takes a text for what it is, a job, a listing or a survey; the line of it that a line of the job stands for; a survey's legs as shot lines. */
+subject kind_of(const text *t);
 int take_survey(text source, survey *taken);
 size_t line_in_source(const survey *s, size_t line);
 int shots_of(const text *from, uint8_t **shots, size_t *length);
