@@ -1,37 +1,42 @@
 /* Reads a survey with the files that it includes, and says what is wrong with it. */
 #include "cave.h"
+#include "level.h"
 #include <errno.h>
 #include <inttypes.h>
 #include <stdio.h>
 #include <stdlib.h>
 #include <string.h>
+#include <sys/stat.h>
 
-/* A name that no file has is tried and forgotten: the reader says which it tried. */
+/* A name that no file has, or a folder, is tried and forgotten: the reader says which it tried. */
 static bool fetch(void *context, const char *name, uint8_t **bytes, size_t *length) {
     text file;
+    unsigned mode = system_mode(name);
     (void)context;
-    if (system_mode(name) == 0 || read_text(name, &file) != DONE) return false;
+    if (mode == 0 || S_ISDIR(mode) || read_text(name, &file) != DONE) return false;
     *bytes = file.bytes;
     *length = file.length;
     return true;
 }
 
-static void say(const struct survey *s, const struct survey_message *m) {
-    fprintf(stderr, "%s", s->files[m->file].name);
-    if (m->line > 0) fprintf(stderr, ":%zu", m->line);
-    fprintf(stderr, ": %s\n", m->text);
+/* Standard input has no files beside it. */
+survey_fetch *fetch_of(const text *source) { return strcmp(source->name, "standard input") == 0 ? NULL : fetch; }
+
+void tell_messages(const struct survey *s) {
+    growing said = {NULL, 0, 0, false};
+    say_messages(s, &said);
+    fwrite(said.bytes, 1, said.length, stderr);
+    free(said.bytes);
 }
 
 static int accept(struct survey *s, const char *name) {
     if (s == NULL) return trouble(name, strerror(ENOMEM));
-    for (size_t j = 0; j < s->note_count; j++) say(s, &s->notes[j]);
-    for (size_t j = 0; j < s->told_count; j++) say(s, &s->troubles[j]);
+    tell_messages(s);
     return s->trouble_count == 0 ? DONE : TROUBLE;
 }
 
 int read_cave(const text *source, struct survey **read) {
-    bool alone = strcmp(source->name, "standard input") == 0;
-    *read = survey_read(source->name, source->bytes, source->length, alone ? NULL : fetch, NULL);
+    *read = survey_read(source->name, source->bytes, source->length, fetch_of(source), NULL);
     return accept(*read, source->name);
 }
 

@@ -11,4 +11,8 @@
 int read_cave(const text *source, struct survey **read);
 int cave_of_shots(const survey *from, struct survey **read);
 
+/* How a survey of that name finds the files that it includes; what the reader says of a survey, on standard error. */
+survey_fetch *fetch_of(const text *source);
+void tell_messages(const struct survey *s);
+
 #endif

@@ -16,6 +16,9 @@ enum { DONE = 0, REFUSED = 1, TROUBLE = 2, ENOUGH = 3 };
 /* The shots that a job takes, and room for a name of it, its end included. */
 enum { MOST_SHOTS = 500, NAME_ROOM = 13 };
 
+/* No loop of a survey in particular: its only one. */
+#define ANY_LOOP UINT64_MAX
+
 /* A text as it was read, under the name that messages give it. */
 typedef struct { const char *name; uint8_t *bytes; size_t length; } text;
 

@@ -28,11 +28,17 @@ static const struct {
 void take_command(reader *r) {
     part word;
     end_traverse(r);
-    if (!next_word(r, &word)) return complain(r, NO_COMMAND_WORD, NO_WORD);
+    if (!next_word(r, &word)) {
+        complain(r, NO_COMMAND_WORD, NO_WORD);
+        return;
+    }
     for (size_t j = 0; j < sizeof COMMANDS / sizeof COMMANDS[0]; j++) {
         if (!is_word(word, COMMANDS[j].word)) continue;
         r->commands++;
-        return COMMANDS[j].take(r);
+        {
+            COMMANDS[j].take(r);
+            return;
+        }
     }
     complain(r, OTHER_COMMAND, word);
 }

@@ -15,8 +15,8 @@ static struct survey_reading reading_of(reader *r, enum survey_quantity what, pa
 
 static bool is_omitted(const reader *r, part word) { return word.length == 1 && has_sign(r, word.bytes[0], SIGN_OMIT); }
 
-static bool is_slope(int what) { return what == SURVEY_CLINO || what == SURVEY_BACKCLINO; }
-static bool is_bearing(int what) { return what == SURVEY_COMPASS || what == SURVEY_BACKCOMPASS; }
+static bool is_slope(enum survey_quantity what) { return what == SURVEY_CLINO || what == SURVEY_BACKCLINO; }
+static bool is_bearing(enum survey_quantity what) { return what == SURVEY_COMPASS || what == SURVEY_BACKCOMPASS; }
 
 static void check_number(reader *r, const struct survey_reading *one, part word) {
     double angle = one->form == SURVEY_PERCENT ? 0 : one->written * one->unit;
@@ -51,7 +51,7 @@ static bool read_slope_word(part word, double *degrees) {
     return *degrees != 0 || index_of(word, LEVEL) >= 0;
 }
 
-static bool is_optional(int what) { return what <= SURVEY_BACKCLINO; }
+static bool is_optional(enum survey_quantity what) { return what <= SURVEY_BACKCLINO; }
 
 static trouble_kind trouble_of(const struct survey_reading *one) {
     if (is_bearing(one->what)) return one->form == SURVEY_QUADRANT ? BAD_QUADRANT : BAD_COMPASS;
@@ -83,6 +83,7 @@ static bool is_unnamed(const reader *r, part word) {
 }
 
 static bool take_station(reader *r, part word, size_t *station, bool *unnamed) {
+    r->run.name = word;
     *unnamed = is_unnamed(r, word);
     *station = *unnamed ? SURVEY_NONE : station_named(r, word);
     return *unnamed || *station != SURVEY_NONE;
@@ -128,18 +129,25 @@ static bool take_field(reader *r, int field, part word) {
     }
 }
 
+/* Where a line has too few or too many fields, or the rest of it is ignored, a decimal comma is what is wrong with it.
+ */
+static bool refuse_fields(reader *r, trouble_kind why, part word) {
+    part comma = decimal_comma(r);
+    complain(r, comma.length > 0 ? DECIMAL_COMMA : why, comma.length > 0 ? comma : word);
+    return false;
+}
+
 /* The fields of a line from one place of the order to another. */
 static bool take_fields(reader *r, size_t from, size_t to) {
     const order *o = now(r)->fields;
-    part word, comma = decimal_comma(r);
-    if (comma.length > 0) return complain(r, DECIMAL_COMMA, comma), false;
+    part word;
     for (size_t j = from; j < to; j++) {
-        if (o->fields[j] == FIELD_IGNORE_ALL) return true;
-        if (!next_word(r, &word)) return complain(r, FEW_FIELDS, NO_WORD), false;
+        if (o->fields[j] == FIELD_IGNORE_ALL)
+            return decimal_comma(r).length == 0 || refuse_fields(r, MANY_FIELDS, NO_WORD);
+        if (!next_word(r, &word)) return refuse_fields(r, FEW_FIELDS, NO_WORD);
         if (!take_field(r, o->fields[j], word)) return false;
     }
-    if (next_word(r, &word)) return complain(r, MANY_FIELDS, word), false;
-    return true;
+    return !next_word(r, &word) || refuse_fields(r, MANY_FIELDS, word);
 }
 
 /* ---- Lines */
@@ -197,8 +205,14 @@ static void take_own_line(reader *r) {
 void take_data_line(reader *r) {
     traverse *t = &r->run;
     const order *o = now(r)->fields;
-    if (o->style == STYLE_PASSAGE) return remark(r, PASSAGE_LINES, NO_WORD);
-    if (o->newline < o->count && t->has_to && !t->has_leg) return take_own_line(r);
+    if (o->style == STYLE_PASSAGE) {
+        remark(r, PASSAGE_LINES, NO_WORD);
+        return;
+    }
+    if (o->newline < o->count && t->has_to && !t->has_leg) {
+        take_own_line(r);
+        return;
+    }
     if (!o->shared) start_traverse(t), t->line = r->at.number;
     bool taken = take_fields(r, 0, o->newline);
     if (!taken && o->shared) t->to = SURVEY_NONE, t->to_unnamed = false, t->has_to = true;

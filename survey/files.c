@@ -129,11 +129,26 @@ static bool is_open(const reader *r, size_t file) {
 
 void take_include(reader *r) {
     part word = next_string(r);
-    if (word.length == 0) return complain(r, LACKS_FILE_NAME, NO_WORD);
-    if (r->open_count == MOST_DEEP) return complain(r, DEEP_FILES, word);
-    if (++r->includes > MOST_INCLUDES) return complain(r, MANY_FILES, word);
+    if (word.length == 0) {
+        complain(r, LACKS_FILE_NAME, NO_WORD);
+        return;
+    }
+    if (r->open_count == MOST_DEEP) {
+        complain(r, DEEP_FILES, word);
+        return;
+    }
+    if (++r->includes > MOST_INCLUDES) {
+        complain(r, MANY_FILES, word);
+        return;
+    }
     size_t file = find_included(r, word);
-    if (file == SURVEY_NONE) return complain(r, r->fetch == NULL ? NO_FILES_HERE : NO_FILE, word);
-    if (is_open(r, file)) return complain(r, CYCLE, word);
+    if (file == SURVEY_NONE) {
+        complain(r, r->fetch == NULL ? NO_FILES_HERE : NO_FILE, word);
+        return;
+    }
+    if (is_open(r, file)) {
+        complain(r, CYCLE, word);
+        return;
+    }
     if (ends_here(r)) read_file(r, file);
 }

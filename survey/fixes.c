@@ -7,9 +7,15 @@
 /* The words of a system are compared as they stand; coordinates are not converted. */
 void take_cs(reader *r) {
     part word;
-    if (!next_word(r, &word)) return complain(r, MORE_WORDS, NO_WORD);
+    if (!next_word(r, &word)) {
+        complain(r, MORE_WORDS, NO_WORD);
+        return;
+    }
     bool out = is_word(word, "out");
-    if (out && !next_word(r, &word)) return complain(r, MORE_WORDS, NO_WORD);
+    if (out && !next_word(r, &word)) {
+        complain(r, MORE_WORDS, NO_WORD);
+        return;
+    }
     const uint8_t *end = r->at.line_end;
     part system = {word.bytes, (size_t)(end - word.bytes)};
     for (size_t j = 0; j < system.length; j++) {
@@ -71,15 +77,23 @@ void take_fix(reader *r) {
     part word;
     double numbers[9] = {0};
     size_t count;
-    if (!next_word(r, &word)) return complain(r, BAD_NAME, NO_WORD);
+    if (!next_word(r, &word)) {
+        complain(r, BAD_NAME, NO_WORD);
+        return;
+    }
     size_t station = station_named(r, word);
     if (station == SURVEY_NONE) return;
     if (peek_word(r, &word) && is_word(word, "reference")) next_word(r, &word);
     if (!read_fix(r, numbers, &count)) return;
-    if (count == 0 && r->fixed_nowhere) return complain(r, FIXED_NOWHERE, NO_WORD);
+    if (count == 0 && r->fixed_nowhere) {
+        complain(r, FIXED_NOWHERE, NO_WORD);
+        return;
+    }
     r->fixed_nowhere = r->fixed_nowhere || count == 0;
-    if (now(r)->system.length > 0 && !is_same_text(now(r)->system, r->output_system))
-        return remark(r, CONVERTED_FIXES, NO_WORD);
+    if (now(r)->system.length > 0 && !is_same_text(now(r)->system, r->output_system)) {
+        remark(r, CONVERTED_FIXES, NO_WORD);
+        return;
+    }
     add_fix(r, fix_of(r, station, numbers, count));
 }
 
@@ -88,9 +102,14 @@ void take_fix(reader *r) {
 void join_stations(reader *r, size_t one, size_t other) {
     struct survey *s = r->s;
     size_t a = same_as(s, one), b = same_as(s, other), fix = s->stations[a].fix, other_fix = s->stations[b].fix;
-    if (one == other) return remark(r, EQUATED_TO_ITSELF, NO_WORD);
-    if (a != b && fix != SURVEY_NONE && other_fix != SURVEY_NONE && !is_at(&s->fixes[fix], &s->fixes[other_fix]))
-        return complain(r, FIXES_DIFFER, NO_WORD);
+    if (one == other) {
+        remark(r, EQUATED_TO_ITSELF, NO_WORD);
+        return;
+    }
+    if (a != b && fix != SURVEY_NONE && other_fix != SURVEY_NONE && !is_at(&s->fixes[fix], &s->fixes[other_fix])) {
+        complain(r, FIXES_DIFFER, NO_WORD);
+        return;
+    }
     if (!room_for_one(r, &s->equates, s->equate_count, &r->equate_room, sizeof *s->equates)) return;
     s->equates[s->equate_count++] = (struct survey_equate){r->at.file, r->at.number, one, other};
     make_same(r, one, other);
@@ -110,7 +129,10 @@ void take_equate(reader *r) {
 
 void take_entrance(reader *r) {
     part word;
-    if (!next_word(r, &word)) return complain(r, BAD_NAME, NO_WORD);
+    if (!next_word(r, &word)) {
+        complain(r, BAD_NAME, NO_WORD);
+        return;
+    }
     size_t station = station_named(r, word);
     if (station != SURVEY_NONE) r->s->stations[station].entrance = true;
     ends_here(r);

@@ -270,7 +270,10 @@ static void keep_leg(reader *r, struct survey_leg leg, const readings *m) {
     leg.slope_by = e.slope_by;
     leg.length = e.length.value, leg.bearing = e.bearing.known ? e.bearing.value : 0, leg.slope = e.slope.value;
     leg.east = e.vector[0], leg.north = e.vector[1], leg.up = e.vector[2];
-    if (repeats(s, &leg)) return add_shot(r, &leg);
+    if (repeats(s, &leg)) {
+        add_shot(r, &leg);
+        return;
+    }
     leg.surface = in->surface, leg.duplicate = in->duplicate;
     if (leg.surface) remark(r, SURFACE_LEGS, NO_WORD);
     if (leg.duplicate) remark(r, DUPLICATE_LEGS, NO_WORD);
@@ -293,11 +296,17 @@ void add_leg(reader *r) {
     traverse *t = &r->run;
     struct survey_leg leg;
     size_t line = r->at.number;
-    if (t->from_unnamed && t->to_unnamed) return complain(r, TWO_SPLAYS, NO_WORD);
-    if (t->from_unnamed || t->to_unnamed || now(r)->splay) return remark(r, SPLAYS, NO_WORD);
+    if (t->from_unnamed && t->to_unnamed) {
+        complain(r, TWO_SPLAYS, NO_WORD);
+        return;
+    }
+    if (t->from_unnamed || t->to_unnamed || now(r)->splay) {
+        remark(r, SPLAYS, NO_WORD);
+        return;
+    }
     r->at.number = t->line;
     if (t->from == t->to) {
-        complain(r, SAME_STATION, NO_WORD);
+        complain(r, SAME_STATION, t->name);
     } else if (now(r)->infer_equates && is_equate(r)) {
         join_stations(r, t->from, t->to);
     } else {

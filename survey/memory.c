@@ -5,10 +5,17 @@
 
 #define CHUNK ((size_t)1 << 16)
 
+/* Whatever is kept is aligned as these are. */
+typedef union {
+    double number;
+    uint64_t whole;
+    void *place;
+} unit;
+
 struct chunk {
     struct chunk *next;
     size_t used, room;
-    max_align_t bytes[];
+    unit bytes[];
 };
 
 void free_chunks(struct kept *k) {
@@ -22,13 +29,13 @@ static struct chunk *new_chunk(struct kept *k, size_t size) {
     size_t room = size > CHUNK ? size : CHUNK;
     struct chunk *made = malloc(sizeof *made + room);
     if (made == NULL) return NULL;
-    *made = (struct chunk){k->chunks, 0, room};
+    *made = (struct chunk){.next = k->chunks, .room = room};
     return k->chunks = made;
 }
 
 void *allot(reader *r, size_t size) {
     struct kept *k = (struct kept *)r->s;
-    size_t wanted = (size + sizeof(max_align_t) - 1) / sizeof(max_align_t) * sizeof(max_align_t);
+    size_t wanted = (size + sizeof(unit) - 1) / sizeof(unit) * sizeof(unit);
     struct chunk *from = k->chunks;
     if (from == NULL || from->room - from->used < wanted) from = new_chunk(k, wanted);
     if (from == NULL) return r->no_memory = true, NULL;

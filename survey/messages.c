@@ -176,7 +176,7 @@ void complain_at(reader *r, size_t file, size_t line, trouble_kind why, part wor
     }
 }
 
-/* A line has one trouble; where a number of it has a decimal comma, that is it. */
+/* A line has one trouble. */
 void complain(reader *r, trouble_kind why, part word) {
     if (r->bad_line) return;
     r->bad_line = true;

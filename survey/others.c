@@ -87,7 +87,8 @@ trouble_kind other_format(const reader *r, const struct survey_file *f) {
     for (size_t j = 0; j < sizeof LINES / sizeof LINES[0]; j++) {
         if (has_line(f, LINES[j].line)) return LINES[j].is;
     }
-    if (r->commands > 0 || r->s->leg_count > 0) return TROUBLES;
+    bool binary = memchr(f->bytes, 0, f->length) != NULL;
+    if (binary || r->commands > 0 || r->s->leg_count > 0) return TROUBLES;
     if (is_pockettopo(f)) return IS_POCKETTOPO;
     if (is_compass_project(f)) return IS_COMPASS_PROJECT;
     return is_table(f) ? IS_TABLE : IS_PROSE;

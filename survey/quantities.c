@@ -131,11 +131,17 @@ static int unit_of(reader *r, part word, unsigned quantities) {
 void take_units(reader *r) {
     part word;
     double factor = 1;
-    if (peek_word(r, &word) && is_word(word, "default")) return default_quantities(now(r), true, false, false);
+    if (peek_word(r, &word) && is_word(word, "default")) {
+        default_quantities(now(r), true, false, false);
+        return;
+    }
     unsigned of = next_quantities(r);
     next_word(r, &word);
     if (read_number(r, word, &factor, NULL)) next_word(r, &word);
-    if (factor == 0) return complain(r, ZERO_FACTOR, NO_WORD);
+    if (factor == 0) {
+        complain(r, ZERO_FACTOR, NO_WORD);
+        return;
+    }
     int unit = of == 0 ? -1 : unit_of(r, word, of);
     if (unit < 0 || !ends_here(r)) return;
     for (int j = 0; j < QUANTITIES; j++) {
@@ -170,20 +176,38 @@ void take_calibrate(reader *r) {
     part word;
     double zero, scale = 1;
     int unit = -1;
-    if (peek_word(r, &word) && is_word(word, "default")) return default_quantities(now(r), false, true, false);
+    if (peek_word(r, &word) && is_word(word, "default")) {
+        default_quantities(now(r), false, true, false);
+        return;
+    }
     unsigned of = next_quantities(r);
     if (of == 0) return;
-    if ((of & DEVIATIONS) != 0) return complain(r, NO_QUANTITY, NO_WORD);
-    if (!are_alike(of)) return complain(r, MIXED_QUANTITIES, NO_WORD);
+    if ((of & DEVIATIONS) != 0) {
+        complain(r, NO_QUANTITY, NO_WORD);
+        return;
+    }
+    if (!are_alike(of)) {
+        complain(r, MIXED_QUANTITIES, NO_WORD);
+        return;
+    }
     if (!next_number(r, &zero)) return;
     bool more = next_word(r, &word);
     if (more && !read_number(r, word, &scale, NULL)) {
         unit = unit_of(r, word, of);
         if (unit < 0) return;
-        if (next_word(r, &word) && !read_number(r, word, &scale, NULL)) return complain(r, BAD_NUMBER, word);
+        if (next_word(r, &word) && !read_number(r, word, &scale, NULL)) {
+            complain(r, BAD_NUMBER, word);
+            return;
+        }
     }
-    if (scale == 0) return complain(r, ZERO_FACTOR, word);
-    if ((of & 1u << Q_DECLINATION) != 0 && scale != 1) return complain(r, DECLINATION_SCALE, word);
+    if (scale == 0) {
+        complain(r, ZERO_FACTOR, word);
+        return;
+    }
+    if ((of & 1u << Q_DECLINATION) != 0 && scale != 1) {
+        complain(r, DECLINATION_SCALE, word);
+        return;
+    }
     if (ends_here(r)) calibrate(r, of, zero, unit, scale);
 }
 
@@ -192,7 +216,10 @@ void take_sd(reader *r) {
     double sd;
     if (peek_word(r, &word) && is_word(word, "default")) {
         now(r)->sd_given = 0;
-        return default_quantities(now(r), false, false, true);
+        {
+            default_quantities(now(r), false, false, true);
+            return;
+        }
     }
     unsigned of = next_quantities(r);
     if (of == 0 || !next_number(r, &sd)) return;
@@ -215,9 +242,15 @@ void take_declination(reader *r) {
         now(r)->declination = 0;
         return;
     }
-    if (word.length == 0 || !read_number(r, word, &declination, NULL)) return complain(r, NO_DECLINATION, word);
+    if (word.length == 0 || !read_number(r, word, &declination, NULL)) {
+        complain(r, NO_DECLINATION, word);
+        return;
+    }
     next_word(r, &word);
-    if (!next_word(r, &word)) return complain(r, NO_DECLINATION, word);
+    if (!next_word(r, &word)) {
+        complain(r, NO_DECLINATION, word);
+        return;
+    }
     int unit = unit_of(r, word, 1u << Q_DECLINATION);
     if (unit < 0 || !ends_here(r)) return;
     now(r)->declination = declination * UNITS[unit].of;
@@ -229,7 +262,10 @@ void take_default(reader *r) {
     part word;
     while (next_word(r, &word)) {
         int which = index_of(word, WHAT);
-        if (which < 0) return complain(r, NO_QUANTITY, word);
+        if (which < 0) {
+            complain(r, NO_QUANTITY, word);
+            return;
+        }
         if (which == 1 || which == 3) now(r)->fields = &DEFAULT_ORDER;
         default_quantities(now(r), which >= 2, which == 0 || which == 3, false);
     }

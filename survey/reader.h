@@ -226,6 +226,7 @@ typedef struct {
  * readings of its own. */
 typedef struct {
     size_t count, shared_count, from, to, line;
+    part name;                                       /* the station that was read last, as written */
     bool has_from, has_to, from_unnamed, to_unnamed; /* a station that is neither unnamed nor known was bad */
     bool has_leg, bad_leg, backwards;                /* its own line was read; it has a trouble; direction B */
     struct survey_reading shared[2], readings[MOST_FIELDS];

@@ -20,7 +20,10 @@ bool set_up_settings(reader *r) {
 
 void take_begin(reader *r) {
     part label;
-    if (r->depth == MOST_SCOPES) return complain(r, DEEP_SCOPES, NO_WORD);
+    if (r->depth == MOST_SCOPES) {
+        complain(r, DEEP_SCOPES, NO_WORD);
+        return;
+    }
     if (!room_for_one(r, &r->scopes, r->depth + 1, &r->scope_room, sizeof *r->scopes)) return;
     settings inside = *now(r);
     bool named = next_word(r, &label);
@@ -41,7 +44,10 @@ void take_begin(reader *r) {
 void take_end(reader *r) {
     part label;
     bool named = next_word(r, &label);
-    if (r->depth == r->at.depth) return complain(r, NO_BEGIN, label);
+    if (r->depth == r->at.depth) {
+        complain(r, NO_BEGIN, label);
+        return;
+    }
     const settings inside = *now(r);
     r->depth--;
     bool other = named && (inside.label.length == 0 ||
@@ -57,7 +63,10 @@ void check_scopes(reader *r, size_t depth) {
 
 void take_prefix(reader *r) {
     part label;
-    if (!next_word(r, &label)) return complain(r, BAD_NAME, NO_WORD);
+    if (!next_word(r, &label)) {
+        complain(r, BAD_NAME, NO_WORD);
+        return;
+    }
     size_t below = name_below(r, now(r)->prefix, label);
     if (below != NO_NAME) now(r)->prefix = below;
     ends_here(r);
@@ -70,7 +79,10 @@ void take_case(reader *r) {
     part word;
     next_word(r, &word);
     int found = index_of(word, CASES);
-    if (found < 0) return complain(r, BAD_CASE, word);
+    if (found < 0) {
+        complain(r, BAD_CASE, word);
+        return;
+    }
     now(r)->as = (letter_case)found;
     ends_here(r);
 }
@@ -83,7 +95,10 @@ void take_truncate(reader *r) {
     if (is_word(word, "off")) {
         now(r)->truncate = SIZE_MAX;
     } else if (!read_number(r, word, &length, &decimals) || decimals > 0 || length < 1 || length > MOST_NAME) {
-        return complain(r, BAD_TRUNCATE, word);
+        {
+            complain(r, BAD_TRUNCATE, word);
+            return;
+        }
     } else {
         now(r)->truncate = (size_t)length;
     }
@@ -95,8 +110,10 @@ void take_alias(reader *r) {
     next_word(r, &kind);
     next_word(r, &from);
     bool given = next_word(r, &to);
-    if (!is_word(kind, "station") || !is_word(from, "-") || (given && !is_word(to, "..")))
-        return complain(r, BAD_ALIAS, given ? to : from);
+    if (!is_word(kind, "station") || !is_word(from, "-") || (given && !is_word(to, ".."))) {
+        complain(r, BAD_ALIAS, given ? to : from);
+        return;
+    }
     now(r)->dash_is_splay = given;
     ends_here(r);
 }
@@ -108,10 +125,16 @@ void take_infer(reader *r) {
     part word;
     next_word(r, &word);
     int what = index_of(word, WHAT);
-    if (what < 0) return complain(r, BAD_INFER, word);
+    if (what < 0) {
+        complain(r, BAD_INFER, word);
+        return;
+    }
     next_word(r, &word);
     int on = index_of(word, STATES);
-    if (on < 0) return complain(r, BAD_INFER, word);
+    if (on < 0) {
+        complain(r, BAD_INFER, word);
+        return;
+    }
     if (what == 0) now(r)->infer_plumbs = on == 1;
     if (what == 1) now(r)->infer_equates = on == 1;
     ends_here(r);
@@ -125,7 +148,10 @@ void take_flags(reader *r) {
     while (next_word(r, &word)) {
         int which = index_of(word, FLAGS);
         if (which >= 0) *flags[which] = on;
-        else if (!is_word(word, "not")) return complain(r, BAD_FLAG, word);
+        else if (!is_word(word, "not")) {
+            complain(r, BAD_FLAG, word);
+            return;
+        }
         on = which >= 0;
     }
     if (!on) complain(r, BAD_FLAG, NO_WORD);
@@ -165,7 +191,10 @@ static void use_signs(reader *r, part word, unsigned use) {
     for (size_t at = 0; at < word.length;) {
         uint8_t sign;
         at += sign_at(word, at, &sign);
-        if (is_letter_or_digit(sign)) return complain(r, SET_LETTER, word);
+        if (is_letter_or_digit(sign)) {
+            complain(r, SET_LETTER, word);
+            return;
+        }
         made->of[sign] = (uint16_t)(made->of[sign] | use);
     }
     now(r)->sign = made;
@@ -177,7 +206,10 @@ void take_set(reader *r) {
     part word, item;
     next_word(r, &item);
     int which = index_of(item, ITEMS);
-    if (which < 0) return complain(r, BAD_SET, item);
+    if (which < 0) {
+        complain(r, BAD_SET, item);
+        return;
+    }
     const uint8_t *start = r->at.word;
     while (start < r->at.line_end && has_sign(r, *start, SIGN_BLANK)) start++;
     r->at.word = start;

@@ -134,7 +134,10 @@ static void read_order(reader *r, int style) {
     }
     o->shared = has_one(seen, BIT(FIELD_STATION));
     if (!has_one(seen, BIT(FIELD_NEWLINE))) o->newline = o->count;
-    if (!is_enough(seen, style) || !is_in_order(o)) return complain(r, FEW_READINGS, NO_WORD);
+    if (!is_enough(seen, style) || !is_in_order(o)) {
+        complain(r, FEW_READINGS, NO_WORD);
+        return;
+    }
     now(r)->fields = o;
 }
 
@@ -149,7 +152,10 @@ void take_data(reader *r) {
         return;
     }
     while (which < all && !is_word(word, STYLES[which].word)) which++;
-    if (which == all) return complain(r, NO_STYLE, word);
+    if (which == all) {
+        complain(r, NO_STYLE, word);
+        return;
+    }
     if (STYLES[which].style == STYLE_PASSAGE) now(r)->fields = &SKIPPED;
     else read_order(r, STYLES[which].style);
 }

@@ -15,7 +15,10 @@ void survey_free(struct survey *s) {
 static void judge_text(reader *r) {
     if (r->s->trouble_count == 0 && r->s->leg_count > 0) return;
     trouble_kind other = other_format(r, &r->s->files[0]);
-    if (other != TROUBLES && (r->s->trouble_count > 0 || other != IS_PROSE)) return keep_only(r, other);
+    if (other != TROUBLES && (r->s->trouble_count > 0 || other != IS_PROSE)) {
+        keep_only(r, other);
+        return;
+    }
     if (r->s->trouble_count == 0) complain_at(r, 0, 0, NO_LEG, NO_WORD);
 }
 

@@ -46,7 +46,10 @@ static bool is_date(part word) {
 
 void take_date(reader *r) {
     part word;
-    if (!next_word(r, &word) || !is_date(word)) return complain(r, BAD_DATE, word);
+    if (!next_word(r, &word) || !is_date(word)) {
+        complain(r, BAD_DATE, word);
+        return;
+    }
     struct survey_trip *trip = trip_to_describe(r);
     char *date = copy_of(r, word);
     if (trip != NULL && date != NULL) trip->date = date;

@@ -94,7 +94,7 @@ static const double TENS[] = {1e0,  1e1,  1e2,  1e3,  1e4,  1e5,  1e6,  1e7,  1e
                               1e10, 1e11, 1e12, 1e13, 1e14, 1e15, 1e16, 1e17, 1e18};
 
 /* Digits as a whole number and how many of them stand after the point. Those that would make it 10^17 or more are
- * dropped: after the point they are below what a double can tell, and before it the number is then too large. */
+ * dropped: after the point they are below what a double can tell, and before it the number is then 10^18. */
 typedef struct {
     uint64_t whole;
     int decimals, dropped;
@@ -126,8 +126,8 @@ bool read_number(const reader *r, part word, double *number, int *decimals) {
             return false;
         }
     }
-    if (!d.digits || d.too_large) return false;
-    *number = (double)d.whole / TENS[d.decimals] * (minus ? -1 : 1);
+    if (!d.digits) return false;
+    *number = (d.too_large ? TENS[18] : (double)d.whole / TENS[d.decimals]) * (minus ? -1 : 1);
     if (decimals != NULL) *decimals = d.decimals + d.dropped;
     return true;
 }
