@@ -207,6 +207,11 @@ class Cave:
     def plumb(self, leg: Leg) -> float:
         return leg.length * math.radians(self.sigma.get("clino", leg.plumb_sd))
 
+    def fix_sd(self, e: Edge) -> list[float]:
+        """A standard deviation that *fix does not give, or gives as 0, is 1 m."""
+        given = next(sd for line, _, _, sd in self.survey.fixes if line == e.line)
+        return [sd or self.sigma.get("fix", 1.0) for sd in given]
+
     def own_vector(self, e: Edge) -> Array:
         if e.kind == "leg":
             return self.survey.legs[e.leg].vector({})
@@ -218,7 +223,7 @@ class Cave:
         if e.kind == "equate":
             return numpy.zeros((2, 2))
         if e.kind == "fix":
-            return numpy.diag(numpy.square(next(sd for line, _, _, sd in self.survey.fixes if line == e.line)))
+            return numpy.diag(numpy.square(self.fix_sd(e)))
         leg = self.survey.legs[e.leg]
         C = 2 * self.station(leg) ** 2 * numpy.eye(2)
         for r in leg.numbers:
@@ -295,12 +300,21 @@ class Cave:
     def legs_played(self) -> list[tuple[int, Leg]]:
         return [(j, self.survey.legs[e.leg]) for j, e in enumerate(self.edges) if e.kind == "leg" and self.judged[j]]
 
+    def fixes_played(self) -> list[tuple[int, Edge]]:
+        return [(j, e) for j, e in enumerate(self.edges) if e.kind == "fix" and self.judged[j]]
+
+    def trips_played(self) -> list[int]:
+        """Trips with a leg in a loop, in the order of their first such legs."""
+        return list(dict.fromkeys(leg.trip for _, leg in self.legs_played()))
+
     def samples_of_a_play(self) -> int:
-        return sum(2 * len(g.numbers) + 2 + 2 * g.plumbed for _, g in self.legs_played()) + 2 * self.survey.trips
+        legs = sum(2 * len(g.numbers) + 2 + 2 * g.plumbed for _, g in self.legs_played())
+        return legs + 2 * len(self.fixes_played()) + 2 * len(self.trips_played())
 
     def misses(self, samples: Array) -> Array:
         """The misses of all loops in each play; samples has a row for each."""
-        turns = samples[:, self.samples_of_a_play() - 2 * self.survey.trips :: 2] / 2048 * self.trip
+        trips = self.trips_played()
+        turns = samples[:, self.samples_of_a_play() - 2 * len(trips) :: 2] / 2048 * self.trip
         m = numpy.zeros((len(samples), len(self.loops), 2))
         at = 0
         for j, leg in self.legs_played():
@@ -309,13 +323,17 @@ class Cave:
                 even = (samples[:, at + 1] % 2048 + 0.5) / 2048 - 0.5
                 changed[r.what] = r.value + self.sd(r) * samples[:, at] / 2048 + r.step * even
                 if r.what.endswith("compass"):
-                    changed[r.what] = changed[r.what] + turns[:, leg.trip]
+                    changed[r.what] = changed[r.what] + turns[:, trips.index(leg.trip)]
                 at += 2
             v = leg.vector(changed).T - self.v[j]
             for spread in [math.sqrt(2) * self.station(leg)] + [self.plumb(leg)] * leg.plumbed:
                 v = v + spread * samples[:, at : at + 2] / 2048
                 at += 2
             m += self.B[:, j][None, :, None] * v[:, None, :]
+        for j, e in self.fixes_played():
+            v = samples[:, at : at + 2] / 2048 * self.fix_sd(e)
+            m += self.B[:, j][None, :, None] * v[:, None, :]
+            at += 2
         return m.reshape(len(samples), -1)
 
     def play(self, samples: Array) -> None:
