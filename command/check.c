@@ -42,11 +42,11 @@ static int take_cave(text source, checked *c) {
     survey shots;
     c->name = source.name;
     if (kind_of(&source) == SURVEY) return read_cave(&source, &c->survey);
-    int status = take_survey(source, &shots);
+    int status = take_survey(source, (wanted_loop){ANY_LOOP, false, false}, &shots);
     if (status != DONE) return status;
     if (shots.about == JOB) {
         memcpy(c->seeds, shots.seeds, sizeof c->seeds);
-        c->sigmas = (struct judge_sigmas){{shots.sigma[0] / 1000.0, shots.sigma[1] * 360 / 65536.0, 0, 0, 0}, {true, true, true, true, false}, "the job"};
+        c->sigmas = (struct judge_sigmas){{shots.sigma[0] / 1000.0, shots.sigma[1] * 360 / 65536.0, 0, 0, 0, 0}, {true, true, true, true, false, false}, "the job"};
     }
     return cave_of_shots(&shots, &c->survey);
 }

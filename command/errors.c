@@ -4,7 +4,7 @@
 
 /* The names, what each is in, and the most that is taken of it, in metres or degrees. */
 static const struct { const char *name; enum judge_error error; bool length; double most; } NAMES[] = {
-    {"tape", JUDGE_TAPE, true, 100}, {"compass", JUDGE_COMPASS, false, 90}, {"clino", JUDGE_CLINO, false, 90}, {"station", JUDGE_STATION, true, 100},
+    {"tape", JUDGE_TAPE, true, 100}, {"compass", JUDGE_COMPASS, false, 90}, {"clino", JUDGE_CLINO, false, 90}, {"station", JUDGE_STATION, true, 100}, {"fix", JUDGE_POINT, true, 10000},
 };
 
 /* A measure in metres or degrees; false where it has the other unit, or none. */

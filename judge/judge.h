@@ -7,8 +7,10 @@
 #include "../survey/survey.h"
 #include "jabulghi.h"
 
-/* Standard deviations in metres and degrees; where one is not given, the survey's own holds, and for JUDGE_TRIP none. */
-enum judge_error { JUDGE_TAPE, JUDGE_COMPASS, JUDGE_CLINO, JUDGE_STATION, JUDGE_TRIP, JUDGE_ERRORS };
+/* Standard deviations in metres and degrees, JUDGE_POINT being that of a fixed point which has none of its own. Where one is not given, the survey's
+ * own holds, for JUDGE_POINT JUDGE_POINT_ERROR, and for JUDGE_TRIP none. */
+#define JUDGE_POINT_ERROR 1.0
+enum judge_error { JUDGE_TAPE, JUDGE_COMPASS, JUDGE_CLINO, JUDGE_STATION, JUDGE_POINT, JUDGE_TRIP, JUDGE_ERRORS };
 struct judge_sigmas {
     double of[JUDGE_ERRORS];
     bool given[JUDGE_ERRORS];

@@ -83,7 +83,9 @@ void judge_model(struct judge_cave *cave) {
         if (e->kind == JUDGE_LEG) model_leg(cave, e);
         if (e->kind != JUDGE_FIX) continue;
         const struct survey_fix *fix = &cave->survey->fixes[e->index];
+        double other = cave->sigmas.given[JUDGE_POINT] ? cave->sigmas.of[JUDGE_POINT] : JUDGE_POINT_ERROR;
+        double east = fix->sd_east > 0 ? fix->sd_east : other, north = fix->sd_north > 0 ? fix->sd_north : other;
         e->vector = (struct judge_vector){fix->east, fix->north};
-        e->spread = (struct judge_spread){fix->sd_east * fix->sd_east, 0, fix->sd_north * fix->sd_north};
+        e->spread = (struct judge_spread){east * east, 0, north * north};
     }
 }

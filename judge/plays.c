@@ -28,12 +28,15 @@ static const struct survey_leg *played_leg(const struct judge_cave *cave, size_t
     return e->kind == JUDGE_LEG && e->passage != JUDGE_NONE ? &cave->survey->legs[e->index] : NULL;
 }
 
+static bool is_played_fix(const struct judge_edge *e) { return e->kind == JUDGE_FIX && e->passage != JUDGE_NONE; }
+
 bool judge_count_samples(struct judge_cave *cave) {
     cave->trips = malloc((cave->survey->trip_count + 1) * sizeof *cave->trips);
     if (cave->trips == NULL) return false;
     for (size_t j = 0; j < cave->survey->trip_count; j++) cave->trips[j] = JUDGE_NONE;
     for (size_t j = 0; j < cave->edge_count; j++) {
         const struct survey_leg *leg = played_leg(cave, j);
+        if (is_played_fix(&cave->edges[j])) cave->samples += 2;
         if (leg == NULL) continue;
         cave->samples += samples_of(leg);
         if (cave->trips[leg->trip] == JUDGE_NONE) cave->trips[leg->trip] = cave->trip_count++;
@@ -63,6 +66,11 @@ static struct judge_vector error_of_leg(struct stage *s, const struct judge_edge
     return error;
 }
 
+static struct judge_vector error_of_fix(struct stage *s, const struct judge_edge *e) {
+    double east = sqrt(e->spread.east) * gaussian(s);
+    return (struct judge_vector){east, sqrt(e->spread.north) * gaussian(s)};
+}
+
 /* The errors of all passages. */
 static void play_legs(struct stage *s) {
     const struct judge_cave *cave = s->cave;
@@ -73,8 +81,10 @@ static void play_legs(struct stage *s) {
     for (size_t j = 0; j < cave->edge_count; j++) {
         const struct survey_leg *leg = played_leg(cave, j);
         const struct judge_edge *e = &cave->edges[j];
-        if (leg == NULL) continue;
-        struct judge_vector error = error_of_leg(s, e, leg, trip_sd * trips[2 * cave->trips[leg->trip]] / 2048.0);
+        struct judge_vector error;
+        if (leg != NULL) error = error_of_leg(s, e, leg, trip_sd * trips[2 * cave->trips[leg->trip]] / 2048.0);
+        else if (is_played_fix(e)) error = error_of_fix(s, e);
+        else continue;
         s->sums[e->passage].east += e->sign * error.east;
         s->sums[e->passage].north += e->sign * error.north;
     }

@@ -64,6 +64,16 @@ static void add_error(const struct judge_cave *cave, enum judge_error error, gro
     add(to, " %s", NAMES[error].scale == 1 && fabs(high - 1) < 5e-4 ? "degree" : NAMES[error].unit);
 }
 
+/* Fixed points in loops that have no standard deviation of their own. */
+static size_t count_points(const struct judge_cave *cave) {
+    size_t count = 0;
+    for (size_t j = 0; j < cave->edge_count; j++) {
+        const struct judge_edge *e = &cave->edges[j];
+        count += e->kind == JUDGE_FIX && e->passage != JUDGE_NONE && !(cave->survey->fixes[e->index].sd_east > 0);
+    }
+    return count;
+}
+
 static void tell_errors(const struct judge_cave *cave, growing *to) {
     bool alike = true;
     for (int j = 1; j <= JUDGE_STATION; j++) alike = alike && strcmp(judge_source(cave, (enum judge_error)j), judge_source(cave, JUDGE_TAPE)) == 0;
@@ -73,6 +83,7 @@ static void tell_errors(const struct judge_cave *cave, growing *to) {
         add_error(cave, (enum judge_error)j, to);
         if (!alike) add(to, " (%s)", judge_source(cave, (enum judge_error)j));
     }
+    if (count_points(cave) > 0) add(to, ", fixed points %g m (--sigma fix=..)", cave->sigmas.given[JUDGE_POINT] ? cave->sigmas.of[JUDGE_POINT] : JUDGE_POINT_ERROR);
     if (cave->sigmas.given[JUDGE_TRIP]) add(to, ", a trip's compass %.3g degrees", cave->sigmas.of[JUDGE_TRIP]);
     if (alike) add(to, " (from %s%s)", judge_source(cave, JUDGE_TAPE), strcmp(judge_source(cave, JUDGE_TAPE), "--sigma") == 0 ? "" : "; --sigma replaces them");
     add(to, "\n");
