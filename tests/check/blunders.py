@@ -33,11 +33,6 @@ class Suspect:
     remains: float = 0.0
 
 
-def turned(v: Array, degrees: float) -> Array:
-    s, c = math.sin(math.radians(degrees)), math.cos(math.radians(degrees))
-    return numpy.array([v[0] * c + v[1] * s, v[1] * c - v[0] * s])
-
-
 def tape_corrections(leg: Leg, v: Array) -> Iterator[tuple[str, float, Array]]:
     """Distances changed in the tape, and in the backtape with it."""
     tapes = [r for r in leg.numbers if r.what in ("tape", "backtape")]
@@ -71,7 +66,7 @@ def known(leg: Leg, v: Array) -> Iterator[tuple[str, float, Array]]:
     yield from tape_corrections(leg, v)
     for angle, weight in TURNS.items():
         for sign in (1, -1):
-            yield "bearing", weight, turned(v, sign * angle) - v
+            yield "bearing", weight, turns(v, sign * angle)
     yield "backwards", 6, -2 * v
     for r in leg.numbers:
         for name, weight, text in rewritten(r.text):
@@ -92,14 +87,21 @@ def another_distance(v: Array, g: Array, H: Array) -> Hypothesis:
     return Hypothesis("another distance", mass, x * e)
 
 
+def turns(v: Array, degrees: Array) -> Array:
+    """By how much v moves when it turns, for many angles."""
+    s, c = numpy.sin(numpy.radians(degrees)), numpy.cos(numpy.radians(degrees)) - 1
+    return numpy.stack([v[0] * c + v[1] * s, v[1] * c - v[0] * s], -1)
+
+
 def another_bearing(v: Array, g: Array, H: Array) -> Hypothesis:
-    angles = [a for a in range(-179, 181) if a]
-    gains = numpy.array([gain(g, H, turned(v, a) - v) for a in angles])
+    angles = numpy.array([a for a in range(-179, 181) if a])
+    d = turns(v, angles)
+    gains = -(2 * d @ g + numpy.einsum("ka,ab,kb->k", d, H, d))
     best, step = float(angles[int(gains.argmax())]), 0.5
     for _ in range(10):
-        best = max((best, best - step, best + step), key=lambda a: gain(g, H, turned(v, a) - v))
+        best = max((best, best - step, best + step), key=lambda a: gain(g, H, turns(v, a)))
         step /= 2
-    return Hypothesis("another bearing", math.log(6 / 360) + log_sum(gains / 2), turned(v, best) - v)
+    return Hypothesis("another bearing", math.log(6 / 360) + log_sum(gains / 2), turns(v, best))
 
 
 def free(name: str, weight: float, g: Array, H: Array) -> Hypothesis:
@@ -113,7 +115,7 @@ def free(name: str, weight: float, g: Array, H: Array) -> Hypothesis:
 
 def log_sum(logs: Any) -> float:
     most = max(logs)
-    return float(most + math.log(sum(math.exp(x - most) for x in logs)))
+    return float(most + math.log(numpy.exp(numpy.array(logs) - most).sum()))
 
 
 def hypotheses(cave: Cave, j: int, g: Array, H: Array) -> list[Hypothesis]:
@@ -145,8 +147,8 @@ def suspects(cave: Cave) -> list[Suspect]:
     return sorted(ranked, key=lambda s: -s.share)
 
 
-def remains(cave: Cave, s: Suspect) -> float:
-    """p of the cave with a suspect corrected."""
-    column = cave.columns[s.passage] if s.edge < 0 else cave.B[:, s.edge]
-    u = cave.u + cave.inverse @ numpy.outer(column, s.best.d).ravel()
-    return cave.share(float(cave.statistic(u[None])[0]))
+def remains(cave: Cave, ranked: list[Suspect]) -> list[float]:
+    """p of the cave with each suspect corrected."""
+    columns = [cave.columns[s.passage] if s.edge < 0 else cave.B[:, s.edge] for s in ranked]
+    moves = numpy.array([numpy.outer(column, s.best.d).ravel() for column, s in zip(columns, ranked)])
+    return [cave.share(float(t)) for t in cave.statistic(cave.u + moves @ cave.inverse)]

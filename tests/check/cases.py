@@ -54,9 +54,9 @@ def with_backsights(b: caves.Book) -> str:
 
 
 def in_feet(b: caves.Book) -> str:
-    b.tape = (b.tape / 1.01 + 0.2) / 0.3048
+    b.tape = b.tape / 1.01 / 0.3048 + 0.7
     b.compass, b.clino = b.compass - 5.5 + 1.5, b.clino + 1
-    commands = "*units tape feet\n*calibrate tape 0.2 metres 1.01\n*calibrate declination -5.5\n*calibrate compass 1.5\n*calibrate clino 1\n"
+    commands = "*units tape feet\n*calibrate tape 0.7 1.01\n*calibrate declination -5.5\n*calibrate compass 1.5\n*calibrate clino 1\n"
     return caves.sd_lines(caves.SIGMA) + commands + b.lines()
 
 
@@ -152,6 +152,11 @@ def cave_of(text: str, plays: int) -> other.Cave:
     return cave
 
 
+def beyond_at(text: str) -> int:
+    cave = cave_of(text, 139)
+    return int((cave.plays_t >= cave.t).sum())
+
+
 def crossing(wanted: Callable[[float], bool], low: float, high: float) -> tuple[float, float]:
     """Two neighbouring numbers, to four decimals: wanted at the first, and no more at the second."""
     while high - low > 0.00015:
@@ -162,7 +167,7 @@ def crossing(wanted: Callable[[float], bool], low: float, high: float) -> tuple[
 
 def at_five_percent() -> str:
     """139 plays: 6 of them make p 0.05 just, which is sound; 5 are too few."""
-    b = book(2, decimals=(4, 2, 2))
+    b = next(b for b in iter(lambda: book(2, decimals=(4, 2, 2)), None) if cave_of(b.text(), 139).p > 0.2)
     own = b.tape[0]
 
     def text(x: float) -> str:
@@ -171,9 +176,7 @@ def at_five_percent() -> str:
 
     start = next(x for x in numpy.arange(0, 50, 0.5) if cave_of(text(x), 139).p < 0.04)
     for beyond, sound in ((6, True), (5, False)):
-        low, high = crossing(
-            lambda x: (cave_of(text(x), 139).plays_t >= cave_of(text(x), 139).t).sum() >= beyond, start - 40, start
-        )
+        low, _ = crossing(lambda x: beyond_at(text(x)) >= beyond, 0.0, start)
         told = tell(COMMAND, text(low), "--seeds", SEEDS, "--plays", "139")
         same(f"plays beyond at {low}", told["beyond"], beyond)
         same(f"{beyond} of 139 plays", told["sound"], sound)
@@ -287,7 +290,6 @@ UNREADABLE = {
     "a reading that lacks": "*data normal from to tape compass clino\na b 10\n",
     "an end that lacks": "*begin a\na b 10 20 0\n",
     "a decimal comma": "*data normal from to tape compass clino\na b 10,5 20 0\n",
-    "a compass beyond": "*data normal from to tape compass clino\na b 10 400 0\n",
     "no such file": "*include none\n",
     "bytes": "\x00\x01\x02\xff" * 40,
 }
@@ -316,12 +318,11 @@ def strange_surveys() -> str:
     square = "a b 10 0 0\nb c 10 90 0\nc d 10 180 0\n"
     texts = {
         "no loop": square,
-        "no errors, and it closes": "*sd tape compass clino position 0 metres\n" * 0 + square + "d a 10 270 0\n",
+        "it closes": square + "d a 10 270 0\n",
         "a leg there and back": "a b 10 0 0\nb a 10 180 0\n",
         "the same leg twice": "a b 10.00 0 0\na b 10.02 1 0\n",
         "a leg of no length": square + "d a 10 270 0\na e 0 0 0\ne b 10 0 0\n",
         "all legs plumbed": "a b 10 - up\nb a 10 - down\n",
-        "a station and itself": square + "d a 10 270 0\na a 1 0 0\n",
         "a huge miss": square + "d a 99999 270 0\n",
         "a tiny cave": "a b 0.01 0 0\nb c 0.01 120 0\nc a 0.01 240 0\n",
     }

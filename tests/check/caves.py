@@ -15,7 +15,7 @@ SIGMA = {"tape": 0.01, "compass": 0.5, "clino": 0.5, "station": 0.03}
 
 @dataclass
 class Geometry:
-    """True places of stations in metres, and the legs between them; `trips` has the legs of each trip."""
+    """True places of stations in metres, the legs between them, and which legs are in a loop."""
 
     places: dict[str, Array]
     legs: list[tuple[str, str]]
@@ -67,31 +67,31 @@ def passage(
     legs.append((last, end))
 
 
-def real(path: str, level: bool = True) -> Geometry:
-    """The geometry of a survey as Survex's cavern adjusts it, which closes; its legs in loops alone are in `in_loop`."""
+def real(path: str) -> Geometry:
+    """The plan of a survey as Survex's cavern adjusts it, which closes; stations within 5 cm of each other in plan are one."""
     with tempfile.TemporaryDirectory() as room:
         out = os.path.join(room, "cave.3d")
         subprocess.run(["cavern", "-q", "-s", "-o", out, path], check=True, capture_output=True)
         text = subprocess.run(["dump3d", out], check=True, capture_output=True, text=True).stdout
-    names: dict[tuple[str, ...], str] = {}
-    places: dict[str, Array] = {}
-    legs: list[tuple[str, str]] = []
     lines = [line.split() for line in text.split("\n") if line]
-    for words in lines:
-        if words[0] == "NODE":
-            at = tuple(words[1:4])
-            names.setdefault(at, f"s{len(names)}")
-            places[names[at]] = numpy.array([float(words[1]), float(words[2]), 0.0 if level else float(words[3])])
-    here: tuple[str, ...] = ()
-    for words in lines:
-        if words[0] in ("MOVE", "LINE"):
-            there = tuple(words[1:4])
-            if words[0] == "LINE" and "SPLAY" not in words and here in names and there in names:
-                ends = (names[here], names[there])
-                if numpy.linalg.norm(places[ends[0]] - places[ends[1]]) > 0.05:
-                    legs.append(ends)
-            here = there
-    return Geometry(places, legs, bridgeless(legs))
+    same = {tuple(words[1:4]): tuple(words[1:4]) for words in lines if words[0] == "NODE"}
+
+    def one(at: tuple[str, ...]) -> tuple[str, ...]:
+        while same[at] != at:
+            at = same[at]
+        return at
+
+    def place(at: tuple[str, ...]) -> Array:
+        return numpy.array([float(at[0]), float(at[1]), 0.0])
+
+    shots = [(tuple(a[1:4]), tuple(b[1:4])) for a, b in zip(lines, lines[1:]) if b[0] == "LINE" and "SPLAY" not in b]
+    for a, b in shots:
+        if numpy.linalg.norm(place(a) - place(b)) < 0.05:
+            same[one(a)] = one(b)
+    ends = [(one(a), one(b)) for a, b in shots if one(a) != one(b)]
+    names = {at: f"s{j}" for j, at in enumerate(dict.fromkeys(at for pair in ends for at in pair))}
+    legs = [(names[a], names[b]) for a, b in ends]
+    return Geometry({name: place(at) for at, name in names.items()}, legs, bridgeless(legs))
 
 
 def bridgeless(legs: list[tuple[str, str]]) -> list[int]:
@@ -139,10 +139,10 @@ class Book:
     clino: Array
     decimals: tuple[int, int, int] = (2, 0, 0)
     back: dict[int, tuple[float, float]] = field(default_factory=dict)
-    left_out: set[int] = field(default_factory=set)
+    left_out: int = -1
 
     def line(self, j: int) -> str:
-        a, b = self.geometry.legs[j]
+        a, b = self.ends(j)
         t, c, v = self.decimals
         compass = round(self.compass[j] % 360, c) % 360
         words = f"{a} {b} {self.tape[j]:.{t}f} {compass:.{c}f} {self.clino[j]:.{v}f}"
@@ -150,9 +150,17 @@ class Book:
             words += f" {round(self.back[j][0] % 360, c) % 360:.{c}f} {self.back[j][1]:.{v}f}"
         return words
 
+    def ends(self, j: int) -> tuple[str, str]:
+        """A leg that was left out is as if its stations were one."""
+        a, b = self.geometry.legs[j]
+        if self.left_out < 0:
+            return a, b
+        lost = self.geometry.legs[self.left_out]
+        return (lost[0] if a == lost[1] else a, lost[0] if b == lost[1] else b)
+
     def lines(self, legs: Iterable[int] | None = None) -> str:
         chosen = range(len(self.geometry.legs)) if legs is None else legs
-        return "".join(self.line(j) + "\n" for j in chosen if j not in self.left_out)
+        return "".join(self.line(j) + "\n" for j in chosen if j != self.left_out)
 
     def text(self, sigma: dict[str, float] | None = None) -> str:
         return sd_lines(SIGMA if sigma is None else sigma) + "*data normal from to tape compass clino\n" + self.lines()
@@ -197,7 +205,7 @@ def blunder(rng: Array, book: Book, kind: str, leg: int | None = None) -> int:
         size = float(kind[:-1])
         book.tape[j] += size if sign > 0 or book.tape[j] - size < 0.3 else -size
     elif kind == "left out":
-        book.left_out.add(j)
+        book.left_out = j
     elif kind == "feet":
         book.tape[j] /= 0.3048
     return j
