@@ -16,7 +16,7 @@ int level(int count, char **words) {
     write_to(&options[1]);
     status = read_text(count == 0 ? "-" : words[0], &source);
     if (status != DONE) return status;
-    status = level_text(&source, fetch_of(&source), loop, &strict, &said);
+    status = level_text(&source, fetch_of(&source), loop, false, &strict, &said);
     if (status != TROUBLE) fwrite(said.bytes, 1, said.length, stderr);
     if (status == DONE) status = put(strict.bytes, strict.length);
     free(source.bytes), free(strict.bytes), free(said.bytes);

@@ -44,12 +44,13 @@ typedef struct {
     size_t bad_leg;
 } levelling;
 
-/* level_text.c: a loop of a survey, by its number from 1 on, or its only one; false where it has none such, `why`
- * saying so. Then its strict text, and what is said of it. */
-bool level_survey(const struct survey *s, uint64_t loop, levelling *made);
+/* level_text.c: a loop of a survey, by its number from 1 on, or its only one, or all legs of a survey that has none
+ * where none is needed; false where it has none such, `why` saying so. Its strict text. All of it of a text, with what
+ * is said; a refusal says why and leaves the text empty. */
+bool level_survey(const struct survey *s, uint64_t loop, bool needed, levelling *made);
 void put_legs(const levelling *l, growing *strict);
 void free_levelling(levelling *l);
-int level_text(const text *from, survey_fetch *fetch, uint64_t loop, growing *strict, growing *said);
+int level_text(const text *from, survey_fetch *fetch, uint64_t loop, bool needed, growing *strict, growing *said);
 
 /* level_loops.c: the walk to be written; the legs of loop n, from 1 on. */
 bool find_walk(levelling *l, uint64_t loop);
@@ -58,7 +59,8 @@ bool find_loop(levelling *l, uint64_t n, walk *w);
 /* level_names.c: names for a job. */
 bool name_walk(levelling *l);
 
-/* level_notes.c: what the reader says, why no text is written, and what was done. */
+/* level_notes.c: whether a leg is not level; what the reader says, why no text is written, and what was done. */
+bool is_steep(const struct survey_leg *leg);
 bool refuse_level(levelling *l, reason why);
 void say_messages(const struct survey *s, growing *said);
 void say_refusal(levelling *l, growing *said);

@@ -40,11 +40,13 @@ void say_messages(const struct survey *s, growing *said) {
 
 /* ---- Refusals */
 
-static double length_of(const levelling *l, const walk *w) {
+static int64_t length_mm(const levelling *l, const walk *w) {
     double sum = 0;
-    for (size_t j = 0; j < w->count; j++)
-        sum += hypot(l->s->legs[w->steps[j].leg].east, l->s->legs[w->steps[j].leg].north);
-    return sum;
+    for (size_t j = 0; j < w->count; j++) {
+        const struct survey_leg *leg = &l->s->legs[w->steps[j].leg];
+        sum += hypot(leg->east, leg->north);
+    }
+    return (int64_t)(sum < 1e12 ? sum * 1000 + 0.5 : 1e15);
 }
 
 static void list_loop(levelling *l, uint64_t n, growing *said) {
@@ -53,8 +55,10 @@ static void list_loop(levelling *l, uint64_t n, growing *said) {
         size_t last = 0;
         while (!l->closes[w.steps[last].leg]) last++;
         const struct survey_leg *closing = &l->s->legs[w.steps[last].leg];
-        add(said, "  --loop %" PRIu64 ": %zu legs, %.3f m, closed by %s:%zu, ", n, w.count, length_of(l, &w),
-            l->s->files[closing->file].name, closing->line);
+        int64_t length = length_mm(l, &w);
+        add(said, "  --loop %" PRIu64 ": %zu legs, %" PRId64 ".%03" PRId64 " m, ", n, w.count, length / 1000,
+            length % 1000);
+        add(said, "closed by %s:%zu, ", l->s->files[closing->file].name, closing->line);
         add(said, "%s to %s\n", l->s->stations[closing->from].name, l->s->stations[closing->to].name);
     }
     free(w.steps);
@@ -82,11 +86,13 @@ void say_refusal(levelling *l, growing *said) {
 
 /* ---- Notes */
 
+bool is_steep(const struct survey_leg *leg) { return fabs(leg->slope) > 1e-9; }
+
 /* How many legs of the walk are steep, or walked backwards. */
 static void say_changed(const levelling *l, growing *said) {
     size_t steep = 0, backwards = 0;
     for (size_t j = 0; j < l->walked.count; j++) {
-        steep += l->s->legs[l->walked.steps[j].leg].slope != 0;
+        steep += is_steep(&l->s->legs[l->walked.steps[j].leg]);
         backwards += l->walked.steps[j].backwards;
     }
     const char *name = l->s->files[0].name;

@@ -12,12 +12,15 @@ static int64_t nearest(double value, double parts) { return (int64_t)floor(value
 
 static int64_t plan_mm(const struct survey_leg *l) { return nearest(hypot(l->east, l->north), 1000); }
 
-static bool is_steep(const struct survey_leg *l) { return l->slope != 0; }
-
 /* The reading as it stands in the book, where the leg is one shot and has it. */
 static void put_reading(const struct survey_leg *l, const char *label, enum survey_quantity what, growing *strict) {
     const struct survey_reading *one = l->shots == 1 ? survey_reading_of(l, what) : NULL;
     if (one != NULL) add(strict, ", %s %s", label, one->text);
+}
+
+/* A file's name on one line. */
+static void put_name(const char *name, growing *strict) {
+    for (; *name != '\0'; name++) add(strict, "%s", (char[2]){(unsigned char)*name < 32 ? '?' : *name, '\0'});
 }
 
 static void put_leg(const levelling *l, step at, growing *strict) {
@@ -28,8 +31,7 @@ static void put_leg(const levelling *l, step at, growing *strict) {
     add(strict, "%s %s %" PRId64 ".%03" PRId64, l->stations[l->place[from] - 1].new_name,
         l->stations[l->place[to] - 1].new_name, plan / 1000, plan % 1000);
     add(strict, " %" PRId64 ".%02" PRId64 " 0 ; ", compass / 100, compass % 100);
-    for (const char *name = l->s->files[leg->file].name; *name != '\0'; name++)
-        add(strict, "%c", (unsigned char)*name < 32 ? '?' : *name);
+    put_name(l->s->files[leg->file].name, strict);
     add(strict, ":%zu%s", leg->line, at.backwards ? ", turned" : "");
     if (is_steep(leg)) {
         put_reading(leg, "tape", SURVEY_TAPE, strict);
@@ -53,25 +55,38 @@ static bool are_short(levelling *l) {
     return true;
 }
 
-bool level_survey(const struct survey *s, uint64_t loop, levelling *made) {
+bool level_survey(const struct survey *s, uint64_t loop, bool needed, levelling *made) {
     memset(made, 0, sizeof *made);
     made->s = s;
-    return find_walk(made, loop) && are_short(made) && name_walk(made);
+    if (!find_walk(made, loop)) return false;
+    if (needed && !made->walked.is_loop) return refuse_level(made, NO_LOOP_AT_ALL);
+    return are_short(made) && name_walk(made);
 }
 
 void free_levelling(levelling *l) { free(l->closes), free(l->walked.steps), free(l->stations), free(l->place); }
 
-/* Reads the survey, finds its loop, names its stations, and then writes. */
-int level_text(const text *from, survey_fetch *fetch, uint64_t loop, growing *strict, growing *said) {
+/* A survey that is taken, its loop found and written. */
+static bool write_loop(const struct survey *s, uint64_t loop, bool needed, growing *strict, growing *said) {
     levelling l;
+    bool done = level_survey(s, loop, needed, &l);
+    if (done) {
+        say_messages(s, said);
+        say_notes(&l, said);
+        put_legs(&l, strict);
+    } else if (l.why == NO_MEMORY) {
+        strict->failed = true;
+    } else {
+        say_refusal(&l, said);
+    }
+    free_levelling(&l);
+    return done;
+}
+
+int level_text(const text *from, survey_fetch *fetch, uint64_t loop, bool needed, growing *strict, growing *said) {
     struct survey *s = survey_read(from->name, from->bytes, from->length, fetch, NULL);
     if (s == NULL) return trouble(from->name, strerror(ENOMEM));
-    say_messages(s, said);
-    bool taken = s->trouble_count == 0, done = taken && level_survey(s, loop, &l);
-    if (done) say_notes(&l, said), put_legs(&l, strict);
-    else if (taken) say_refusal(&l, said);
-    bool no_memory = strict->failed || said->failed || (taken && !done && l.why == NO_MEMORY);
-    if (taken) free_levelling(&l);
+    bool taken = s->trouble_count == 0, done = taken && write_loop(s, loop, needed, strict, said);
+    if (!taken) say_messages(s, said);
     survey_free(s);
-    return no_memory ? trouble(from->name, strerror(ENOMEM)) : done ? DONE : REFUSED;
+    return strict->failed || said->failed ? trouble(from->name, strerror(ENOMEM)) : done ? DONE : REFUSED;
 }

@@ -96,8 +96,7 @@ static int take_ordinary(survey *s, wanted_loop wanted) {
     if (cave == NULL) return trouble(s->source.name, strerror(ENOMEM));
     tell_messages(cave);
     if (cave->trouble_count > 0) return REFUSED;
-    bool found = level_survey(cave, wanted.number, &l);
-    if (found && wanted.needed && !l.walked.is_loop) found = refuse_level(&l, NO_LOOP_AT_ALL);
+    bool found = level_survey(cave, wanted.number, wanted.needed, &l);
     int status = found ? take_walk(&l, wanted.renamed, s) : refuse_loop(&l, s->source.name);
     free_levelling(&l);
     return status;

@@ -26,18 +26,26 @@ static void check_number(reader *r, const struct survey_reading *one, part word)
     if ((one->what == SURVEY_TAPE || one->what == SURVEY_BACKTAPE) && one->written < 0) remark(r, NEGATIVE_TAPE, word);
 }
 
+/* The quarter of a turn that a letter stands for, or -1. */
+static int quarter_of(uint8_t letter) {
+    static const char POINTS[] = "NESW";
+    for (int j = 0; j < 4; j++) {
+        if ((letter & ~32) == POINTS[j]) return j;
+    }
+    return -1;
+}
+
 /* N, S34E and the like: degrees from north. */
 static bool read_quadrant(const reader *r, part word, double *degrees, int *decimals) {
-    static const char POINTS[] = "NESW";
-    const char *first = word.length > 0 ? strchr(POINTS, word.bytes[0] & ~32) : NULL;
-    if (first == NULL || *first == '\0') return false;
+    int first = word.length > 0 ? quarter_of(word.bytes[0]) : -1;
+    if (first < 0) return false;
     *decimals = 0;
-    if (word.length == 1) return *degrees = 90.0 * (double)(first - POINTS), true;
-    uint8_t last = word.bytes[word.length - 1] & (uint8_t)~32;
-    bool south = *first == 'S', west = last == 'W';
-    if ((*first != 'N' && !south) || (last != 'E' && !west)) return false;
-    if (!read_number(r, (part){word.bytes + 1, word.length - 2}, degrees, decimals) || *degrees < 0 || *degrees > 90)
-        return false;
+    if (word.length == 1) return *degrees = 90.0 * first, true;
+    int last = quarter_of(word.bytes[word.length - 1]);
+    bool south = first == 2, west = last == 3;
+    if (first % 2 != 0 || last % 2 != 1) return false;
+    if (!read_number(r, (part){word.bytes + 1, word.length - 2}, degrees, decimals)) return false;
+    if (*degrees < 0 || *degrees > 90) return false;
     if (south != west) *degrees = -*degrees;
     *degrees = fmod(*degrees + (south ? 180 : 360), 360);
     return true;

@@ -163,7 +163,7 @@ static const char *with_count(reader *r, size_t count, const char *sentence) {
     for (size_t left = count; left > 0 || at == sizeof number; left /= 10) number[--at] = (char)('0' + left % 10);
     memcpy(made, number + at, sizeof number - at);
     made[sizeof number - at] = ' ';
-    strcpy(made + (sizeof number - at) + 1, sentence);
+    memcpy(made + (sizeof number - at) + 1, sentence, strlen(sentence) + 1);
     return made;
 }
 
@@ -214,7 +214,7 @@ void tell_notes(reader *r) {
             char *text = allot(r, sizeof MORE + strlen(NOTES_SAID[j].one));
             if (text == NULL) return;
             memcpy(text, MORE, sizeof MORE);
-            strcpy(text + sizeof MORE - 1, NOTES_SAID[j].one);
+            memcpy(text + sizeof MORE - 1, NOTES_SAID[j].one, strlen(NOTES_SAID[j].one) + 1);
             add_note(r, 0, 0, with_count(r, count - MOST_LISTED, text));
         }
     }

@@ -80,6 +80,36 @@ static bool is_table(const struct survey_file *f) {
     return between >= 2 && letters >= 4 && f->bytes[0] != ';';
 }
 
+static bool is_number_sign(uint8_t byte) {
+    return (byte >= '0' && byte <= '9') || byte == '.' || byte == ',' || byte == '-' || byte == '+';
+}
+
+/* Whether a line has four words or more, and two of them from the third on are numbers: so has a leg, however it is
+ * written. */
+static bool is_like_leg(const uint8_t *at, const uint8_t *end) {
+    size_t words = 0, numbers = 0;
+    while (at < end) {
+        bool number = true;
+        while (at < end && *at <= ' ') at++;
+        if (at == end) break;
+        for (; at<end && * at> ' '; at++) number = number && is_number_sign(*at);
+        numbers += number && words >= 2;
+        words++;
+    }
+    return words >= 4 && numbers >= 2;
+}
+
+static bool has_leg(const struct survey_file *f) {
+    const uint8_t *at = f->bytes, *end = at + f->length;
+    while (at < end) {
+        const uint8_t *stop = at;
+        while (stop < end && *stop != '\n' && *stop != '\r') stop++;
+        if (is_like_leg(at, stop)) return true;
+        at = stop + 1;
+    }
+    return false;
+}
+
 trouble_kind other_format(const reader *r, const struct survey_file *f) {
     for (size_t j = 0; j < sizeof STARTS / sizeof STARTS[0]; j++) {
         if (starts_with(f, STARTS[j].start)) return STARTS[j].is;
@@ -91,5 +121,5 @@ trouble_kind other_format(const reader *r, const struct survey_file *f) {
     if (binary || r->commands > 0 || r->s->leg_count > 0) return TROUBLES;
     if (is_pockettopo(f)) return IS_POCKETTOPO;
     if (is_compass_project(f)) return IS_COMPASS_PROJECT;
-    return is_table(f) ? IS_TABLE : IS_PROSE;
+    return is_table(f) ? IS_TABLE : has_leg(f) ? TROUBLES : IS_PROSE;
 }
