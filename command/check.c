@@ -1,6 +1,6 @@
 /* jabulghi check: is this cave sound? */
-#include "cave.h"
 #include "check.h"
+#include "cave.h"
 #include <errno.h>
 #include <stdlib.h>
 #include <string.h>
@@ -32,7 +32,8 @@ static uint32_t play_some(void *context, uint64_t start, size_t plays) {
 static int play_cave(checked *c) {
     labour work = {play_some, c, c->plays, STRETCH, c->threads};
     c->played = malloc((size_t)c->plays * sizeof c->played[0]);
-    uint32_t number = c->played == NULL || c->plays > UINT64_MAX - c->first ? JUDGE_NO_MEMORY : by_threads(&work, "plays");
+    uint32_t number =
+        c->played == NULL || c->plays > UINT64_MAX - c->first ? JUDGE_NO_MEMORY : by_threads(&work, "plays");
     if (number == JUDGE_NO_MEMORY) return trouble("--plays", strerror(ENOMEM));
     return number == JABULGHI_OK ? DONE : refuse_option("--first", number);
 }
@@ -46,7 +47,9 @@ static int take_cave(text source, checked *c) {
     if (status != DONE) return status;
     if (shots.about == JOB) {
         memcpy(c->seeds, shots.seeds, sizeof c->seeds);
-        c->sigmas = (struct judge_sigmas){{shots.sigma[0] / 1000.0, shots.sigma[1] * 360 / 65536.0, 0, 0, 0, 0}, {true, true, true, true, false, false}, "the job"};
+        c->sigmas = (struct judge_sigmas){{shots.sigma[0] / 1000.0, shots.sigma[1] * 360 / 65536.0, 0, 0, 0, 0},
+                                          {true, true, true, true, false, false},
+                                          "the job"};
     }
     return cave_of_shots(&shots, &c->survey);
 }
@@ -93,10 +96,13 @@ static int judge(int count, char **words, const option asked[ASKED], checked *c)
     c->cave = judge_solve(c->survey, &c->sigmas);
     if (c->cave == NULL) return trouble(c->name, strerror(ENOMEM));
     int status = DONE;
-    if (asked[MERGE].value != NULL) status = merge_plays(count - 1, words + 1, &(struct merged){c->cave, &c->played, &c->first, &c->plays, c->seeds});
+    if (asked[MERGE].value != NULL)
+        status =
+            merge_plays(count - 1, words + 1, &(struct merged){c->cave, &c->played, &c->first, &c->plays, c->seeds});
     else if (c->cave->loop_count > 0) status = play_cave(c);
     if (status != DONE) return status;
-    if (!judge_verdict_of(c->cave, c->first, c->played, (size_t)c->plays, &verdict)) return trouble(c->name, strerror(ENOMEM));
+    if (!judge_verdict_of(c->cave, c->first, c->played, (size_t)c->plays, &verdict))
+        return trouble(c->name, strerror(ENOMEM));
     return write_all(asked, c, &verdict);
 }
 
@@ -117,11 +123,14 @@ static int run(int count, char **words, const option asked[ASKED]) {
 }
 
 int check(int count, char **words) {
-    option asked[ASKED] = {{"--sigma", false, NULL}, {"--trip", false, NULL}, {"--seeds", false, NULL}, {"--plays", false, NULL}, {"--first", false, NULL}, {"--jobs", false, NULL},
-                           {"--loops", true, NULL}, {"--json", true, NULL}, {"--svg", false, NULL}, {"--merge", true, NULL}, {"-o", false, NULL}};
+    option asked[ASKED] = {{"--sigma", false, NULL}, {"--trip", false, NULL},  {"--seeds", false, NULL},
+                           {"--plays", false, NULL}, {"--first", false, NULL}, {"--jobs", false, NULL},
+                           {"--loops", true, NULL},  {"--json", true, NULL},   {"--svg", false, NULL},
+                           {"--merge", true, NULL},  {"-o", false, NULL}};
     int status = read_options(&count, words, asked, ASKED);
     if (status != DONE) return status;
-    if (asked[LOOPS].value != NULL && asked[JSON].value != NULL) return wrong(EITHER, asked[LOOPS].name, asked[JSON].name);
+    if (asked[LOOPS].value != NULL && asked[JSON].value != NULL)
+        return wrong(EITHER, asked[LOOPS].name, asked[JSON].name);
     write_to(&asked[INTO]);
     return run(count, words, asked);
 }

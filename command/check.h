@@ -6,7 +6,8 @@
 
 #include "../judge/judge.h"
 
-/* errors.c: the standard deviations of --sigma, tape=10mm,compass=1deg,clino=1deg,station=50mm or the two of tape and compass alone; and of --trip. */
+/* errors.c: the standard deviations of --sigma, tape=10mm,compass=1deg,clino=1deg,station=50mm or the two of tape and
+ * compass alone; and of --trip. */
 int errors_of(const option *given, struct judge_sigmas *sigmas);
 int trip_of(const option *given, struct judge_sigmas *sigmas);
 

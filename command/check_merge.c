@@ -1,10 +1,18 @@
-/* Adds up parts that `jabulghi check --json` wrote: plays of one cave with the same seeds, which follow each other without a gap, in any order of the files. */
+/* Adds up parts that `jabulghi check --json` wrote: plays of one cave with the same seeds, which follow each other
+ * without a gap, in any order of the files. */
 #include "check.h"
 #include <errno.h>
 #include <stdlib.h>
 #include <string.h>
 
-typedef struct { const char *name; char *bytes; const char *played; uint64_t first, plays; double statistic; uint32_t seeds[6]; } part;
+typedef struct {
+    const char *name;
+    char *bytes;
+    const char *played;
+    uint64_t first, plays;
+    double statistic;
+    uint32_t seeds[6];
+} part;
 
 static int by_first(const void *a, const void *b) {
     const part *one = a, *other = b;
@@ -18,7 +26,8 @@ static const char *member(const part *p, const char *name) {
 }
 
 static bool read_members(part *p) {
-    const char *statistic = member(p, "\n  \"statistic\": "), *seeds = member(p, "\n  \"seeds\": ["), *first = member(p, "\n  \"first\": "), *plays = member(p, "\n  \"plays\": ");
+    const char *statistic = member(p, "\n  \"statistic\": "), *seeds = member(p, "\n  \"seeds\": ["),
+               *first = member(p, "\n  \"first\": "), *plays = member(p, "\n  \"plays\": ");
     p->played = member(p, "\n  \"played\": [\n");
     if (statistic == NULL || seeds == NULL || first == NULL || plays == NULL || p->played == NULL) return false;
     p->statistic = strtod(statistic, NULL);
@@ -86,7 +95,8 @@ int merge_plays(int count, char **names, const struct merged *all) {
     memcpy(all->seeds, parts[0].seeds, sizeof parts[0].seeds);
     for (int j = 0; status == DONE && j < count; j++) {
         status = follows(parts, (size_t)j, all->cave);
-        if (status == DONE && !read_plays(&parts[j], *all->played + *all->plays)) status = wrong(NO_PART, parts[j].name);
+        if (status == DONE && !read_plays(&parts[j], *all->played + *all->plays))
+            status = wrong(NO_PART, parts[j].name);
         *all->plays += parts[j].plays;
     }
     return status;

@@ -3,8 +3,14 @@
 #include <string.h>
 
 /* The names, what each is in, and the most that is taken of it, in metres or degrees. */
-static const struct { const char *name; enum judge_error error; bool length; double most; } NAMES[] = {
-    {"tape", JUDGE_TAPE, true, 100}, {"compass", JUDGE_COMPASS, false, 90}, {"clino", JUDGE_CLINO, false, 90}, {"station", JUDGE_STATION, true, 100}, {"fix", JUDGE_POINT, true, 10000},
+static const struct {
+    const char *name;
+    enum judge_error error;
+    bool length;
+    double most;
+} NAMES[] = {
+    {"tape", JUDGE_TAPE, true, 100},       {"compass", JUDGE_COMPASS, false, 90}, {"clino", JUDGE_CLINO, false, 90},
+    {"station", JUDGE_STATION, true, 100}, {"fix", JUDGE_POINT, true, 10000},
 };
 
 /* A measure in metres or degrees; false where it has the other unit, or none. */
@@ -54,7 +60,8 @@ int trip_of(const option *given, struct judge_sigmas *sigmas) {
     measure read;
     if (given->value == NULL) return DONE;
     const char *end = read_measure(given->value, &read);
-    bool good = end != NULL && *end == '\0' && value_of(&read, false, &sigmas->of[JUDGE_TRIP]) && sigmas->of[JUDGE_TRIP] <= 90;
+    bool good =
+        end != NULL && *end == '\0' && value_of(&read, false, &sigmas->of[JUDGE_TRIP]) && sigmas->of[JUDGE_TRIP] <= 90;
     sigmas->given[JUDGE_TRIP] = true;
     return good ? DONE : wrong(NO_TRIP, given->name, given->value);
 }

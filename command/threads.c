@@ -5,12 +5,18 @@
 #define MOST_THREADS 256
 
 /* What the threads share; next and number are changed while the lock is held. */
-typedef struct { const labour *of; pthread_mutex_t lock; uint64_t next; uint32_t number; } pool;
+typedef struct {
+    const labour *of;
+    pthread_mutex_t lock;
+    uint64_t next;
+    uint32_t number;
+} pool;
 
 /* The next pieces to be done, none where all are; and how far the work is. */
 static uint64_t take_pieces(pool *p, uint64_t *start) {
     pthread_mutex_lock(&p->lock);
-    uint64_t left = p->number == JABULGHI_OK ? p->of->pieces - p->next : 0, taken = left < p->of->stretch ? left : p->of->stretch;
+    uint64_t left = p->number == JABULGHI_OK ? p->of->pieces - p->next : 0,
+             taken = left < p->of->stretch ? left : p->of->stretch;
     *start = p->next;
     p->next += taken;
     progress_show(*start, p->of->pieces);
@@ -37,7 +43,9 @@ uint32_t by_threads(const labour *work, const char *counted) {
     pthread_t threads[MOST_THREADS];
     size_t started = 0;
     progress_start(counted, true);
-    while (started + 1 < work->threads && started < MOST_THREADS && pthread_create(&threads[started], NULL, do_some, &p) == 0) started++;
+    while (started + 1 < work->threads && started < MOST_THREADS &&
+           pthread_create(&threads[started], NULL, do_some, &p) == 0)
+        started++;
     do_some(&p);
     for (size_t j = 0; j < started; j++) pthread_join(threads[j], NULL);
     pthread_mutex_destroy(&p.lock);

@@ -1,4 +1,5 @@
-/* What surveyors do wrong, each with its weight: what it would explain of the misses. The weights are a judgement, not a measurement. */
+/* What surveyors do wrong, each with its weight: what it would explain of the misses. The weights are a judgement, not
+ * a measurement. */
 #include "inside.h"
 #include <math.h>
 #include <string.h>
@@ -16,25 +17,37 @@ struct case_of {
 /* A correction that moves a leg by less, in metres, is left out. */
 #define LEAST_MOVE 0.2
 
-/* The chances of a free correction: half of all distances are off by less than this, and half of the legs left out are shorter, in metres. */
+/* The chances of a free correction: half of all distances are off by less than this, and half of the legs left out are
+ * shorter, in metres. */
 #define MIDDLE_DISTANCE 2.0
 #define MIDDLE_LEG 5.0
 #define LEAST_LEG 0.5
 
-static double likelihood(const struct case_of *c, struct judge_vector move) { return exp((judge_gain(c->pull, c->hold, move) - c->cave->statistic) / 2); }
+/* How likely a gain is, next to that of the best explanation. Errors that are larger than they are said to be make
+ * gains larger, too. */
+static double likelihood(const struct case_of *c, double gain) {
+    return exp((gain - c->cave->statistic) / 2 / c->cave->excess);
+}
+static double likelihood_of(const struct case_of *c, struct judge_vector move) {
+    return likelihood(c, judge_gain(c->pull, c->hold, move));
+}
 
 /* A correction that is known. */
 static void offer(const struct case_of *c, struct judge_explanation e, double weight) {
     if (hypot(e.move.east, e.move.north) < LEAST_MOVE) return;
-    e.mass = weight * likelihood(c, e.move);
     e.gain = judge_gain(c->pull, c->hold, e.move);
+    e.mass = weight * likelihood(c, e.gain);
     c->take(c->to, &e);
 }
 
-static struct judge_vector difference(const double end[3], struct judge_vector from) { return (struct judge_vector){end[0] - from.east, end[1] - from.north}; }
+static struct judge_vector difference(const double end[3], struct judge_vector from) {
+    return (struct judge_vector){end[0] - from.east, end[1] - from.north};
+}
 
-/* The move of the leg's end where its tapes, corrected, are something else; false where there is no tape, or one would not be above 0. */
-static bool tape_move(const struct case_of *c, double (*changed)(const struct survey_reading *r, double by), double by, struct judge_vector *move) {
+/* The move of the leg's end where its tapes, corrected, are something else; false where there is no tape, or one would
+ * not be above 0. */
+static bool tape_move(const struct case_of *c, double (*changed)(const struct survey_reading *r, double by), double by,
+                      struct judge_vector *move) {
     double values[JUDGE_MOST_READINGS], end[3];
     bool any = false;
     for (size_t j = 0; j < c->leg->reading_count; j++) {
@@ -51,7 +64,9 @@ static bool tape_move(const struct case_of *c, double (*changed)(const struct su
 }
 
 static double longer(const struct survey_reading *r, double by) { return r->value + by; }
-static double times_as_written(const struct survey_reading *r, double by) { return survey_value_of(r, r->written * by); }
+static double times_as_written(const struct survey_reading *r, double by) {
+    return survey_value_of(r, r->written * by);
+}
 
 static void explain_distances(const struct case_of *c) {
     static const struct { double by, weight; } METRES[] = {{1, 3}, {2, 1}, {5, 2}, {10, 3}};
@@ -75,7 +90,8 @@ static void explain_distances(const struct case_of *c) {
 /* The move of a leg's end where it is turned, in degrees. */
 static struct judge_vector turned(const struct case_of *c, double degrees) {
     double sine = sin(degrees * (TURN / 360)), cosine = cos(degrees * (TURN / 360));
-    return (struct judge_vector){c->vector.east * (cosine - 1) + c->vector.north * sine, c->vector.north * (cosine - 1) - c->vector.east * sine};
+    return (struct judge_vector){c->vector.east * (cosine - 1) + c->vector.north * sine,
+                                 c->vector.north * (cosine - 1) - c->vector.east * sine};
 }
 
 static void explain_bearings(const struct case_of *c) {
@@ -114,13 +130,16 @@ static bool is_possible(const struct survey_reading *r, double written) {
 }
 
 /* A reading that should be another one. */
-static void offer_reading(const struct case_of *c, size_t reading, const char *should_be, enum judge_blunder blunder, double weight) {
+static void offer_reading(const struct case_of *c, size_t reading, const char *should_be, enum judge_blunder blunder,
+                          double weight) {
     const struct survey_reading *r = &c->leg->readings[reading];
     double values[JUDGE_MOST_READINGS], end[3], written = number_in(should_be, r->written < 0 ? -1 : 1);
     if (!is_possible(r, written)) return;
-    for (size_t j = 0; j < c->leg->reading_count; j++) values[j] = j == reading ? survey_value_of(r, written) : c->leg->readings[j].value;
+    for (size_t j = 0; j < c->leg->reading_count; j++)
+        values[j] = j == reading ? survey_value_of(r, written) : c->leg->readings[j].value;
     survey_vector_of(c->leg, values, end);
-    struct judge_explanation e = {.blunder = blunder, .reading = r, .correction = values[reading] - r->value, .move = difference(end, c->vector)};
+    struct judge_explanation e = {
+        .blunder = blunder, .reading = r, .correction = values[reading] - r->value, .move = difference(end, c->vector)};
     strcpy(e.should_be, should_be);
     offer(c, e, weight);
 }
@@ -130,7 +149,8 @@ static void explain_exchanges(const struct case_of *c, size_t reading) {
     const char *text = c->leg->readings[reading].text;
     for (size_t at = 0; text[at] != '\0'; at++) {
         size_t next = at + 1 + (text[at + 1] == '.');
-        if (text[at] < '0' || text[at] > '9' || text[next] < '0' || text[next] > '9' || text[at] == text[next]) continue;
+        if (text[at] < '0' || text[at] > '9' || text[next] < '0' || text[next] > '9' || text[at] == text[next])
+            continue;
         char other[sizeof(((struct judge_explanation *)0)->should_be)];
         strcpy(other, text);
         other[at] = text[next];
@@ -155,7 +175,11 @@ static void explain_misreadings(const struct case_of *c, size_t reading) {
 }
 
 /* Digits are looked for in plain decimals of tape, compass and clino. */
-static bool has_digits(const struct survey_reading *r) { return r->form == SURVEY_NUMBER && r->what <= SURVEY_BACKCLINO && strlen(r->text) < sizeof(((struct judge_explanation *)0)->should_be) && strspn(r->text, "+-0123456789.") == strlen(r->text); }
+static bool has_digits(const struct survey_reading *r) {
+    return r->form == SURVEY_NUMBER && r->what <= SURVEY_BACKCLINO &&
+           strlen(r->text) < sizeof(((struct judge_explanation *)0)->should_be) &&
+           strspn(r->text, "+-0123456789.") == strlen(r->text);
+}
 
 static void explain_digits(const struct case_of *c) {
     for (size_t j = 0; j < c->leg->reading_count; j++) {
@@ -168,11 +192,13 @@ static void explain_digits(const struct case_of *c) {
 static void explain_any_distance(const struct case_of *c) {
     double length = hypot(c->vector.east, c->vector.north);
     struct judge_vector along = {c->vector.east / length, c->vector.north / length};
-    double hold = judge_form(c->hold, along), by = fmax(-(along.east * c->pull.east + along.north * c->pull.north) / hold, -length);
-    struct judge_explanation e = {.blunder = JUDGE_ANY_DISTANCE, .correction = by, .move = {by * along.east, by * along.north}};
+    double hold = judge_form(c->hold, along),
+           by = fmax(-(along.east * c->pull.east + along.north * c->pull.north) / hold, -length);
+    struct judge_explanation e = {
+        .blunder = JUDGE_ANY_DISTANCE, .correction = by, .move = {by * along.east, by * along.north}};
     double density = MIDDLE_DISTANCE / ((MIDDLE_DISTANCE + fabs(by)) * (MIDDLE_DISTANCE + fabs(by))) / 2;
-    e.mass = 4 * density * likelihood(c, e.move) * sqrt(TURN / hold);
     e.gain = judge_gain(c->pull, c->hold, e.move);
+    e.mass = 4 * density * likelihood(c, e.gain) * sqrt(TURN * c->cave->excess / hold);
     c->take(c->to, &e);
 }
 
@@ -180,7 +206,7 @@ static void explain_any_bearing(const struct case_of *c) {
     struct judge_explanation e = {.blunder = JUDGE_ANY_BEARING};
     double best = 0, sum = 0;
     for (int degrees = -179; degrees <= 180; degrees++) {
-        double chance = degrees == 0 ? 0 : likelihood(c, turned(c, degrees));
+        double chance = degrees == 0 ? 0 : likelihood_of(c, turned(c, degrees));
         sum += chance;
         if (chance > best) best = chance, e.correction = degrees;
     }
@@ -188,7 +214,7 @@ static void explain_any_bearing(const struct case_of *c) {
     for (int j = 0; j < 10; j++, step /= 2) {
         double middle = e.correction;
         for (int side = -1; side <= 1; side += 2) {
-            double chance = likelihood(c, turned(c, middle + side * step));
+            double chance = likelihood_of(c, turned(c, middle + side * step));
             if (chance > best) best = chance, e.correction = middle + side * step;
         }
     }
@@ -205,7 +231,8 @@ static void explain_any_vector(const struct case_of *c, enum judge_blunder blund
     double far = fmax(hypot(e.move.east, e.move.north), LEAST_LEG);
     double density = MIDDLE_LEG / ((MIDDLE_LEG + far) * (MIDDLE_LEG + far)) / (TURN * far);
     e.correction = hypot(e.move.east, e.move.north);
-    e.mass = weight * density * exp((e.gain - c->cave->statistic) / 2) * TURN / sqrt(c->hold.east * c->hold.north - c->hold.both * c->hold.both);
+    e.mass = weight * density * likelihood(c, e.gain) * TURN * c->cave->excess /
+             sqrt(c->hold.east * c->hold.north - c->hold.both * c->hold.both);
     c->take(c->to, &e);
 }
 

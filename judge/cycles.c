@@ -1,4 +1,5 @@
-/* A minimum cycle basis, by Horton: among the cycles of a shortest path, an edge and a shortest path back, the shortest that are independent. */
+/* A minimum cycle basis, by Horton: among the cycles of a shortest path, an edge and a shortest path back, the shortest
+ * that are independent. */
 #include "inside.h"
 #include <stdlib.h>
 #include <string.h>
@@ -9,7 +10,8 @@ struct cycle {
     size_t root, edge;
 };
 
-/* What a search from one root finds of each node: how far, by which edge, behind which node next to the root, and the mark of the way. */
+/* What a search from one root finds of each node: how far, by which edge, behind which node next to the root, and the
+ * mark of the way. */
 struct way {
     uint64_t distance, mark;
     size_t edge, branch;
@@ -18,8 +20,8 @@ struct way {
 
 struct search {
     const struct judge_graph *g;
-    size_t *start, *touching; /* the edges at each node */
-    struct way *ways;         /* of one root */
+    size_t *start, *touching;   /* the edges at each node */
+    struct way *ways;           /* of one root */
     size_t *heap, *place, held; /* nodes to be visited, the nearest first, and where each stands */
     struct cycle *cycles;
     size_t count, room;
@@ -34,7 +36,9 @@ static uint64_t mark_of(size_t edge) {
 }
 
 /* Legs, and a fraction of a leg that makes every shortest way the only one. */
-static uint64_t weight_of(const struct judge_graph *g, size_t edge) { return ((uint64_t)g->weights[edge] << 32) + (mark_of(edge) >> 44); }
+static uint64_t weight_of(const struct judge_graph *g, size_t edge) {
+    return ((uint64_t)g->weights[edge] << 32) + (mark_of(edge) >> 44);
+}
 
 static size_t other_end(const struct judge_graph *g, size_t edge, size_t node) {
     return g->ends[edge][0] == node ? g->ends[edge][1] : g->ends[edge][0];
@@ -112,7 +116,8 @@ static bool note_cycles(struct search *s, size_t root) {
         bool around = from == to ? from == root : a->branch != b->branch;
         if (!beside || !around) continue;
         if (!room_for(1, &s->cycles, s->count, &s->room, sizeof s->cycles[0])) return false;
-        s->cycles[s->count++] = (struct cycle){a->distance + b->distance + weight_of(s->g, e), a->mark ^ b->mark ^ mark_of(e), root, e};
+        s->cycles[s->count++] =
+            (struct cycle){a->distance + b->distance + weight_of(s->g, e), a->mark ^ b->mark ^ mark_of(e), root, e};
     }
     return true;
 }
@@ -121,10 +126,12 @@ static int by_weight(const void *a, const void *b) {
     const struct cycle *one = a, *other = b;
     if (one->weight != other->weight) return one->weight < other->weight ? -1 : 1;
     if (one->mark != other->mark) return one->mark < other->mark ? -1 : 1;
-    return one->root != other->root ? (one->root > other->root) - (one->root < other->root) : (one->edge > other->edge) - (one->edge < other->edge);
+    return one->root != other->root ? (one->root > other->root) - (one->root < other->root)
+                                    : (one->edge > other->edge) - (one->edge < other->edge);
 }
 
-/* The edges of a cycle with their directions, as it goes from the root to the first end of its edge, along that and back. */
+/* The edges of a cycle with their directions, as it goes from the root to the first end of its edge, along that and
+ * back. */
 static size_t walk(const struct search *s, const struct cycle *c, struct judge_part *parts) {
     size_t count = 0;
     const size_t *by = s->by + c->root * s->g->nodes;
@@ -163,7 +170,8 @@ static bool is_new(struct rows *r, const struct judge_part *parts, size_t count)
 }
 
 /* The shortest cycles that are independent of each other, up to so many. */
-static bool choose(const struct search *s, size_t count, struct rows *r, struct judge_loop *loops, struct judge_part **parts) {
+static bool choose(const struct search *s, size_t count, struct rows *r, struct judge_loop *loops,
+                   struct judge_part **parts) {
     size_t used = 0, room = 0;
     for (size_t j = 0; j < s->count && r->count < count; j++) {
         const struct cycle *c = &s->cycles[j];
@@ -218,7 +226,8 @@ bool judge_cycles(const struct judge_graph *g, size_t count, struct judge_loop *
     s.heap = malloc((g->nodes + 1) * sizeof *s.heap);
     s.place = malloc((g->nodes + 1) * sizeof *s.place);
     s.by = malloc((g->nodes * g->nodes + 1) * sizeof *s.by);
-    bool good = s.start != NULL && s.touching != NULL && s.ways != NULL && s.heap != NULL && s.place != NULL && s.by != NULL;
+    bool good =
+        s.start != NULL && s.touching != NULL && s.ways != NULL && s.heap != NULL && s.place != NULL && s.by != NULL;
     *parts = NULL;
     good = good && search_all(&s, count, loops, parts);
     free(s.start);

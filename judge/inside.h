@@ -6,7 +6,8 @@
 
 #define TURN 6.283185307179586476925286766559
 
-/* network.c: edges, passages and loops of the cave's survey; false where memory has run out. cycles.c: a minimum cycle basis of passages. */
+/* network.c: edges, passages and loops of the cave's survey; false where memory has run out. cycles.c: a minimum cycle
+ * basis of passages. */
 bool judge_network(struct judge_cave *cave);
 struct judge_graph {
     size_t nodes, edges;
@@ -15,7 +16,8 @@ struct judge_graph {
 };
 bool judge_cycles(const struct judge_graph *g, size_t count, struct judge_loop *loops, struct judge_part **parts);
 
-/* model.c: the standard deviations of a reading's error and the width of its rounding; vectors and covariances of all edges. */
+/* model.c: the standard deviations of a reading's error and the width of its rounding; vectors and covariances of all
+ * edges. */
 double judge_sd_of(const struct judge_cave *cave, const struct survey_reading *r);
 double judge_plumb_sd_of(const struct judge_cave *cave, const struct survey_leg *leg);
 double judge_rounding_of(const struct survey_reading *r);
@@ -24,7 +26,8 @@ bool judge_is_compass(const struct survey_reading *r);
 void judge_model(struct judge_cave *cave);
 enum { JUDGE_MOST_READINGS = 16 };
 
-/* solver.c: the misses of vectors of passages; u for misses; g of a passage for any u; a covariance of all misses with other station errors. */
+/* solver.c: the misses of vectors of passages; u for misses; g of a passage for any u; a covariance of all misses with
+ * other station errors. */
 void judge_misses(const struct judge_cave *cave, const struct judge_vector *sums, double *misses);
 void judge_solved(const struct judge_cave *cave, const double *misses, double *scratch, double *u);
 struct judge_vector judge_pull(const struct judge_cave *cave, const struct judge_passage *p, const double *u);

@@ -1,5 +1,6 @@
-/* Judges a cave in plan: whether its loops close as well as its instruments allow, and which legs explain it best where they do not. docs/check.md
- * has the formulas. No input or output and no state of its own. Nothing of it is proved but the noise that it plays with. */
+/* Judges a cave in plan: whether its loops close as well as its instruments allow, and which legs explain it best where
+ * they do not. docs/check.md has the formulas. No input or output and no state of its own. Nothing of it is proved but
+ * the noise that it plays with. */
 #ifndef JUDGE_H
 #define JUDGE_H
 
@@ -7,8 +8,8 @@
 #include "../survey/survey.h"
 #include "jabulghi.h"
 
-/* Standard deviations in metres and degrees, JUDGE_POINT being that of a fixed point which has none of its own. Where one is not given, the survey's
- * own holds, for JUDGE_POINT JUDGE_POINT_ERROR, and for JUDGE_TRIP none. */
+/* Standard deviations in metres and degrees, JUDGE_POINT being that of a fixed point which has none of its own. Where
+ * one is not given, the survey's own holds, for JUDGE_POINT JUDGE_POINT_ERROR, and for JUDGE_TRIP none. */
 #define JUDGE_POINT_ERROR 1.0
 enum judge_error { JUDGE_TAPE, JUDGE_COMPASS, JUDGE_CLINO, JUDGE_STATION, JUDGE_POINT, JUDGE_TRIP, JUDGE_ERRORS };
 struct judge_sigmas {
@@ -17,7 +18,8 @@ struct judge_sigmas {
     const char *from; /* what gave them, in words */
 };
 
-/* Below this share of sound caves a cave, or a loop, is unsound; and one that closes better than all but this share closes too well. */
+/* Below this share of sound caves a cave, or a loop, is unsound; and one that closes better than all but this share
+ * closes too well. */
 #define JUDGE_LIMIT 0.05
 #define JUDGE_TOO_WELL 0.001
 
@@ -32,13 +34,14 @@ struct judge_spread {
 
 #define JUDGE_NONE SIZE_MAX
 
-/* A leg, an equate or a fixed point: `index` is its place in the survey. A fixed point is seen from the node after all stations. */
+/* A leg, an equate or a fixed point: `index` is its place in the survey. A fixed point is seen from the node after all
+ * stations. */
 enum judge_kind { JUDGE_LEG, JUDGE_EQUATE, JUDGE_FIX };
 struct judge_edge {
     enum judge_kind kind;
     size_t index, from, to;
-    size_t passage; /* JUDGE_NONE where the edge is in no loop */
-    int sign;       /* 1 where it runs along its passage, -1 where it runs against it */
+    size_t passage;                   /* JUDGE_NONE where the edge is in no loop */
+    int sign;                         /* 1 where it runs along its passage, -1 where it runs against it */
     struct judge_vector vector, turn; /* its vector, and how that goes with its compass, in m per degree */
     struct judge_spread spread;
     double station; /* m, of either end */
@@ -65,9 +68,14 @@ struct judge_loop {
     double length; /* m in plan */
     struct judge_vector miss;
     struct judge_spread own; /* the inverse of its own covariance */
-    double reach; /* q: the square of the miss in standard deviations */
-    double p;     /* sound loops that miss by as much */
+    double reach;            /* q: the square of the miss in standard deviations */
+    double p;                /* sound loops that miss by as much */
     bool bad, too_well;
+};
+
+/* What a reading is off by: the standard deviation of its error, and the width of its rounding. */
+struct judge_off {
+    double sd, rounding;
 };
 
 /* What is kept of one play. */
@@ -75,7 +83,8 @@ struct judge_played {
     double worst_passage, worst_loop;
 };
 
-/* A cave that is solved. `white` is the inverse of the Cholesky factor of all misses' covariance, its rows below each other; u is S⁻¹ m. */
+/* A cave that is solved. `white` is the inverse of the Cholesky factor of all misses' covariance, its rows below each
+ * other; u is S⁻¹ m. */
 struct judge_cave {
     const struct survey *survey;
     struct judge_sigmas sigmas;
@@ -87,17 +96,30 @@ struct judge_cave {
     double *white, *u;
     double misfit;    /* Q */
     double statistic; /* t */
+    double excess;    /* k: by how much variances seem too small where the best explanation is left out, at least 1 */
     size_t legs_in_no_loop, samples; /* samples: how many a play takes */
+    struct judge_off *offs;          /* of all readings that are played, in their order */
     size_t trip_count, *trips;       /* the place of each trip of the survey among those with a leg in a loop */
 };
 
 /* What surveyors do wrong. */
 enum judge_blunder {
-    JUDGE_DISTANCE, JUDGE_DECIMAL, JUDGE_FEET, JUDGE_BEARING, JUDGE_BACKWARDS, JUDGE_EXCHANGED, JUDGE_MISREAD,
-    JUDGE_ANY_DISTANCE, JUDGE_ANY_BEARING, JUDGE_LEFT_OUT, JUDGE_EQUATED, JUDGE_FIXED,
+    JUDGE_DISTANCE,
+    JUDGE_DECIMAL,
+    JUDGE_FEET,
+    JUDGE_BEARING,
+    JUDGE_BACKWARDS,
+    JUDGE_EXCHANGED,
+    JUDGE_MISREAD,
+    JUDGE_ANY_DISTANCE,
+    JUDGE_ANY_BEARING,
+    JUDGE_LEFT_OUT,
+    JUDGE_EQUATED,
+    JUDGE_FIXED,
 };
 
-/* What would explain the misses: the correction as metres or degrees, and as a vector; where a reading is wrong as written, which and what it should be. */
+/* What would explain the misses: the correction as metres or degrees, and as a vector; where a reading is wrong as
+ * written, which and what it should be. */
 struct judge_explanation {
     enum judge_blunder blunder;
     double mass, gain, correction;
@@ -137,14 +159,18 @@ void judge_free(struct judge_cave *cave);
 
 /* plays.c: so many plays from one on, by the noise of the proved library; its number, or JUDGE_NO_MEMORY. */
 #define JUDGE_NO_MEMORY 1000
-uint32_t judge_play(const struct judge_cave *cave, const uint32_t seeds[6], uint64_t first, size_t count, struct judge_played *played);
+uint32_t judge_play(const struct judge_cave *cave, const uint32_t seeds[6], uint64_t first, size_t count,
+                    struct judge_played *played);
 
-/* verdict.c: what the plays, whose order does not matter, say of the cave; false where memory has run out. It sorts them. */
-bool judge_verdict_of(struct judge_cave *cave, uint64_t first, struct judge_played *played, size_t plays, struct judge_verdict *verdict);
+/* verdict.c: what the plays, whose order does not matter, say of the cave; false where memory has run out. It sorts
+ * them. */
+bool judge_verdict_of(struct judge_cave *cave, uint64_t first, struct judge_played *played, size_t plays,
+                      struct judge_verdict *verdict);
 void judge_verdict_free(struct judge_verdict *verdict);
 
 /* The smallest blunders of a leg that would have shown in 80 % of cases: metres, and degrees or 0 for none. */
-struct judge_vector judge_smallest(const struct judge_cave *cave, const struct judge_verdict *v, const struct judge_edge *edge);
+struct judge_vector judge_smallest(const struct judge_cave *cave, const struct judge_verdict *v,
+                                   const struct judge_edge *edge);
 
 /* words.c, words_json.c, plan.c: the verdict for a person, for a program, and as a picture. */
 struct judge_told {
@@ -153,8 +179,10 @@ struct judge_told {
     bool all_loops;
     const struct judge_played *played; /* those that json gives for merging; NULL for none */
 };
-void judge_words(const struct judge_cave *cave, const struct judge_verdict *v, const struct judge_told *told, growing *to);
-void judge_json(const struct judge_cave *cave, const struct judge_verdict *v, const struct judge_told *told, growing *to);
+void judge_words(const struct judge_cave *cave, const struct judge_verdict *v, const struct judge_told *told,
+                 growing *to);
+void judge_json(const struct judge_cave *cave, const struct judge_verdict *v, const struct judge_told *told,
+                growing *to);
 void judge_plan(const struct judge_cave *cave, const struct judge_verdict *v, growing *to);
 
 #endif

@@ -28,7 +28,9 @@ double judge_plumb_sd_of(const struct judge_cave *cave, const struct survey_leg 
 
 /* A word is not rounded, and a reading that is omitted has no error. */
 bool judge_is_played(const struct survey_reading *r) { return r->form != SURVEY_WORD && r->form != SURVEY_OMITTED; }
-bool judge_is_compass(const struct survey_reading *r) { return r->what == SURVEY_COMPASS || r->what == SURVEY_BACKCOMPASS; }
+bool judge_is_compass(const struct survey_reading *r) {
+    return r->what == SURVEY_COMPASS || r->what == SURVEY_BACKCOMPASS;
+}
 
 double judge_rounding_of(const struct survey_reading *r) {
     if (r->form != SURVEY_NUMBER || r->decimals < 0) return 0;
@@ -36,7 +38,9 @@ double judge_rounding_of(const struct survey_reading *r) {
 }
 
 /* How the leg's end goes as some of its readings go, in m per m or degree. */
-static struct judge_vector slope_of(const struct survey_leg *leg, bool (*moves)(const struct survey_reading *r, const void *which), const void *which) {
+static struct judge_vector slope_of(const struct survey_leg *leg,
+                                    bool (*moves)(const struct survey_reading *r, const void *which),
+                                    const void *which) {
     static const double STEP = 1e-4;
     double values[2][JUDGE_MOST_READINGS], ends[2][3];
     for (int side = 0; side < 2; side++) {
@@ -50,7 +54,9 @@ static struct judge_vector slope_of(const struct survey_leg *leg, bool (*moves)(
 }
 
 static bool is_this(const struct survey_reading *r, const void *which) { return r == which; }
-static bool is_any_compass(const struct survey_reading *r, const void *which) { return (void)which, judge_is_compass(r); }
+static bool is_any_compass(const struct survey_reading *r, const void *which) {
+    return (void)which, judge_is_compass(r);
+}
 
 static void add_error(struct judge_spread *to, struct judge_vector slope, double variance) {
     to->east += slope.east * slope.east * variance;
@@ -73,7 +79,8 @@ static void model_leg(const struct judge_cave *cave, struct judge_edge *e) {
         double sd = judge_sd_of(cave, r), rounding = judge_rounding_of(r);
         if (judge_is_played(r)) add_error(&e->spread, slope_of(leg, is_this, r), sd * sd + rounding * rounding / 12);
     }
-    if (leg->slope_by == SURVEY_BY_PLUMB) add_even(&e->spread, judge_plumb_sd_of(cave, leg) * judge_plumb_sd_of(cave, leg));
+    if (leg->slope_by == SURVEY_BY_PLUMB)
+        add_even(&e->spread, judge_plumb_sd_of(cave, leg) * judge_plumb_sd_of(cave, leg));
     add_even(&e->spread, 2 * e->station * e->station);
 }
 

@@ -3,8 +3,8 @@
 #include <stdlib.h>
 #include <string.h>
 
-/* A random circulation through the network tells passages: what flows in flows out at every node, so that edges which no loop tells apart carry the
- * same flow, and edges in no loop none. */
+/* A random circulation through the network tells passages: what flows in flows out at every node, so that edges which
+ * no loop tells apart carry the same flow, and edges in no loop none. */
 struct flows {
     size_t nodes;
     size_t *start, *touching; /* the edges at each node: touching[start[node]] and on */
@@ -32,7 +32,8 @@ static bool joined(size_t *parents, size_t one, size_t other) {
 }
 
 static void add_edge(struct judge_cave *cave, enum judge_kind kind, size_t index, size_t from, size_t to) {
-    cave->edges[cave->edge_count++] = (struct judge_edge){.kind = kind, .index = index, .from = from, .to = to, .passage = JUDGE_NONE, .sign = 1};
+    cave->edges[cave->edge_count++] =
+        (struct judge_edge){.kind = kind, .index = index, .from = from, .to = to, .passage = JUDGE_NONE, .sign = 1};
 }
 
 /* Legs, equates that join what no earlier one does, and fixed points. */
@@ -91,7 +92,8 @@ static void search(const struct judge_cave *cave, struct flows *f, bool *reached
     }
 }
 
-/* Random flows through the edges beside the tree of the search; each edge of the tree carries the rest of its lower node. */
+/* Random flows through the edges beside the tree of the search; each edge of the tree carries the rest of its lower
+ * node. */
 static void let_flow(const struct judge_cave *cave, struct flows *f) {
     for (size_t e = 0; e < cave->edge_count; e++) {
         const struct judge_edge *edge = &cave->edges[e];
@@ -125,7 +127,8 @@ static int by_edge(const void *a, const void *b) {
     return (one->first > other->first) - (one->first < other->first);
 }
 
-/* Passages in the order of their first edges; an edge runs along its passage where its flow is the lesser of a number and its opposite. */
+/* Passages in the order of their first edges; an edge runs along its passage where its flow is the lesser of a number
+ * and its opposite. */
 static void name_passages(struct judge_cave *cave, const uint64_t *flow, struct keyed *keys, size_t count) {
     for (size_t j = 0; j < count; j++) {
         if (j == 0 || keys[j].key != keys[j - 1].key) cave->passages[cave->passage_count++].first = keys[j].edge;
@@ -218,7 +221,8 @@ static bool turn_round(struct judge_cave *cave) {
     cave->passage_loops = malloc((all + 1) * sizeof *cave->passage_loops);
     if (cave->passage_loops == NULL) return false;
     for (size_t j = 0; j < all; j++) cave->passages[cave->loop_passages[j].of].loops++;
-    for (size_t p = 1; p < cave->passage_count; p++) cave->passages[p].at = cave->passages[p - 1].at + cave->passages[p - 1].loops;
+    for (size_t p = 1; p < cave->passage_count; p++)
+        cave->passages[p].at = cave->passages[p - 1].at + cave->passages[p - 1].loops;
     for (size_t p = 0; p < cave->passage_count; p++) cave->passages[p].loops = 0;
     for (size_t r = 0; r < cave->loop_count; r++) {
         for (size_t j = 0; j < cave->loops[r].passages; j++) {
@@ -241,10 +245,12 @@ static size_t count_loops(const struct judge_graph *g, size_t *parents) {
 
 static bool find_loops(struct judge_cave *cave) {
     size_t *parents = malloc((cave->survey->station_count + 2) * sizeof *parents);
-    size_t *weights = malloc((cave->passage_count + 1) * sizeof *weights), (*ends)[2] = malloc((cave->passage_count + 1) * sizeof *ends);
+    size_t *weights = malloc((cave->passage_count + 1) * sizeof *weights),
+           (*ends)[2] = malloc((cave->passage_count + 1) * sizeof *ends);
     bool good = parents != NULL && weights != NULL && ends != NULL;
     if (good) {
-        struct judge_graph g = {shrink(cave, parents, ends, weights), cave->passage_count, (const size_t(*)[2])ends, weights};
+        struct judge_graph g = {shrink(cave, parents, ends, weights), cave->passage_count, (const size_t(*)[2])ends,
+                                weights};
         cave->loop_count = count_loops(&g, parents);
         cave->loops = calloc(cave->loop_count + 1, sizeof *cave->loops);
         good = cave->loops != NULL && judge_cycles(&g, cave->loop_count, cave->loops, &cave->loop_passages);

@@ -9,6 +9,7 @@ struct stage {
     const struct judge_cave *cave;
     int16_t *samples;
     size_t at;
+    const struct judge_off *off; /* of the next reading */
     struct judge_vector *sums;
     double *misses, *scratch, *u;
 };
@@ -30,6 +31,24 @@ static const struct survey_leg *played_leg(const struct judge_cave *cave, size_t
 
 static bool is_played_fix(const struct judge_edge *e) { return e->kind == JUDGE_FIX && e->passage != JUDGE_NONE; }
 
+/* What the readings of a leg are off by. */
+static void note_offs(struct judge_cave *cave, const struct survey_leg *leg, size_t *count) {
+    for (size_t j = 0; j < leg->reading_count; j++) {
+        const struct survey_reading *r = &leg->readings[j];
+        if (judge_is_played(r)) cave->offs[(*count)++] = (struct judge_off){judge_sd_of(cave, r), judge_rounding_of(r)};
+    }
+}
+
+static bool note_all_offs(struct judge_cave *cave) {
+    size_t count = 0;
+    cave->offs = malloc((cave->samples / 2 + 1) * sizeof *cave->offs);
+    for (size_t j = 0; cave->offs != NULL && j < cave->edge_count; j++) {
+        const struct survey_leg *leg = played_leg(cave, j);
+        if (leg != NULL) note_offs(cave, leg, &count);
+    }
+    return cave->offs != NULL;
+}
+
 bool judge_count_samples(struct judge_cave *cave) {
     cave->trips = malloc((cave->survey->trip_count + 1) * sizeof *cave->trips);
     if (cave->trips == NULL) return false;
@@ -42,18 +61,19 @@ bool judge_count_samples(struct judge_cave *cave) {
         if (cave->trips[leg->trip] == JUDGE_NONE) cave->trips[leg->trip] = cave->trip_count++;
     }
     cave->samples += 2 * cave->trip_count;
-    return true;
+    return note_all_offs(cave);
 }
 
 /* The error of a leg's end, in metres. */
-static struct judge_vector error_of_leg(struct stage *s, const struct judge_edge *e, const struct survey_leg *leg, double trip) {
+static struct judge_vector error_of_leg(struct stage *s, const struct judge_edge *e, const struct survey_leg *leg,
+                                        double trip) {
     double values[JUDGE_MOST_READINGS], end[3];
     for (size_t j = 0; j < leg->reading_count; j++) {
         const struct survey_reading *r = &leg->readings[j];
         values[j] = r->value;
         if (!judge_is_played(r)) continue;
-        values[j] += judge_sd_of(s->cave, r) * gaussian(s);
-        values[j] += judge_rounding_of(r) * even(s);
+        values[j] += s->off->sd * gaussian(s);
+        values[j] += s->off++->rounding * even(s);
         if (judge_is_compass(r)) values[j] += trip;
     }
     survey_vector_of(leg, values, end);
@@ -78,6 +98,7 @@ static void play_legs(struct stage *s) {
     double trip_sd = cave->sigmas.given[JUDGE_TRIP] ? cave->sigmas.of[JUDGE_TRIP] : 0;
     memset(s->sums, 0, cave->passage_count * sizeof s->sums[0]);
     s->at = 0;
+    s->off = cave->offs;
     for (size_t j = 0; j < cave->edge_count; j++) {
         const struct survey_leg *leg = played_leg(cave, j);
         const struct judge_edge *e = &cave->edges[j];
@@ -122,7 +143,8 @@ static uint32_t go_to(jabulghi_record *record, uint64_t play, uint64_t pairs) {
     return jabulghi_skip(record, play * pairs);
 }
 
-uint32_t judge_play(const struct judge_cave *cave, const uint32_t n[6], uint64_t first, size_t count, struct judge_played *played) {
+uint32_t judge_play(const struct judge_cave *cave, const uint32_t n[6], uint64_t first, size_t count,
+                    struct judge_played *played) {
     jabulghi_record record;
     struct stage s = {.cave = cave};
     uint32_t number = jabulghi_seed(n[0], n[1], n[2], n[3], n[4], n[5], &record);

@@ -3,7 +3,8 @@
 #include <math.h>
 #include <stdlib.h>
 
-/* The chance that a chi-square of an even number of degrees of freedom is above x: exp(-y) (1 + y + y²/2 + ..), y = x / 2. */
+/* The chance that a chi-square of an even number of degrees of freedom is above x: exp(-y) (1 + y + y²/2 + ..), y = x
+ * / 2. */
 double judge_chi_above(size_t freedom, double x) {
     double y = x / 2, term = -y, sum = 0;
     if (!(x > 0)) return 1;
@@ -27,9 +28,11 @@ double judge_chi_quantile(size_t freedom, double probability) {
 /* The largest station error that is looked for, in metres. */
 #define MOST_STATION 100.0
 
-/* The station error that brings the misfit down to what is wanted: false position in its logarithm, the end that stays being halved (Illinois). */
+/* The station error that brings the misfit down to what is wanted: false position in its logarithm, the end that stays
+ * being halved (Illinois). */
 static double station_for(const struct judge_cave *cave, double wanted, double *matrix) {
-    double low = 1e-5, high = MOST_STATION, below = log(judge_misfit_with(cave, low, matrix) / wanted), above = log(judge_misfit_with(cave, high, matrix) / wanted);
+    double low = 1e-5, high = MOST_STATION, below = log(judge_misfit_with(cave, low, matrix) / wanted),
+           above = log(judge_misfit_with(cave, high, matrix) / wanted);
     if (!(below > 0)) return 0;
     if (!(above < 0)) return high;
     for (int j = 0; j < 60 && high / low > 1 + 1e-6; j++) {
@@ -49,12 +52,14 @@ bool judge_estimates(const struct judge_cave *cave, struct judge_verdict *v) {
     v->factor_without = n > 2 ? sqrt(fmax(q - cave->statistic, 0) / (double)(n - 2)) : 0;
     double *matrix = malloc((n * n + 2 * n + 1) * sizeof *matrix);
     if (matrix == NULL) return false;
-    v->station = (struct judge_estimate){station_for(cave, (double)n, matrix), station_for(cave, most, matrix), station_for(cave, least, matrix)};
+    v->station = (struct judge_estimate){station_for(cave, (double)n, matrix), station_for(cave, most, matrix),
+                                         station_for(cave, least, matrix)};
     free(matrix);
     return true;
 }
 
-/* The chance that a point around (shift, 0), of standard deviation 1 in both directions, is farther than a radius from the origin: strips. */
+/* The chance that a point around (shift, 0), of standard deviation 1 in both directions, is farther than a radius from
+ * the origin: strips. */
 static double chance_beyond(double shift, double radius) {
     enum { STRIPS = 400 };
     double sum = 0;

@@ -48,10 +48,12 @@ static void add_block(double *s, size_t n, size_t row, size_t column, double sig
 }
 
 /* Adds a passage's covariance to all pairs of its loops. */
-static void add_passage(const struct judge_cave *cave, const struct judge_passage *p, struct judge_spread block, double *s) {
+static void add_passage(const struct judge_cave *cave, const struct judge_passage *p, struct judge_spread block,
+                        double *s) {
     const struct judge_part *loops = cave->passage_loops + p->at;
     for (size_t i = 0; i < p->loops; i++) {
-        for (size_t j = 0; j < p->loops; j++) add_block(s, cave->size, loops[i].of, loops[j].of, loops[i].sign * loops[j].sign, block);
+        for (size_t j = 0; j < p->loops; j++)
+            add_block(s, cave->size, loops[i].of, loops[j].of, loops[i].sign * loops[j].sign, block);
     }
 }
 
@@ -87,7 +89,8 @@ static void add_up(const struct judge_cave *cave, double station, double *column
         block.north += other;
         add_passage(cave, &cave->passages[e->passage], block, s);
     }
-    for (size_t t = 0; cave->sigmas.given[JUDGE_TRIP] && t < cave->survey->trip_count; t++) add_trip(cave, t, column, s);
+    for (size_t t = 0; cave->sigmas.given[JUDGE_TRIP] && t < cave->survey->trip_count; t++)
+        add_trip(cave, t, column, s);
     for (size_t j = 0; j < cave->size; j++) s[j * cave->size + j] += LEAST_VARIANCE;
 }
 
@@ -133,7 +136,9 @@ struct judge_vector judge_pull(const struct judge_cave *cave, const struct judge
     return sum;
 }
 
-double judge_form(struct judge_spread s, struct judge_vector v) { return s.east * v.east * v.east + 2 * s.both * v.east * v.north + s.north * v.north * v.north; }
+double judge_form(struct judge_spread s, struct judge_vector v) {
+    return s.east * v.east * v.east + 2 * s.both * v.east * v.north + s.north * v.north * v.north;
+}
 
 struct judge_spread judge_inverse(struct judge_spread s) {
     double whole = s.east * s.north - s.both * s.both;
@@ -146,7 +151,9 @@ double judge_gain(struct judge_vector pull, struct judge_spread hold, struct jud
 
 double judge_best_gain(struct judge_vector pull, struct judge_spread hold, struct judge_vector *move) {
     struct judge_spread inverse = judge_inverse(hold);
-    if (move != NULL) *move = (struct judge_vector){-inverse.east * pull.east - inverse.both * pull.north, -inverse.both * pull.east - inverse.north * pull.north};
+    if (move != NULL)
+        *move = (struct judge_vector){-inverse.east * pull.east - inverse.both * pull.north,
+                                      -inverse.both * pull.east - inverse.north * pull.north};
     return judge_form(inverse, pull);
 }
 
@@ -191,7 +198,8 @@ static void add_lengths(struct judge_cave *cave) {
         const struct judge_edge *e = &cave->edges[j];
         if (e->kind != JUDGE_LEG || e->passage == JUDGE_NONE) continue;
         const struct judge_passage *p = &cave->passages[e->passage];
-        for (size_t k = 0; k < p->loops; k++) cave->loops[cave->passage_loops[p->at + k].of].length += hypot(e->vector.east, e->vector.north);
+        for (size_t k = 0; k < p->loops; k++)
+            cave->loops[cave->passage_loops[p->at + k].of].length += hypot(e->vector.east, e->vector.north);
     }
 }
 
@@ -212,6 +220,7 @@ static bool solve(struct judge_cave *cave) {
         judge_solved(cave, scratch, scratch + n, cave->u);
         cave->misfit = dot(scratch, cave->u, n);
         judge_passages(cave);
+        if (n > 2) cave->excess = fmax(1, (cave->misfit - cave->statistic) / (double)(n - 2));
         add_lengths(cave);
     }
     free(scratch);
@@ -238,6 +247,7 @@ struct judge_cave *judge_solve(const struct survey *s, const struct judge_sigmas
     if (cave == NULL) return NULL;
     cave->survey = s;
     cave->sigmas = *sigmas;
+    cave->excess = 1;
     bool good = judge_network(cave) && judge_count_samples(cave);
     if (good) judge_model(cave);
     if (good && solve(cave)) return cave;
@@ -255,5 +265,6 @@ void judge_free(struct judge_cave *cave) {
     free(cave->white);
     free(cave->u);
     free(cave->trips);
+    free(cave->offs);
     free(cave);
 }

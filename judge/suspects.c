@@ -42,7 +42,8 @@ static void find_suspects(const struct judge_cave *cave, struct judge_verdict *v
 }
 
 /* The statistic once a passage has moved; column and u have room for the size. */
-static double statistic_with(const struct judge_cave *cave, const struct judge_passage *p, struct judge_vector move, double *misses, double *u) {
+static double statistic_with(const struct judge_cave *cave, const struct judge_passage *p, struct judge_vector move,
+                             double *misses, double *u) {
     double worst = 0, *scratch = misses + cave->size;
     memset(misses, 0, cave->size * sizeof misses[0]);
     for (size_t k = 0; k < p->loops; k++) {
@@ -62,7 +63,8 @@ static double statistic_with(const struct judge_cave *cave, const struct judge_p
 /* Of more suspects than these what remains is not worked out. */
 #define MOST_CORRECTED 1000
 
-static bool find_what_remains(const struct judge_cave *cave, const struct judge_played *sorted, size_t plays, struct judge_verdict *v) {
+static bool find_what_remains(const struct judge_cave *cave, const struct judge_played *sorted, size_t plays,
+                              struct judge_verdict *v) {
     double *room = malloc((3 * cave->size + 1) * sizeof *room);
     size_t well = 0;
     if (room == NULL) return false;
@@ -75,7 +77,8 @@ static bool find_what_remains(const struct judge_cave *cave, const struct judge_
         s->remains = judge_share_of(statistic, sorted, plays);
         well += s->remains >= JUDGE_LIMIT;
     }
-    for (size_t j = 0; j < v->suspect_count; j++) v->suspects[j].others = well - (v->suspects[j].remains >= JUDGE_LIMIT);
+    for (size_t j = 0; j < v->suspect_count; j++)
+        v->suspects[j].others = well - (v->suspects[j].remains >= JUDGE_LIMIT);
     free(room);
     return true;
 }

@@ -4,7 +4,9 @@
 #include <stdlib.h>
 
 static int rising(double a, double b) { return (a > b) - (a < b); }
-static int by_passage(const void *a, const void *b) { return rising(((const struct judge_played *)a)->worst_passage, ((const struct judge_played *)b)->worst_passage); }
+static int by_passage(const void *a, const void *b) {
+    return rising(((const struct judge_played *)a)->worst_passage, ((const struct judge_played *)b)->worst_passage);
+}
 static int by_number(const void *a, const void *b) { return rising(*(const double *)a, *(const double *)b); }
 
 /* How many of the numbers, which rise by `step` bytes, are at least x; a part in 10^9 is left to rounding. */
@@ -24,7 +26,8 @@ double judge_share_of(double statistic, const struct judge_played *sorted, size_
 }
 
 /* Loops that are worse than the worst loop of all but 5 % of sound caves. */
-static bool find_bad_loops(struct judge_cave *cave, const struct judge_played *played, size_t plays, struct judge_verdict *v) {
+static bool find_bad_loops(struct judge_cave *cave, const struct judge_played *played, size_t plays,
+                           struct judge_verdict *v) {
     double *worst = malloc((plays + 1) * sizeof *worst);
     if (worst == NULL) return false;
     for (size_t j = 0; j < plays; j++) worst[j] = played[j].worst_loop;
@@ -38,7 +41,8 @@ static bool find_bad_loops(struct judge_cave *cave, const struct judge_played *p
     return true;
 }
 
-bool judge_verdict_of(struct judge_cave *cave, uint64_t first, struct judge_played *played, size_t plays, struct judge_verdict *v) {
+bool judge_verdict_of(struct judge_cave *cave, uint64_t first, struct judge_played *played, size_t plays,
+                      struct judge_verdict *v) {
     *v = (struct judge_verdict){.first = first, .plays = plays, .p = 1, .sound = true};
     if (cave->loop_count == 0) return true;
     if (!find_bad_loops(cave, played, plays, v)) return false;
@@ -54,11 +58,14 @@ bool judge_verdict_of(struct judge_cave *cave, uint64_t first, struct judge_play
 
 void judge_verdict_free(struct judge_verdict *v) { free(v->suspects); }
 
-struct judge_vector judge_smallest(const struct judge_cave *cave, const struct judge_verdict *v, const struct judge_edge *e) {
+struct judge_vector judge_smallest(const struct judge_cave *cave, const struct judge_verdict *v,
+                                   const struct judge_edge *e) {
     double length = hypot(e->vector.east, e->vector.north);
     if (e->passage == JUDGE_NONE || !(length > 0)) return (struct judge_vector){0, 0};
-    struct judge_vector along = {e->vector.east / length, e->vector.north / length}, across = {along.north, -along.east};
+    struct judge_vector along = {e->vector.east / length, e->vector.north / length},
+                        across = {along.north, -along.east};
     struct judge_spread hold = cave->passages[e->passage].hold;
     double chord = v->shows / sqrt(judge_form(hold, across)) / (2 * length);
-    return (struct judge_vector){v->shows / sqrt(judge_form(hold, along)), chord > 1 ? 0 : 2 * asin(chord) * (360 / TURN)};
+    return (struct judge_vector){v->shows / sqrt(judge_form(hold, along)),
+                                 chord > 1 ? 0 : 2 * asin(chord) * (360 / TURN)};
 }

@@ -35,9 +35,11 @@ double judge_bearing(struct judge_vector v) {
 
 /* The least and the largest standard deviation of an error among the legs, and whether *sd set all, or none. */
 struct judge_range judge_range_of(const struct judge_cave *cave, enum judge_error error) {
-    static const unsigned BITS[] = {1u << SURVEY_SD_TAPE, 1u << SURVEY_SD_COMPASS, 1u << SURVEY_SD_CLINO, 1u << SURVEY_SD_POSITION};
+    static const unsigned BITS[] = {1u << SURVEY_SD_TAPE, 1u << SURVEY_SD_COMPASS, 1u << SURVEY_SD_CLINO,
+                                    1u << SURVEY_SD_POSITION};
     struct judge_range range = {INFINITY, 0, true, true};
-    if (cave->sigmas.given[error]) return (struct judge_range){cave->sigmas.of[error], cave->sigmas.of[error], false, false};
+    if (cave->sigmas.given[error])
+        return (struct judge_range){cave->sigmas.of[error], cave->sigmas.of[error], false, false};
     for (size_t j = 0; j < cave->survey->leg_count; j++) {
         const struct survey_sd *sd = &cave->survey->legs[j].sd;
         double of[] = {sd->tape, sd->compass, sd->clino, sd->position / sqrt(2)};
@@ -52,11 +54,14 @@ struct judge_range judge_range_of(const struct judge_cave *cave, enum judge_erro
 const char *judge_source(const struct judge_cave *cave, enum judge_error error) {
     struct judge_range range = judge_range_of(cave, error);
     if (cave->sigmas.given[error]) return cave->sigmas.from;
-    return range.by_sd ? "*sd" : range.by_default ? "Survex's default" : "*sd in part, else Survex's default";
+    return range.by_sd ? "*sd" : range.by_default ? "Survex's defaults" : "*sd in part, else Survex's defaults";
 }
 
 static void add_error(const struct judge_cave *cave, enum judge_error error, growing *to) {
-    static const struct { const char *name, *unit; double scale; } NAMES[] = {{"tape", "mm", 1000}, {"compass", "degrees", 1}, {"clino", "degrees", 1}, {"stations", "mm", 1000}};
+    static const struct {
+        const char *name, *unit;
+        double scale;
+    } NAMES[] = {{"tape", "mm", 1000}, {"compass", "degrees", 1}, {"clino", "degrees", 1}, {"stations", "mm", 1000}};
     struct judge_range range = judge_range_of(cave, error);
     double low = range.low * NAMES[error].scale, high = range.high * NAMES[error].scale;
     add(to, "%s %.3g", NAMES[error].name, low);
@@ -76,16 +81,21 @@ static size_t count_points(const struct judge_cave *cave) {
 
 static void tell_errors(const struct judge_cave *cave, growing *to) {
     bool alike = true;
-    for (int j = 1; j <= JUDGE_STATION; j++) alike = alike && strcmp(judge_source(cave, (enum judge_error)j), judge_source(cave, JUDGE_TAPE)) == 0;
+    for (int j = 1; j <= JUDGE_STATION; j++)
+        alike = alike && strcmp(judge_source(cave, (enum judge_error)j), judge_source(cave, JUDGE_TAPE)) == 0;
     add(to, "errors: ");
     for (int j = 0; j <= JUDGE_STATION; j++) {
         add(to, "%s", j == 0 ? "" : ", ");
         add_error(cave, (enum judge_error)j, to);
         if (!alike) add(to, " (%s)", judge_source(cave, (enum judge_error)j));
     }
-    if (count_points(cave) > 0) add(to, ", fixed points %g m (--sigma fix=..)", cave->sigmas.given[JUDGE_POINT] ? cave->sigmas.of[JUDGE_POINT] : JUDGE_POINT_ERROR);
+    if (count_points(cave) > 0)
+        add(to, ", fixed points %g m",
+            cave->sigmas.given[JUDGE_POINT] ? cave->sigmas.of[JUDGE_POINT] : JUDGE_POINT_ERROR);
     if (cave->sigmas.given[JUDGE_TRIP]) add(to, ", a trip's compass %.3g degrees", cave->sigmas.of[JUDGE_TRIP]);
-    if (alike) add(to, " (from %s%s)", judge_source(cave, JUDGE_TAPE), strcmp(judge_source(cave, JUDGE_TAPE), "--sigma") == 0 ? "" : "; --sigma replaces them");
+    if (alike)
+        add(to, " (%s%s)", judge_source(cave, JUDGE_TAPE),
+            strcmp(judge_source(cave, JUDGE_TAPE), "--sigma") == 0 ? "" : "; --sigma replaces them");
     add(to, "\n");
 }
 
@@ -113,9 +123,13 @@ static void tell_verdict(const struct judge_verdict *v, growing *to) {
     else judge_thousands(to, v->beyond);
     add(to, " of ");
     judge_thousands(to, v->plays);
-    add(to, " sound caves like this the worst leg looks as bad as here.\n");
-    add(to, v->sound ? "That is no sign of a blunder.\n" : "That is below 5 %%: a blunder, or your errors are larger than these.\n");
-    if (v->too_well) add(to, "It closes better than all but 1 in 1,000 sound caves: your errors are smaller than these, or readings were made to fit.\n");
+    add(to, " sound caves like this %s as here.\n",
+        v->beyond == 0 ? "does the worst leg look as bad" : "the worst leg looks as bad");
+    add(to, v->sound ? "That is no sign of a blunder.\n"
+                     : "That is below 5 %%: a blunder, or your errors are larger than these.\n");
+    if (v->too_well)
+        add(to, "It closes better than all but 1 in 1,000 sound caves: your errors are smaller than these, or readings "
+                "were made to fit.\n");
 }
 
 /* ---- Suspects */
@@ -130,7 +144,8 @@ static void tell_place(const struct judge_cave *cave, const struct judge_edge *e
 
 struct judge_place judge_place_of(const struct judge_cave *cave, const struct judge_edge *e) {
     const struct survey *s = cave->survey;
-    struct judge_place place = {0, 0, e->from < s->station_count ? s->stations[e->from].name : "", s->stations[e->to].name};
+    struct judge_place place = {0, 0, e->from < s->station_count ? s->stations[e->from].name : "",
+                                s->stations[e->to].name};
     switch (e->kind) {
     case JUDGE_LEG: place.file = s->legs[e->index].file, place.line = s->legs[e->index].line; break;
     case JUDGE_EQUATE: place.file = s->equates[e->index].file, place.line = s->equates[e->index].line; break;
@@ -146,7 +161,8 @@ static const char *written(const struct survey_leg *leg, enum survey_quantity wh
 }
 
 static void tell_readings(const struct survey_leg *leg, growing *to) {
-    const char *tape = written(leg, SURVEY_TAPE), *compass = written(leg, SURVEY_COMPASS), *clino = written(leg, SURVEY_CLINO);
+    const char *tape = written(leg, SURVEY_TAPE), *compass = written(leg, SURVEY_COMPASS),
+               *clino = written(leg, SURVEY_CLINO);
     if (tape != NULL) add(to, ", %s", tape);
     if (compass != NULL) add(to, " at %s", compass);
     if (clino != NULL) add(to, ", %s", clino);
@@ -165,8 +181,8 @@ void judge_blunder_words(const struct judge_explanation *e, growing *to) {
     case JUDGE_ANY_DISTANCE: add(to, "%.2f m too %s", fabs(by), by < 0 ? "long" : "short"); break;
     case JUDGE_ANY_BEARING: add(to, "the bearing %.1f degrees too %s", fabs(by), by < 0 ? "large" : "small"); break;
     case JUDGE_LEFT_OUT: add(to, "a leg left out, %.2f m at %.0f", far, judge_bearing(e->move)); break;
-    case JUDGE_EQUATED: add(to, "equated wrongly: the second is %.2f m at %.0f from the first", far, judge_bearing(e->move)); break;
-    case JUDGE_FIXED: add(to, "fixed wrongly, by %.2f m at %.0f", far, judge_bearing(e->move)); break;
+    case JUDGE_EQUATED: add(to, "equated wrongly, %.2f m at %.0f from each other,", far, judge_bearing(e->move)); break;
+    case JUDGE_FIXED: add(to, "fixed wrongly by %.2f m at %.0f", far, judge_bearing(e->move)); break;
     }
 }
 
@@ -190,10 +206,11 @@ static void tell_suspect(const struct judge_cave *cave, const struct judge_verdi
     const struct judge_edge *e = &cave->edges[s->edge];
     char letter = letter_of(cave, v, number);
     tell_place(cave, e, to);
-    if (e->kind == JUDGE_LEG && s->best.blunder != JUDGE_LEFT_OUT) tell_readings(&cave->survey->legs[e->index], to);
+    if (s->best.blunder == JUDGE_LEFT_OUT) add(to, " or near it");
+    else if (e->kind == JUDGE_LEG) tell_readings(&cave->survey->legs[e->index], to);
     add(to, ": ");
     judge_blunder_words(&s->best, to);
-    add(to, " would explain it. ");
+    add(to, " would explain it.\n      ");
     percent(to, s->share);
     add(to, " sure; corrected, ");
     percent(to, s->remains);
@@ -208,22 +225,28 @@ static void tell_passages(const struct judge_cave *cave, const struct judge_verd
     for (size_t j = 0; j < printed; j++) {
         size_t passage = cave->edges[v->suspects[j].edge].passage, last = cave->passages[passage].first;
         if (letter_of(cave, v, j) != told) continue;
-        for (size_t e = last; e < cave->edge_count; e++) last = cave->edges[e].passage == passage && cave->edges[e].kind == JUDGE_LEG ? e : last;
-        struct judge_place from = judge_place_of(cave, &cave->edges[cave->passages[passage].first]), till = judge_place_of(cave, &cave->edges[last]);
+        for (size_t e = last; e < cave->edge_count; e++)
+            last = cave->edges[e].passage == passage && cave->edges[e].kind == JUDGE_LEG ? e : last;
+        struct judge_place from = judge_place_of(cave, &cave->edges[cave->passages[passage].first]),
+                           till = judge_place_of(cave, &cave->edges[last]);
         add(to, "[%c]: one passage, ", told++);
         counted(to, cave->passages[passage].legs, "leg", "legs");
-        add(to, " from line %zu to line %zu. No loop tells its legs apart, only the size of a blunder does.\n", from.line, till.line);
+        add(to, " from line %zu to line %zu. No loop tells its legs apart, only the size of a blunder does.\n",
+            from.line, till.line);
     }
 }
 
 static void tell_suspects(const struct judge_cave *cave, const struct judge_verdict *v, growing *to) {
     size_t printed = 0;
     add(to, "Look at these legs first:\n");
-    while (printed < v->suspect_count && printed < MOST_SUSPECTS && (printed == 0 || v->suspects[printed].share >= LEAST_SHARE)) tell_suspect(cave, v, printed++, to);
+    while (printed < v->suspect_count && printed < MOST_SUSPECTS &&
+           (printed == 0 || v->suspects[printed].share >= LEAST_SHARE))
+        tell_suspect(cave, v, printed++, to);
     tell_passages(cave, v, printed, to);
     const struct judge_suspect *first = &v->suspects[0];
     if (first->remains < JUDGE_LIMIT) {
-        add(to, "Corrected, the first leaves the cave unsound: there may be two blunders, or your errors are larger.\n");
+        add(to,
+            "Corrected, the first leaves the cave unsound: there may be two blunders, or your errors are larger.\n");
     } else {
         counted(to, first->others, "other correction", "other corrections");
         add(to, " would make the cave sound, too.\n");
@@ -235,30 +258,45 @@ static void tell_suspects(const struct judge_cave *cave, const struct judge_verd
 static void tell_loop(const struct judge_cave *cave, size_t number, growing *to) {
     const struct judge_loop *loop = &cave->loops[number];
     double far = hypot(loop->miss.east, loop->miss.north);
-    struct judge_place place = judge_place_of(cave, &cave->edges[cave->passages[cave->loop_passages[loop->at].of].first]);
-    add(to, "%5zu %5zu %9.1f %8.2f %7.2f %8.2f %8.2f %8.2g  %s  %s:%zu\n", number + 1, loop->legs, loop->length, far, loop->length > 0 ? 100 * far / loop->length : 0,
-        loop->miss.east, loop->miss.north, loop->p, loop->bad ? "bad" : loop->too_well ? "too well" : "", cave->survey->files[place.file].name, place.line);
+    struct judge_place place =
+        judge_place_of(cave, &cave->edges[cave->passages[cave->loop_passages[loop->at].of].first]);
+    add(to, "%5zu %5zu %9.1f %8.2f %7.2f %8.2f %8.2f %8.2g  %s  %s:%zu\n", number + 1, loop->legs, loop->length, far,
+        loop->length > 0 ? 100 * far / loop->length : 0, loop->miss.east, loop->miss.north, loop->p,
+        loop->bad        ? "bad"
+        : loop->too_well ? "too well"
+                         : "",
+        cave->survey->files[place.file].name, place.line);
 }
 
 static void tell_loops(const struct judge_cave *cave, const struct judge_verdict *v, bool all, growing *to) {
     size_t told = 0;
-    add(to, "Loops: ");
-    judge_thousands(to, cave->loop_count - v->bad_loops);
-    add(to, " of ");
-    judge_thousands(to, cave->loop_count);
-    add(to, " are sound%s\n", !all && v->bad_loops == 0 ? "." : ":");
+    if (cave->loop_count == 1) {
+        add(to, "The loop is %s", v->bad_loops == 0 ? "sound" : "not sound");
+    } else {
+        add(to, "Loops: ");
+        judge_thousands(to, cave->loop_count - v->bad_loops);
+        add(to, " of ");
+        judge_thousands(to, cave->loop_count);
+        add(to, " are sound");
+    }
+    add(to, !all && v->bad_loops == 0 ? ".\n" : ":\n");
     if (!all && v->bad_loops == 0) return;
-    add(to, " loop  legs    length   misses     %%     east    north        p  (m; p: sound loops that miss by as much)\n");
+    add(to,
+        " loop  legs    length   misses     %%     east    north        p  (m; p: sound loops that miss by as much)\n");
     for (size_t r = 0; r < cave->loop_count; r++) {
         if (!all && (!cave->loops[r].bad || told++ >= MOST_LOOPS)) continue;
         tell_loop(cave, r, to);
     }
-    if (!all) add(to, "--loops lists them all.\n");
+    if (!all && cave->loop_count > 1) add(to, "--loops lists them all.\n");
 }
 
 static void tell_too_well(const struct judge_cave *cave, growing *to) {
-    for (size_t r = 0; r < cave->loop_count; r++) {
-        if (cave->loops[r].too_well) add(to, "Loop %zu closes better than all but 1 in 1,000 sound loops: by chance, or its readings were made to fit.\n", r + 1);
+    for (size_t r = 0; cave->loop_count > 1 && r < cave->loop_count; r++) {
+        if (cave->loops[r].too_well)
+            add(to,
+                "Loop %zu closes better than all but 1 in 1,000 sound loops: by chance, or its readings were made to "
+                "fit.\n",
+                r + 1);
     }
 }
 
@@ -268,15 +306,21 @@ static void tell_sigmas(const struct judge_cave *cave, const struct judge_verdic
     const struct judge_estimate *f = &v->factor, *s = &v->station;
     struct judge_range given = judge_range_of(cave, JUDGE_STATION);
     bool agrees = f->low <= 1 && f->high >= 1;
-    add(to, "Your loops %s these errors: they fit ", agrees ? "agree with" : f->low > 1 ? "want more than" : "want less than");
+    add(to, "Your loops %s these errors: they fit ",
+        agrees       ? "agree with"
+        : f->low > 1 ? "want more than"
+                     : "want less than");
     add(to, "%.0f mm a station (%.0f to %.0f)", 1000 * s->value, 1000 * s->low, 1000 * s->high);
     if (!agrees) add(to, ", not %.0f", 1000 * given.high);
     add(to, ", or all errors times %.2f (%.2f to %.2f).", f->value, f->low, f->high);
-    if (!v->sound && v->factor_without > 0) add(to, " Without the leg that explains most: times %.2f.", v->factor_without);
+    if (!v->sound && v->factor_without > 0)
+        add(to, " Without the leg that explains most: times %.2f.", v->factor_without);
     add(to, "\n");
 }
 
-static int rising(const void *a, const void *b) { return (*(const double *)a > *(const double *)b) - (*(const double *)a < *(const double *)b); }
+static int rising(const void *a, const void *b) {
+    return (*(const double *)a > *(const double *)b) - (*(const double *)a < *(const double *)b);
+}
 
 /* Half of the legs, and nine of ten, show blunders from these sizes on. */
 static void tell_sizes(const struct judge_cave *cave, const struct judge_verdict *v, growing *to) {
@@ -294,7 +338,11 @@ static void tell_sizes(const struct judge_cave *cave, const struct judge_verdict
         qsort(metres, count, sizeof metres[0], rising);
         qsort(degrees, count, sizeof degrees[0], rising);
     }
-    if (count > 0) add(to, "A blunder shows (4 times in 5) from %.1f m or %.0f degrees on in half of the legs, from %.1f m or %.0f degrees on in nine of ten.\n", metres[count / 2], degrees[count / 2], metres[count * 9 / 10], degrees[count * 9 / 10]);
+    if (count > 0)
+        add(to,
+            "A blunder shows (4 times in 5) from %.1f m or %.0f degrees on in half of the legs, from %.1f m or %.0f "
+            "degrees on in nine of ten.\n",
+            metres[count / 2], degrees[count / 2], metres[count * 9 / 10], degrees[count * 9 / 10]);
     free(metres);
     free(degrees);
 }
@@ -307,7 +355,8 @@ static void tell_unseen(const struct judge_cave *cave, growing *to) {
     add(to, " in no loop: nothing is known of them.\n");
 }
 
-void judge_words(const struct judge_cave *cave, const struct judge_verdict *v, const struct judge_told *told, growing *to) {
+void judge_words(const struct judge_cave *cave, const struct judge_verdict *v, const struct judge_told *told,
+                 growing *to) {
     const uint32_t *n = told->seeds;
     tell_cave(cave, told->name, to);
     if (cave->loop_count == 0) {
@@ -322,5 +371,8 @@ void judge_words(const struct judge_cave *cave, const struct judge_verdict *v, c
     tell_unseen(cave, to);
     tell_sizes(cave, v, to);
     add(to, "Plan only: heights are not judged. The noise is proved, the check is not.\n");
-    add(to, "(seeds (a %" PRIu32 " %" PRIu32 " %" PRIu32 ") (b %" PRIu32 " %" PRIu32 " %" PRIu32 ")), plays %" PRIu64 " to %" PRIu64 "\n", n[0], n[1], n[2], n[3], n[4], n[5], v->first, v->first + v->plays - 1);
+    add(to,
+        "(seeds (a %" PRIu32 " %" PRIu32 " %" PRIu32 ") (b %" PRIu32 " %" PRIu32 " %" PRIu32 ")), plays %" PRIu64
+        " to %" PRIu64 "\n",
+        n[0], n[1], n[2], n[3], n[4], n[5], v->first, v->first + v->plays - 1);
 }
