@@ -4,6 +4,7 @@
 
 #define _POSIX_C_SOURCE 200809L
 
+#include "growing.h"
 #include "jabulghi.h"
 #include <stdbool.h>
 #include <sys/types.h>
@@ -15,11 +16,11 @@ enum { DONE = 0, REFUSED = 1, TROUBLE = 2, ENOUGH = 3 };
 /* The shots that a job takes, and room for a name of it, its end included. */
 enum { MOST_SHOTS = 500, NAME_ROOM = 13 };
 
+/* No loop of a survey in particular: its only one. */
+#define ANY_LOOP UINT64_MAX
+
 /* A text as it was read, under the name that messages give it. */
 typedef struct { const char *name; uint8_t *bytes; size_t length; } text;
-
-/* A text that grows. Once memory has run out it has failed, and nothing is added. */
-typedef struct { char *bytes; size_t length, room; bool failed; } growing;
 
 /* What a refusal is about: each has sentences of its own. */
 typedef enum { JOB, SURVEY, LISTING, RECORD } subject;
@@ -32,6 +33,7 @@ typedef enum {
     NO_COMMAND, NO_SUCH_COMMAND, NO_SUCH_OPTION, LACKS_VALUE, TAKES_NO_VALUE, GIVEN_TWICE, ONE_FILE, NO_FILE, NEEDS, EITHER,
     NO_NUMBER, NUMBER_ABOVE, NO_BITS, NO_SEEDS, NO_SIGMA, NO_SIGMAS, NO_WHOLE_MM, NO_STEPS, TOO_FEW_STEPS, TOO_MUCH, READING, SEEDS_DRAWN,
     NO_SHOT, STARTS_ELSEWHERE, NO_LOOP, PART_CLOSES, NO_RUN, NO_JOBS, NO_MISS, NO_PART, OTHER_PART, SAME_RUNS, MISSING_RUNS, NOT_MERGED, LACKS_FILE,
+    NO_ERRORS, NO_TRIP, FEW_PLAYS, OTHER_PLAYS,
     MODELLED, ALL_ALIKE, ON_A_LINE, VERDICT, NO_BLUNDER, BLUNDER_POSSIBLE, BLUNDER_LIKELY, CANDIDATES, NO_CANDIDATE,
 } saying;
 
@@ -51,6 +53,7 @@ int noise(int count, char **words);
 int seeds(int count, char **words);
 int job(int count, char **words);
 int tolerance(int count, char **words);
+int check(int count, char **words);
 
 /* help.c: the help on one command, or on all where there is no such command. */
 int help_on(const char *command);
@@ -64,6 +67,7 @@ int seeds_of(const option *given, uint32_t numbers[6]);
 int sigma_of(const option *given, measure *sigma);
 int sigmas_of(const option *given, uint32_t sigma[2]);
 int miss_of(const option *given, double miss[2]);
+const char *read_measure(const char *at, measure *read);
 
 /* seeds.c: six numbers from the system's randomness that the library accepts as seeds, and their line in a job. */
 int draw_seeds(uint32_t numbers[6]);
@@ -89,19 +93,17 @@ bool has_bad_tape(const bad_line *line);
 bool has_long_tape(const bad_line *line);
 bool has_large_compass(const bad_line *line);
 
-/* growing.c: room for so many more elements of an array that has a count of them; words added to a text, as printf would print them. */
-bool room_for(size_t more, void *array, size_t count, size_t *room, size_t size);
-void add(growing *to, const char *format, ...);
-
 /* reading.c: reads a whole file, or standard input where the name is "-"; or the one file that the words name, none being standard input. */
 int read_text(const char *name, text *read);
 int read_named(int count, char **words, text *read);
 
-/* writing.c: writes to standard output, or to the file that was named; says on standard error what went wrong. */
+/* writing.c: writes to standard output, or to the file that was named; says on standard error what went wrong. A text that grew is written to a file
+ * of that name, or to the output for NULL, and emptied. */
 void write_to(const option *given);
 int put(const void *bytes, size_t length);
 int put_words(const char *format, ...);
 int put_file(const char *name, const void *bytes, size_t length);
+int put_grown(const char *name, growing *written);
 int finish(int status);
 int trouble(const char *what, const char *why);
 
@@ -109,6 +111,10 @@ int trouble(const char *what, const char *why);
 void progress_start(const char *counted, bool elsewhere);
 void progress_show(uint64_t done, uint64_t all);
 void progress_end(uint64_t done, uint64_t all);
+
+/* threads.c: pieces of work, so many at a time, by so many threads; the number of the first that failed. */
+typedef struct { uint32_t (*run)(void *context, uint64_t start, size_t count); void *context; uint64_t pieces, stretch, threads; } labour;
+uint32_t by_threads(const labour *work, const char *counted);
 
 /* system.c: what Linux and Windows do in different ways. Names are UTF-8. */
 void system_start(void);

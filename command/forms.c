@@ -72,13 +72,16 @@ static const char *decimal(const char *at, uint64_t *millionths) {
 }
 
 /* A decimal and its unit; the place after them, or NULL. */
-static const char *read_measure(const char *at, measure *read) {
-    static const struct { const char *word; unit in; } UNITS[] = {{"mm", MILLIMETRES}, {"deg", DEGREES}, {"steps", STEPS}, {"", NO_UNIT}};
+const char *read_measure(const char *at, measure *read) {
+    static const struct { const char *word; unit in; uint64_t scale; } UNITS[] = {
+        {"mm", MILLIMETRES, 1}, {"cm", MILLIMETRES, 10}, {"m", MILLIMETRES, 1000}, {"deg", DEGREES, 1}, {"steps", STEPS, 1}, {"", NO_UNIT, 1}};
     at = decimal(at, &read->millionths);
     if (at == NULL) return NULL;
+    at += *at == ' ';
     size_t j = 0;
     while (strncmp(at, UNITS[j].word, strlen(UNITS[j].word)) != 0) j++;
     read->in = UNITS[j].in;
+    read->millionths *= UNITS[j].scale;
     return at + strlen(UNITS[j].word);
 }
 

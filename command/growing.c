@@ -1,5 +1,5 @@
 /* Arrays and texts that grow. */
-#include "command.h"
+#include "growing.h"
 #include <stdarg.h>
 #include <stdio.h>
 #include <stdlib.h>

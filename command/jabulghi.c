@@ -3,7 +3,7 @@
 #include <string.h>
 
 static const struct { const char *name; int (*run)(int count, char **words); } COMMANDS[] = {
-    {"list", list}, {"legs", legs}, {"misses", misses}, {"noise", noise}, {"seeds", seeds}, {"level", level}, {"job", job}, {"tolerance", tolerance},
+    {"list", list}, {"legs", legs}, {"misses", misses}, {"noise", noise}, {"seeds", seeds}, {"level", level}, {"job", job}, {"tolerance", tolerance}, {"check", check},
 };
 
 static bool is(const char *word, const char *name, const char *letter) { return strcmp(word, name) == 0 || strcmp(word, letter) == 0; }

@@ -47,19 +47,21 @@ static int write_job(const survey *s) {
     uint8_t *text = job_text(s, s->sigma, &length);
     if (text == NULL) return trouble(s->source.name, strerror(ENOMEM));
     uint32_t number = jabulghi_list(text, length, listing, sizeof listing, &line, &listed);
-    if (number != JABULGHI_OK) return refuse(&s->source, s->about, line_in_source(s, line), number);
+    if (number != JABULGHI_OK) return refuse_shot(s, line, number);
     read_shots(text, length, false, &t);
     is_loop(s->source.name, &t);
     return put(text, length);
 }
 
 int job(int count, char **words) {
-    option options[] = {{"--sigma", false, NULL}, {"--seeds", false, NULL}, {"-o", false, NULL}};
+    option options[] = {{"--sigma", false, NULL}, {"--seeds", false, NULL}, {"-o", false, NULL}, {"--loop", false, NULL}};
+    wanted_loop wanted = {ANY_LOOP, false, true};
     text source;
     survey s;
-    int status = read_options(&count, words, options, 3);
+    int status = read_options(&count, words, options, 4);
+    if (status == DONE) status = number_of(&options[3], ANY_LOOP - 1, &wanted.number);
     if (status == DONE) status = read_named(count, words, &source);
-    if (status == DONE) status = take_survey(source, &s);
+    if (status == DONE) status = take_survey(source, wanted, &s);
     if (status == DONE) status = settings_of(&options[1], &options[0], "job", &s);
     if (status != DONE) return status;
     write_to(&options[2]);

@@ -66,7 +66,7 @@ static int add_part(tally *all, const tally *more) {
 
 /* The loop of the parts; its own miss is tested and found again. */
 static int take_loop(const part *first, const tally *all, task *t) {
-    int status = take_survey(first->job, &t->s);
+    int status = take_survey(first->job, (wanted_loop){ANY_LOOP, true, false}, &t->s);
     t->miss = first->miss;
     t->given = true;
     t->first = all->first;

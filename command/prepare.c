@@ -13,7 +13,7 @@ static int miss_without_noise(task *t) {
     if (quiet == NULL) return trouble(t->s.source.name, strerror(ENOMEM));
     uint32_t number = jabulghi_play(quiet, length, 0, &t->own, 1, &line);
     free(quiet);
-    return number == JABULGHI_OK ? DONE : refuse(&t->s.source, t->s.about, line_in_source(&t->s, line), number);
+    return number == JABULGHI_OK ? DONE : refuse_shot(&t->s, line, number);
 }
 
 /* Where the last run has room, all have. */

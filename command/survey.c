@@ -1,5 +1,6 @@
 /* Takes a text for what it is, a job, a listing or a Survex survey, and makes a job's shot lines of it. */
-#include "traverse.h"
+#include "cave.h"
+#include "level.h"
 #include <errno.h>
 #include <inttypes.h>
 #include <stdio.h>
@@ -11,7 +12,7 @@ static bool starts_with(const text *t, const char *start) { return t->length >= 
 static bool ends_with(const char *name, const char *end) { return strlen(name) >= strlen(end) && strcmp(name + strlen(name) - strlen(end), end) == 0; }
 
 /* What a text is: as its name says, or else its first line. */
-static subject kind_of(const text *t) {
+subject kind_of(const text *t) {
     if (ends_with(t->name, ".job")) return JOB;
     if (ends_with(t->name, ".listing")) return LISTING;
     if (ends_with(t->name, ".svx")) return SURVEY;
@@ -37,23 +38,90 @@ static int take_job(survey *s) {
     return DONE;
 }
 
-int shots_of(const text *from, uint8_t **shots, size_t *length) {
-    size_t line, room = 3 * from->length + 1; /* a leg of 10 bytes gives a shot line of at most 21, and a longer one at most as many bytes more */
+/* The shot lines of a strict survey, in room from malloc; the number of the refusal. */
+static uint32_t strict_shots(const text *from, uint8_t **shots, size_t *length, size_t *line) {
+    size_t room = 3 * from->length + 1; /* a leg of 10 bytes gives a shot line of at most 21, and a longer one at most as many bytes more */
     *shots = malloc(room);
+    return *shots == NULL ? JABULGHI_OK : jabulghi_legs(from->bytes, from->length, *shots, room, line, length);
+}
+
+int shots_of(const text *from, uint8_t **shots, size_t *length) {
+    size_t line;
+    uint32_t number = strict_shots(from, shots, length, &line);
     if (*shots == NULL) return trouble(from->name, strerror(ENOMEM));
-    uint32_t number = jabulghi_legs(from->bytes, from->length, *shots, room, &line, length);
     return number == JABULGHI_OK ? DONE : refuse(from, SURVEY, line, number);
 }
 
-/* A survey's legs; of more than a job may have, one more than those, so that the library refuses it. */
-static int take_legs(survey *s) {
+/* ---- Ordinary surveys */
+
+static bool keep_origins(const levelling *l, survey *s) {
+    s->origin_count = l->walked.count;
+    s->origins = calloc(s->origin_count, sizeof *s->origins);
+    for (size_t j = 0; s->origins != NULL && j < s->origin_count; j++) {
+        const struct survey_leg *leg = &l->s->legs[l->walked.steps[j].leg];
+        bool backwards = l->walked.steps[j].backwards;
+        s->origins[j] = (origin){l->s->stations[backwards ? leg->to : leg->from].name, l->s->stations[backwards ? leg->from : leg->to].name,
+                                 l->s->files[leg->file].name, leg->line};
+    }
+    return s->origins != NULL;
+}
+
+/* The shots of a loop that was found, by the strict text that `level` writes of it. */
+static int take_walk(const levelling *l, bool renamed, survey *s) {
+    growing strict = {NULL, 0, 0, false}, said = {NULL, 0, 0, false};
+    if (renamed) say_notes(l, &said);
+    else add(&said, "jabulghi: level, which reads the survey, is not proved\n");
+    put_legs(l, &strict);
+    if (strict.failed || said.failed || !keep_origins(l, s)) return trouble(s->source.name, strerror(ENOMEM));
+    fwrite(said.bytes, 1, said.length, stderr);
+    int status = shots_of(&(text){s->source.name, (uint8_t *)strict.bytes, strict.length}, &s->shots, &s->length);
+    free(strict.bytes), free(said.bytes);
+    return status;
+}
+
+/* Tells why the loop that is wanted is not there. */
+static int refuse_loop(levelling *l, const char *name) {
+    growing said = {NULL, 0, 0, false};
+    say_refusal(l, &said);
+    if (l->why == NO_MEMORY || said.failed) return trouble(name, strerror(ENOMEM));
+    fwrite(said.bytes, 1, said.length, stderr);
+    free(said.bytes);
+    return REFUSED;
+}
+
+/* The survey that was read stays, for its names. */
+static int take_ordinary(survey *s, wanted_loop wanted) {
+    levelling l;
+    const struct survey *cave = survey_read(s->source.name, s->source.bytes, s->source.length, fetch_of(&s->source), NULL);
+    if (cave == NULL) return trouble(s->source.name, strerror(ENOMEM));
+    tell_messages(cave);
+    if (cave->trouble_count > 0) return REFUSED;
+    bool found = level_survey(cave, wanted.number, wanted.needed, &l);
+    int status = found ? take_walk(&l, wanted.renamed, s) : refuse_loop(&l, s->source.name);
+    free_levelling(&l);
+    return status;
+}
+
+/* ---- Strict surveys */
+
+/* Of more legs than a job may have, one more than those, so that the library refuses it. */
+static void cut_shots(survey *s) {
     size_t shots = 0;
-    int status = shots_of(&s->source, &s->shots, &s->length);
-    for (size_t at = 0; status == DONE && at < s->length; at++) {
+    for (size_t at = 0; at < s->length; at++) {
         shots += s->shots[at] == '\n';
         if (shots > MOST_SHOTS) s->length = at + 1;
     }
-    return status;
+}
+
+/* A survey that is not strict is read as an ordinary one. */
+static int take_legs(survey *s, wanted_loop wanted) {
+    size_t line;
+    uint32_t number = strict_shots(&s->source, &s->shots, &s->length, &line);
+    if (s->shots == NULL) return trouble(s->source.name, strerror(ENOMEM));
+    if (number == JABULGHI_OK && wanted.number == ANY_LOOP) return cut_shots(s), DONE;
+    free(s->shots);
+    s->shots = NULL;
+    return take_ordinary(s, wanted);
 }
 
 /* A listing's rows as shot lines. */
@@ -74,9 +142,9 @@ static int take_listing(survey *s) {
     return DONE;
 }
 
-int take_survey(text source, survey *taken) {
-    *taken = (survey){source, kind_of(&source), NULL, 0, {0}, {0}};
-    return taken->about == JOB ? take_job(taken) : taken->about == LISTING ? take_listing(taken) : take_legs(taken);
+int take_survey(text source, wanted_loop wanted, survey *taken) {
+    *taken = (survey){source, kind_of(&source), NULL, 0, {0}, {0}, NULL, 0};
+    return taken->about == JOB ? take_job(taken) : taken->about == LISTING ? take_listing(taken) : take_legs(taken, wanted);
 }
 
 /* Whether a line of a Survex text has something besides blanks and a comment. */
@@ -97,7 +165,20 @@ static size_t line_of_leg(const text *t, size_t leg) {
     return 0;
 }
 
-size_t line_in_source(const survey *s, size_t line) {
+/* The line of the text that a line of its job stands for. */
+static size_t line_in_source(const survey *s, size_t line) {
     if (s->about == JOB || line < 3) return line;
     return s->about == LISTING ? line - 1 : line_of_leg(&s->source, line - 2);
+}
+
+origin origin_of(const survey *s, const traverse *t, size_t leg) {
+    if (leg < s->origin_count) return s->origins[leg];
+    return (origin){t->shots[leg].from, t->shots[leg].to, s->source.name, line_in_source(s, leg + 3)};
+}
+
+int refuse_shot(const survey *s, size_t line, uint32_t number) {
+    if (s->origins == NULL || line < 3 || line - 3 >= s->origin_count) return refuse(&s->source, s->about, line_in_source(s, line), number);
+    text from = s->source;
+    from.name = s->origins[line - 3].file;
+    return refuse(&from, s->about, s->origins[line - 3].line, number);
 }

@@ -6,11 +6,11 @@
 #include <string.h>
 
 /* What the words of the command line may ask for, in this order. */
-enum { SIGMA, SEEDS, RUNS, FIRST, RUN, MISS, THREADS, CSV, JSON, SVG, MERGE, INTO, ASKED };
+enum { SIGMA, SEEDS, RUNS, FIRST, RUN, MISS, THREADS, LOOP, CSV, JSON, SVG, MERGE, INTO, ASKED };
 
 /* Options that say nothing where runs are merged. */
 static int alone(const option asked[ASKED]) {
-    static const int OTHERS[] = {SIGMA, SEEDS, RUNS, FIRST, RUN, MISS, THREADS, CSV};
+    static const int OTHERS[] = {SIGMA, SEEDS, RUNS, FIRST, RUN, MISS, THREADS, LOOP, CSV};
     for (size_t j = 0; j < sizeof OTHERS / sizeof OTHERS[0]; j++) {
         if (asked[OTHERS[j]].value != NULL) return wrong(NOT_MERGED, asked[OTHERS[j]].name);
     }
@@ -38,15 +38,6 @@ static int numbers_of(const option asked[ASKED], task *t) {
     if (status == DONE && t->jobs == 0) status = wrong(NO_JOBS);
     t->given = asked[MISS].value != NULL;
     t->miss = (vector){miss[0], miss[1]};
-    return status;
-}
-
-int put_grown(const char *name, growing *written) {
-    int status;
-    if (written->failed) status = trouble("tolerance", strerror(ENOMEM));
-    else status = name == NULL ? put(written->bytes, written->length) : put_file(name, written->bytes, written->length);
-    free(written->bytes);
-    *written = (growing){NULL, 0, 0, false};
     return status;
 }
 
@@ -85,9 +76,11 @@ static int run(int count, char **words, const option asked[ASKED]) {
     text source;
     t.runs = asked[RUN].value == NULL ? 10000 : 1;
     t.jobs = system_processors();
+    wanted_loop wanted = {ANY_LOOP, true, false};
     int status = numbers_of(asked, &t);
+    if (status == DONE) status = number_of(&asked[LOOP], ANY_LOOP - 1, &wanted.number);
     if (status == DONE) status = read_named(count, words, &source);
-    if (status == DONE) status = take_survey(source, &t.s);
+    if (status == DONE) status = take_survey(source, wanted, &t.s);
     if (status == DONE) status = settings_of(&asked[SEEDS], &asked[SIGMA], "tolerance", &t.s);
     if (status == DONE) status = prepare(&t, asked[RUN].value == NULL ? "--first" : "--run");
     if (status != DONE) return status;
@@ -101,7 +94,7 @@ static int run(int count, char **words, const option asked[ASKED]) {
 
 int tolerance(int count, char **words) {
     option asked[ASKED] = {{"--sigma", false, NULL}, {"--seeds", false, NULL}, {"--runs", false, NULL}, {"--first", false, NULL}, {"--run", false, NULL},
-                           {"--miss", false, NULL}, {"--jobs", false, NULL}, {"--csv", true, NULL}, {"--json", true, NULL}, {"--svg", false, NULL},
+                           {"--miss", false, NULL}, {"--jobs", false, NULL}, {"--loop", false, NULL}, {"--csv", true, NULL}, {"--json", true, NULL}, {"--svg", false, NULL},
                            {"--merge", true, NULL}, {"-o", false, NULL}};
     int status = read_options(&count, words, asked, ASKED);
     if (status == DONE) status = either(asked);

@@ -49,9 +49,6 @@ typedef struct { covariance spread; double rms[MEASURES], within[MEASURES][QUANT
 /* One leg whose correction would bring the miss within the noise; remains is the share of sound surveys that would then miss by as much. */
 typedef struct { size_t leg; bool bearing; double correction, remains; } candidate;
 
-/* tolerance.c: writes a text to a file of that name, or to the output for NULL, and empties it. */
-int put_grown(const char *name, growing *written);
-
 /* prepare.c: makes the job that is played and its miss without noise; whatever is refused is refused here, too large a number of a run by the name of
  * the option that gave it. Prints the job of one run. */
 int prepare(task *t, const char *option);

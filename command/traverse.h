@@ -7,8 +7,15 @@
 typedef struct { char from[NAME_ROOM], to[NAME_ROOM]; uint32_t distance, bearing; } shot;
 typedef struct { size_t count; shot shots[MOST_SHOTS]; } traverse;
 
-/* A text that was accepted: what it is, its shots as a job's lines, and the seeds and sigmas that a job has besides. */
-typedef struct { text source; subject about; uint8_t *shots; size_t length; uint32_t seeds[6], sigma[2]; } survey;
+/* Where a shot came from: its stations by the names that the user gave them, its file and line. */
+typedef struct { const char *from, *to, *file; size_t line; } origin;
+
+/* A text that was accepted: what it is, its shots as a job's lines, the seeds and sigmas that a job has besides, and where the shots of an ordinary
+ * survey came from. */
+typedef struct { text source; subject about; uint8_t *shots; size_t length; uint32_t seeds[6], sigma[2]; origin *origins; size_t origin_count; } survey;
+
+/* Which loop of an ordinary survey is meant, by its number or ANY_LOOP for its only one; whether there has to be one; whether new names are told. */
+typedef struct { uint64_t number; bool needed, renamed; } wanted_loop;
 
 /* traverse.c: the shots of a text that the library accepted, a listing's rows or a job's lines. */
 void read_shots(const uint8_t *bytes, size_t length, bool listed, traverse *read);
@@ -16,9 +23,12 @@ void read_shots(const uint8_t *bytes, size_t length, bool listed, traverse *read
 /* loop.c: whether the shots follow each other and end where they start; where not, says why on standard error, and names the longest part that closes. */
 bool is_loop(const char *name, const traverse *t);
 
-/* survey.c: takes a text for what it is, a job, a listing or a survey; the line of it that a line of the job stands for; a survey's legs as shot lines. */
-int take_survey(text source, survey *taken);
-size_t line_in_source(const survey *s, size_t line);
+/* survey.c: what a text is, by its name or its first line; takes a text for what it is, a job, a listing or a survey, strict or ordinary; where a shot
+ * of it came from, counted from 0; refuses a line of its job; a strict survey's legs as shot lines. */
+subject kind_of(const text *t);
+int take_survey(text source, wanted_loop wanted, survey *taken);
+origin origin_of(const survey *s, const traverse *t, size_t leg);
+int refuse_shot(const survey *s, size_t line, uint32_t number);
 int shots_of(const text *from, uint8_t **shots, size_t *length);
 
 /* job.c: the seeds and sigmas of the options, or the survey's own, or seeds that are drawn; and the text of the job with them, or NULL. */

@@ -91,3 +91,12 @@ int put_file(const char *name, const void *bytes, size_t length) {
     output = elsewhere;
     return status;
 }
+
+int put_grown(const char *name, growing *written) {
+    int status;
+    if (written->failed) status = trouble(name == NULL ? output.name : name, strerror(ENOMEM));
+    else status = name == NULL ? put(written->bytes, written->length) : put_file(name, written->bytes, written->length);
+    free(written->bytes);
+    *written = (growing){NULL, 0, 0, false};
+    return status;
+}

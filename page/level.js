@@ -12,11 +12,11 @@ export async function loadLevel(bytes) {
   }
   const read = at => stringAt(exports.memory, at);
 
-  // One loop of a text, by its number, or its only one for 0: whether it is taken, the strict text, and what the command says of it.
-  return (text, name, loop = 0) => {
+  // One loop of a text, by its number, or its only one for 0, and whether there has to be one: whether it is taken, the strict text, and what the command says of it.
+  return (text, name, loop = 0, needed = false) => {
     exports.level_begin();
     const given = typeof text === 'string' ? new TextEncoder().encode(text) : text, called = put(new TextEncoder().encode(name));
-    const done = exports.level_run(called, put(given), given.length, loop) === 0;
+    const done = exports.level_run(called, put(given), given.length, loop, needed ? 1 : 0) === 0;
     return { done, strict: done ? read(exports.level_strict()) : '', said: read(exports.level_said()) };
   };
 }

@@ -23,6 +23,7 @@ typedef __INT16_TYPE__ int16_t;
 typedef __INT32_TYPE__ int32_t;
 typedef __INT64_TYPE__ int64_t;
 typedef __UINT8_TYPE__ uint8_t;
+typedef __UINT16_TYPE__ uint16_t;
 typedef __UINT32_TYPE__ uint32_t;
 typedef __UINT64_TYPE__ uint64_t;
 typedef struct file FILE;
@@ -44,6 +45,18 @@ int memcmp(const void *one, const void *other, size_t length);
 size_t strlen(const char *string);
 int strcmp(const char *one, const char *other);
 char *strerror(int number);
+
+/* math.c */
+double floor(double x);
+double fabs(double x);
+double sqrt(double x);
+double fmax(double x, double y);
+double fmod(double x, double y);
+double hypot(double x, double y);
+double sin(double x);
+double cos(double x);
+double atan(double x);
+double atan2(double y, double x);
 
 /* Takes all memory back that was handed out; comes before the first malloc. */
 void free_all(void);

@@ -1,0 +1,23 @@
+/* What the parts of `jabulghi check` share. */
+#ifndef CHECK_H
+#define CHECK_H
+
+#include "command.h"
+
+#include "../judge/judge.h"
+
+/* errors.c: the standard deviations of --sigma, tape=10mm,compass=1deg,clino=1deg,station=50mm or the two of tape and
+ * compass alone; and of --trip. */
+int errors_of(const option *given, struct judge_sigmas *sigmas);
+int trip_of(const option *given, struct judge_sigmas *sigmas);
+
+/* check_merge.c: the plays of parts that --json wrote of one cave with the same seeds. */
+struct merged {
+    const struct judge_cave *cave;
+    struct judge_played **played;
+    uint64_t *first, *plays;
+    uint32_t *seeds;
+};
+int merge_plays(int count, char **names, const struct merged *all);
+
+#endif

@@ -1,0 +1,20 @@
+/* Arrays and texts that grow. */
+#ifndef GROWING_H
+#define GROWING_H
+
+#include <stdbool.h>
+#include <stddef.h>
+
+/* A text that grows. Once memory has run out it has failed, and nothing is added. */
+typedef struct {
+    char *bytes;
+    size_t length, room;
+    bool failed;
+} growing;
+
+/* Room for so many more elements of an array that has a count of them; words added to a text, as printf would print
+ * them. */
+bool room_for(size_t more, void *array, size_t count, size_t *room, size_t size);
+void add(growing *to, const char *format, ...);
+
+#endif

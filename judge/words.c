@@ -1,0 +1,378 @@
+/* The verdict for a person. */
+#include "words.h"
+#include <inttypes.h>
+#include <math.h>
+#include <stdlib.h>
+#include <string.h>
+
+/* At most so many suspects and bad loops are printed; a suspect below this share is not, but for the first. */
+enum { MOST_SUSPECTS = 10, MOST_LOOPS = 5 };
+#define LEAST_SHARE 0.01
+
+void judge_thousands(growing *to, uint64_t number) {
+    if (number >= 1000) {
+        judge_thousands(to, number / 1000);
+        add(to, ",%03u", (unsigned)(number % 1000));
+    } else {
+        add(to, "%u", (unsigned)number);
+    }
+}
+
+static void counted(growing *to, uint64_t number, const char *one, const char *many) {
+    judge_thousands(to, number);
+    add(to, " %s", number == 1 ? one : many);
+}
+
+/* A share of sound caves: two digits of what is small. */
+static void percent(growing *to, double share) { add(to, share < 0.0995 ? "%.2g %%" : "%.0f %%", 100 * share); }
+
+double judge_bearing(struct judge_vector v) {
+    double degrees = atan2(v.east, v.north) * (360 / TURN);
+    return degrees < 0 ? degrees + 360 : degrees;
+}
+
+/* ---- What was read */
+
+/* The least and the largest standard deviation of an error among the legs, and whether *sd set all, or none. */
+struct judge_range judge_range_of(const struct judge_cave *cave, enum judge_error error) {
+    static const unsigned BITS[] = {1u << SURVEY_SD_TAPE, 1u << SURVEY_SD_COMPASS, 1u << SURVEY_SD_CLINO,
+                                    1u << SURVEY_SD_POSITION};
+    struct judge_range range = {INFINITY, 0, true, true};
+    if (cave->sigmas.given[error])
+        return (struct judge_range){cave->sigmas.of[error], cave->sigmas.of[error], false, false};
+    for (size_t j = 0; j < cave->survey->leg_count; j++) {
+        const struct survey_sd *sd = &cave->survey->legs[j].sd;
+        double of[] = {sd->tape, sd->compass, sd->clino, sd->position / sqrt(2)};
+        range.low = fmin(range.low, of[error]);
+        range.high = fmax(range.high, of[error]);
+        if ((sd->given & BITS[error]) == 0) range.by_sd = false;
+        else range.by_default = false;
+    }
+    return range;
+}
+
+const char *judge_source(const struct judge_cave *cave, enum judge_error error) {
+    struct judge_range range = judge_range_of(cave, error);
+    if (cave->sigmas.given[error]) return cave->sigmas.from;
+    return range.by_sd ? "*sd" : range.by_default ? "Survex's defaults" : "*sd in part, else Survex's defaults";
+}
+
+static void add_error(const struct judge_cave *cave, enum judge_error error, growing *to) {
+    static const struct {
+        const char *name, *unit;
+        double scale;
+    } NAMES[] = {{"tape", "mm", 1000}, {"compass", "degrees", 1}, {"clino", "degrees", 1}, {"stations", "mm", 1000}};
+    struct judge_range range = judge_range_of(cave, error);
+    double low = range.low * NAMES[error].scale, high = range.high * NAMES[error].scale;
+    add(to, "%s %.3g", NAMES[error].name, low);
+    if (high > low * 1.0005) add(to, " to %.3g", high);
+    add(to, " %s", NAMES[error].scale == 1 && fabs(high - 1) < 5e-4 ? "degree" : NAMES[error].unit);
+}
+
+/* Fixed points in loops that have no standard deviation of their own. */
+static size_t count_points(const struct judge_cave *cave) {
+    size_t count = 0;
+    for (size_t j = 0; j < cave->edge_count; j++) {
+        const struct judge_edge *e = &cave->edges[j];
+        count += e->kind == JUDGE_FIX && e->passage != JUDGE_NONE && !(cave->survey->fixes[e->index].sd_east > 0);
+    }
+    return count;
+}
+
+static void tell_errors(const struct judge_cave *cave, growing *to) {
+    bool alike = true;
+    for (int j = 1; j <= JUDGE_STATION; j++)
+        alike = alike && strcmp(judge_source(cave, (enum judge_error)j), judge_source(cave, JUDGE_TAPE)) == 0;
+    add(to, "errors: ");
+    for (int j = 0; j <= JUDGE_STATION; j++) {
+        add(to, "%s", j == 0 ? "" : ", ");
+        add_error(cave, (enum judge_error)j, to);
+        if (!alike) add(to, " (%s)", judge_source(cave, (enum judge_error)j));
+    }
+    if (count_points(cave) > 0)
+        add(to, ", fixed points %g m",
+            cave->sigmas.given[JUDGE_POINT] ? cave->sigmas.of[JUDGE_POINT] : JUDGE_POINT_ERROR);
+    if (cave->sigmas.given[JUDGE_TRIP]) add(to, ", a trip's compass %.3g degrees", cave->sigmas.of[JUDGE_TRIP]);
+    if (alike)
+        add(to, " (%s%s)", judge_source(cave, JUDGE_TAPE),
+            strcmp(judge_source(cave, JUDGE_TAPE), "--sigma") == 0 ? "" : "; --sigma replaces them");
+    add(to, "\n");
+}
+
+double judge_length(const struct judge_cave *cave) {
+    double sum = 0;
+    for (size_t j = 0; j < cave->survey->leg_count; j++) sum += cave->survey->legs[j].length;
+    return sum;
+}
+
+static void tell_cave(const struct judge_cave *cave, const char *name, growing *to) {
+    double length = judge_length(cave);
+    add(to, "%s: ", name);
+    counted(to, cave->survey->leg_count, "leg", "legs");
+    add(to, length < 1000 ? ", %.1f m, " : ", %.2f km, ", length < 1000 ? length : length / 1000);
+    counted(to, cave->loop_count, "loop", "loops");
+    add(to, "\n");
+    if (cave->survey->leg_count > 0) tell_errors(cave, to);
+}
+
+/* ---- The whole cave */
+
+static void tell_verdict(const struct judge_verdict *v, growing *to) {
+    add(to, "The cave as a whole: in ");
+    if (v->beyond == 0) add(to, "none");
+    else judge_thousands(to, v->beyond);
+    add(to, " of ");
+    judge_thousands(to, v->plays);
+    add(to, " sound caves like this %s as here.\n",
+        v->beyond == 0 ? "does the worst leg look as bad" : "the worst leg looks as bad");
+    add(to, v->sound ? "That is no sign of a blunder.\n"
+                     : "That is below 5 %%: a blunder, or your errors are larger than these.\n");
+    if (v->too_well)
+        add(to, "It closes better than all but 1 in 1,000 sound caves: your errors are smaller than these, or readings "
+                "were made to fit.\n");
+}
+
+/* ---- Suspects */
+
+static void tell_place(const struct judge_cave *cave, const struct judge_edge *e, growing *to) {
+    const struct survey *s = cave->survey;
+    struct judge_place place = judge_place_of(cave, e);
+    add(to, "  %s:%zu  ", s->files[place.file].name, place.line);
+    if (e->kind == JUDGE_FIX) add(to, "*fix %s", place.to);
+    else add(to, "%s%s - %s", e->kind == JUDGE_EQUATE ? "*equate " : "", place.from, place.to);
+}
+
+struct judge_place judge_place_of(const struct judge_cave *cave, const struct judge_edge *e) {
+    const struct survey *s = cave->survey;
+    struct judge_place place = {0, 0, e->from < s->station_count ? s->stations[e->from].name : "",
+                                s->stations[e->to].name};
+    switch (e->kind) {
+    case JUDGE_LEG: place.file = s->legs[e->index].file, place.line = s->legs[e->index].line; break;
+    case JUDGE_EQUATE: place.file = s->equates[e->index].file, place.line = s->equates[e->index].line; break;
+    case JUDGE_FIX: place.file = s->fixes[e->index].file, place.line = s->fixes[e->index].line; break;
+    }
+    return place;
+}
+
+/* The reading of a leg that a sentence quotes, as written, or NULL. */
+static const char *written(const struct survey_leg *leg, enum survey_quantity what) {
+    const struct survey_reading *r = survey_reading_of(leg, what);
+    return r == NULL || r->form == SURVEY_OMITTED ? NULL : r->text;
+}
+
+static void tell_readings(const struct survey_leg *leg, growing *to) {
+    const char *tape = written(leg, SURVEY_TAPE), *compass = written(leg, SURVEY_COMPASS),
+               *clino = written(leg, SURVEY_CLINO);
+    if (tape != NULL) add(to, ", %s", tape);
+    if (compass != NULL) add(to, " at %s", compass);
+    if (clino != NULL) add(to, ", %s", clino);
+}
+
+void judge_blunder_words(const struct judge_explanation *e, growing *to) {
+    double by = e->correction, far = hypot(e->move.east, e->move.north);
+    switch (e->blunder) {
+    case JUDGE_DISTANCE: add(to, "%g m too %s", fabs(by), by < 0 ? "long" : "short"); break;
+    case JUDGE_DECIMAL: add(to, "the tape's point one place too far to the %s", by > 1 ? "left" : "right"); break;
+    case JUDGE_FEET: add(to, "%s", by < 1 ? "feet taken for metres" : "metres taken for feet"); break;
+    case JUDGE_BEARING: add(to, "the bearing %g degrees too %s", fabs(by), by < 0 ? "large" : "small"); break;
+    case JUDGE_BACKWARDS: add(to, "read backwards, or the bearing 180 degrees off"); break;
+    case JUDGE_EXCHANGED: add(to, "%s for %s (digits exchanged)", e->should_be, e->reading->text); break;
+    case JUDGE_MISREAD: add(to, "%s for %s (a digit misread)", e->should_be, e->reading->text); break;
+    case JUDGE_ANY_DISTANCE: add(to, "%.2f m too %s", fabs(by), by < 0 ? "long" : "short"); break;
+    case JUDGE_ANY_BEARING: add(to, "the bearing %.1f degrees too %s", fabs(by), by < 0 ? "large" : "small"); break;
+    case JUDGE_LEFT_OUT: add(to, "a leg left out, %.2f m at %.0f", far, judge_bearing(e->move)); break;
+    case JUDGE_EQUATED: add(to, "equated wrongly, %.2f m at %.0f from each other,", far, judge_bearing(e->move)); break;
+    case JUDGE_FIXED: add(to, "fixed wrongly by %.2f m at %.0f", far, judge_bearing(e->move)); break;
+    }
+}
+
+/* The letter of a suspect's passage among those that are printed, or 0 where it is a passage of one edge. */
+static char letter_of(const struct judge_cave *cave, const struct judge_verdict *v, size_t suspect) {
+    char letter = 'A';
+    size_t passage = cave->edges[v->suspects[suspect].edge].passage;
+    if (cave->passages[passage].edges < 2) return 0;
+    for (size_t j = 0; j < suspect; j++) {
+        size_t earlier = cave->edges[v->suspects[j].edge].passage;
+        if (earlier == passage) return letter_of(cave, v, j);
+        bool is_new = cave->passages[earlier].edges >= 2;
+        for (size_t k = 0; k < j; k++) is_new = is_new && cave->edges[v->suspects[k].edge].passage != earlier;
+        letter = (char)(letter + is_new);
+    }
+    return letter;
+}
+
+static void tell_suspect(const struct judge_cave *cave, const struct judge_verdict *v, size_t number, growing *to) {
+    const struct judge_suspect *s = &v->suspects[number];
+    const struct judge_edge *e = &cave->edges[s->edge];
+    char letter = letter_of(cave, v, number);
+    tell_place(cave, e, to);
+    if (s->best.blunder == JUDGE_LEFT_OUT) add(to, " or near it");
+    else if (e->kind == JUDGE_LEG) tell_readings(&cave->survey->legs[e->index], to);
+    add(to, ": ");
+    judge_blunder_words(&s->best, to);
+    add(to, " would explain it.\n      ");
+    percent(to, s->share);
+    add(to, " sure; corrected, ");
+    percent(to, s->remains);
+    add(to, " of sound caves look as bad.");
+    if (letter != 0) add(to, " [%c]", letter);
+    add(to, "\n");
+}
+
+/* The passages of the suspects that are printed. */
+static void tell_passages(const struct judge_cave *cave, const struct judge_verdict *v, size_t printed, growing *to) {
+    char told = 'A';
+    for (size_t j = 0; j < printed; j++) {
+        size_t passage = cave->edges[v->suspects[j].edge].passage, last = cave->passages[passage].first;
+        if (letter_of(cave, v, j) != told) continue;
+        for (size_t e = last; e < cave->edge_count; e++)
+            last = cave->edges[e].passage == passage && cave->edges[e].kind == JUDGE_LEG ? e : last;
+        struct judge_place from = judge_place_of(cave, &cave->edges[cave->passages[passage].first]),
+                           till = judge_place_of(cave, &cave->edges[last]);
+        add(to, "[%c]: one passage, ", told++);
+        counted(to, cave->passages[passage].legs, "leg", "legs");
+        add(to, " from line %zu to line %zu. No loop tells its legs apart, only the size of a blunder does.\n",
+            from.line, till.line);
+    }
+}
+
+static void tell_suspects(const struct judge_cave *cave, const struct judge_verdict *v, growing *to) {
+    size_t printed = 0;
+    add(to, "Look at these legs first:\n");
+    while (printed < v->suspect_count && printed < MOST_SUSPECTS &&
+           (printed == 0 || v->suspects[printed].share >= LEAST_SHARE))
+        tell_suspect(cave, v, printed++, to);
+    tell_passages(cave, v, printed, to);
+    const struct judge_suspect *first = &v->suspects[0];
+    if (first->remains < JUDGE_LIMIT) {
+        add(to,
+            "Corrected, the first leaves the cave unsound: there may be two blunders, or your errors are larger.\n");
+    } else {
+        counted(to, first->others, "other correction", "other corrections");
+        add(to, " would make the cave sound, too.\n");
+    }
+}
+
+/* ---- Loops */
+
+static void tell_loop(const struct judge_cave *cave, size_t number, growing *to) {
+    const struct judge_loop *loop = &cave->loops[number];
+    double far = hypot(loop->miss.east, loop->miss.north);
+    struct judge_place place =
+        judge_place_of(cave, &cave->edges[cave->passages[cave->loop_passages[loop->at].of].first]);
+    add(to, "%5zu %5zu %9.1f %8.2f %7.2f %8.2f %8.2f %8.2g  %s  %s:%zu\n", number + 1, loop->legs, loop->length, far,
+        loop->length > 0 ? 100 * far / loop->length : 0, loop->miss.east, loop->miss.north, loop->p,
+        loop->bad        ? "bad"
+        : loop->too_well ? "too well"
+                         : "",
+        cave->survey->files[place.file].name, place.line);
+}
+
+static void tell_loops(const struct judge_cave *cave, const struct judge_verdict *v, bool all, growing *to) {
+    size_t told = 0;
+    if (cave->loop_count == 1) {
+        add(to, "The loop is %s", v->bad_loops == 0 ? "sound" : "not sound");
+    } else {
+        add(to, "Loops: ");
+        judge_thousands(to, cave->loop_count - v->bad_loops);
+        add(to, " of ");
+        judge_thousands(to, cave->loop_count);
+        add(to, " are sound");
+    }
+    add(to, !all && v->bad_loops == 0 ? ".\n" : ":\n");
+    if (!all && v->bad_loops == 0) return;
+    add(to,
+        " loop  legs    length   misses     %%     east    north        p  (m; p: sound loops that miss by as much)\n");
+    for (size_t r = 0; r < cave->loop_count; r++) {
+        if (!all && (!cave->loops[r].bad || told++ >= MOST_LOOPS)) continue;
+        tell_loop(cave, r, to);
+    }
+    if (!all && cave->loop_count > 1) add(to, "--loops lists them all.\n");
+}
+
+static void tell_too_well(const struct judge_cave *cave, growing *to) {
+    for (size_t r = 0; cave->loop_count > 1 && r < cave->loop_count; r++) {
+        if (cave->loops[r].too_well)
+            add(to,
+                "Loop %zu closes better than all but 1 in 1,000 sound loops: by chance, or its readings were made to "
+                "fit.\n",
+                r + 1);
+    }
+}
+
+/* ---- Errors, and what could not be seen */
+
+static void tell_sigmas(const struct judge_cave *cave, const struct judge_verdict *v, growing *to) {
+    const struct judge_estimate *f = &v->factor, *s = &v->station;
+    struct judge_range given = judge_range_of(cave, JUDGE_STATION);
+    bool agrees = f->low <= 1 && f->high >= 1;
+    add(to, "Your loops %s these errors: they fit ",
+        agrees       ? "agree with"
+        : f->low > 1 ? "want more than"
+                     : "want less than");
+    add(to, "%.0f mm a station (%.0f to %.0f)", 1000 * s->value, 1000 * s->low, 1000 * s->high);
+    if (!agrees) add(to, ", not %.0f", 1000 * given.high);
+    add(to, ", or all errors times %.2f (%.2f to %.2f).", f->value, f->low, f->high);
+    if (!v->sound && v->factor_without > 0)
+        add(to, " Without the leg that explains most: times %.2f.", v->factor_without);
+    add(to, "\n");
+}
+
+static int rising(const void *a, const void *b) {
+    return (*(const double *)a > *(const double *)b) - (*(const double *)a < *(const double *)b);
+}
+
+/* Half of the legs, and nine of ten, show blunders from these sizes on. */
+static void tell_sizes(const struct judge_cave *cave, const struct judge_verdict *v, growing *to) {
+    size_t count = 0;
+    double *metres = malloc(cave->edge_count * sizeof *metres), *degrees = malloc(cave->edge_count * sizeof *degrees);
+    to->failed = to->failed || metres == NULL || degrees == NULL;
+    if (!to->failed) {
+        for (size_t j = 0; j < cave->edge_count; j++) {
+            const struct judge_edge *e = &cave->edges[j];
+            struct judge_vector smallest = judge_smallest(cave, v, e);
+            if (e->kind != JUDGE_LEG || !(smallest.east > 0)) continue;
+            metres[count] = smallest.east;
+            degrees[count++] = smallest.north > 0 ? smallest.north : 180;
+        }
+        qsort(metres, count, sizeof metres[0], rising);
+        qsort(degrees, count, sizeof degrees[0], rising);
+    }
+    if (count > 0)
+        add(to,
+            "A blunder shows (4 times in 5) from %.1f m or %.0f degrees on in half of the legs, from %.1f m or %.0f "
+            "degrees on in nine of ten.\n",
+            metres[count / 2], degrees[count / 2], metres[count * 9 / 10], degrees[count * 9 / 10]);
+    free(metres);
+    free(degrees);
+}
+
+static void tell_unseen(const struct judge_cave *cave, growing *to) {
+    if (cave->legs_in_no_loop == 0) return;
+    judge_thousands(to, cave->legs_in_no_loop);
+    add(to, " of ");
+    counted(to, cave->survey->leg_count, "leg is", "legs are");
+    add(to, " in no loop: nothing is known of them.\n");
+}
+
+void judge_words(const struct judge_cave *cave, const struct judge_verdict *v, const struct judge_told *told,
+                 growing *to) {
+    const uint32_t *n = told->seeds;
+    tell_cave(cave, told->name, to);
+    if (cave->loop_count == 0) {
+        add(to, "No loop: nothing can be checked.\n");
+        return;
+    }
+    tell_verdict(v, to);
+    if (!v->sound) tell_suspects(cave, v, to);
+    tell_loops(cave, v, told->all_loops, to);
+    tell_too_well(cave, to);
+    tell_sigmas(cave, v, to);
+    tell_unseen(cave, to);
+    tell_sizes(cave, v, to);
+    add(to, "Plan only: heights are not judged. The noise is proved, the check is not.\n");
+    add(to,
+        "(seeds (a %" PRIu32 " %" PRIu32 " %" PRIu32 ") (b %" PRIu32 " %" PRIu32 " %" PRIu32 ")), plays %" PRIu64
+        " to %" PRIu64 "\n",
+        n[0], n[1], n[2], n[3], n[4], n[5], v->first, v->first + v->plays - 1);
+}
