@@ -1,5 +1,5 @@
-/* Samples do not depend on how the processor rounds doubles: blocks of both widths and many lengths in every direction that fenv.h names, and on x86-64 with
- * the smallest numbers taken for 0 too. Prints "alike". */
+/* Samples do not depend on how the processor rounds doubles: blocks of both widths and many lengths in every direction
+ * that fenv.h names, and on x86-64 with the smallest numbers taken for 0 too. Prints "alike". */
 #include "jabulghi.h"
 #include <fenv.h>
 #include <stdio.h>
@@ -35,7 +35,11 @@ static int differs(uint64_t expected, const char *how) {
 }
 
 int main(void) {
-    static const struct { int mode; const char *how; } all[] = {{FE_UPWARD, "up"}, {FE_DOWNWARD, "down"}, {FE_TOWARDZERO, "towards zero"}, {FE_TONEAREST, "to nearest again"}};
+    static const struct {
+        int mode;
+        const char *how;
+    } all[] = {
+        {FE_UPWARD, "up"}, {FE_DOWNWARD, "down"}, {FE_TOWARDZERO, "towards zero"}, {FE_TONEAREST, "to nearest again"}};
     uint64_t nearest = drawn();
     int failed = 0;
     for (size_t k = 0; k < sizeof all / sizeof *all; k++) {
