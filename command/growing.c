@@ -15,6 +15,7 @@ bool room_for(size_t more, void *array, size_t count, size_t *room, size_t size)
     if (grown == NULL) return false;
     memcpy(array, &grown, sizeof grown);
     *room = wanted;
+    /* cppcheck-suppress memleak ; it is where `array` points */
     return true;
 }
 

@@ -145,7 +145,7 @@ static void compare_some(void) {
         z ^= z << 13, z ^= z >> 7, z ^= z << 17;
         uint32_t v = z & 65535;
         int n = 1 + (int)((z >> 16) % LARGEST);
-        uint64_t counted = count_size(sine_of(v), n), found = bisected(v, n);
+        uint64_t counted = count_size(sine_of(v), (uint64_t)n), found = bisected(v, n);
         uint64_t apart = counted > found ? counted - found : found - counted;
         if (apart != 0) other++;
         if (apart > most) most = apart;
