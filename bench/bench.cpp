@@ -1,4 +1,5 @@
-// Times of the static library's calls beside plain C and other generators of normal samples. All contestants take turns, a short run each.
+// Times of the static library's calls beside plain C and other generators of normal samples. All contestants take
+// turns, a short run each.
 #include "jabulghi.h"
 #include "plain.h"
 #include <algorithm>
@@ -26,7 +27,8 @@ extern "C" void rand_distr_block(int16_t *block, size_t length);
 static const size_t LENGTH = 4096; // samples of a buffer
 static const int RUNS = 1001;
 
-static const char ZIGGURAT[] = "GSL `gsl_ran_gaussian_ziggurat` over `gsl_rng_taus`"; // what the others are compared with
+static const char ZIGGURAT[] =
+    "GSL `gsl_ran_gaussian_ziggurat` over `gsl_rng_taus`"; // what the others are compared with
 
 static const std::string WIDE = "`jabulghi_block18` of " + std::to_string(LENGTH);
 
@@ -37,9 +39,11 @@ struct Unit {
     const char *name;
     double in_a_second;
 };
-static const Unit A_SAMPLE = {"ns a sample", 1e9}, A_WIDE_SAMPLE = A_SAMPLE, A_PAIR = {"ns a pair", 1e9}, A_CALL = {"µs a call", 1e6}, A_PUSH = {"ns a push", 1e9}, A_PLAY = {"µs a play", 1e6};
+static const Unit A_SAMPLE = {"ns a sample", 1e9}, A_WIDE_SAMPLE = A_SAMPLE, A_PAIR = {"ns a pair", 1e9},
+                  A_CALL = {"µs a call", 1e6}, A_PUSH = {"ns a push", 1e9}, A_PLAY = {"µs a play", 1e6};
 
-// One of those that take turns: what its time is of and how many of these a run has; then the seconds of one, least first.
+// One of those that take turns: what its time is of and how many of these a run has; then the seconds of one, least
+// first.
 struct Contestant {
     std::string name;
     const Unit &unit;
@@ -70,7 +74,8 @@ static const uint32_t SEEDS[6] = {123456789, 987654321, 192837465, 2, 8, 16};
 
 static jabulghi_record seeded() {
     jabulghi_record record;
-    if (jabulghi_seed(SEEDS[0], SEEDS[1], SEEDS[2], SEEDS[3], SEEDS[4], SEEDS[5], &record) != JABULGHI_OK) fail("the seeds");
+    if (jabulghi_seed(SEEDS[0], SEEDS[1], SEEDS[2], SEEDS[3], SEEDS[4], SEEDS[5], &record) != JABULGHI_OK)
+        fail("the seeds");
     return record;
 }
 
@@ -78,14 +83,10 @@ static jabulghi_record ours = seeded();
 
 // The buffer by blocks of a length.
 static void fill_by(size_t length) {
-    for (size_t at = 0; at < LENGTH; at += length) {
-        jabulghi_block(&ours, buffer + at, length);
-    }
+    for (size_t at = 0; at < LENGTH; at += length) { jabulghi_block(&ours, buffer + at, length); }
 }
 
-static int16_t rounded(double x) {
-    return (int16_t)lrint(x);
-}
+static int16_t rounded(double x) { return (int16_t)lrint(x); }
 
 // The same with no call: a sum with 1.5 times 2^52 has the nearest whole number in its last bits.
 [[maybe_unused]] static int16_t rounded_by_sum(double x) {
@@ -97,14 +98,13 @@ static int16_t rounded(double x) {
 
 // The buffer from normal samples, rounded to units of 2^-11 of a standard deviation.
 template <class Normal, class Rounded> static void fill_from(Normal normal, Rounded rounded) {
-    for (int16_t &sample : buffer) {
-        sample = rounded(normal() * 2048);
-    }
+    for (int16_t &sample : buffer) { sample = rounded(normal() * 2048); }
 }
 
 static void add_ours(Contestants &all, const std::vector<size_t> &lengths) {
     for (size_t length : lengths) {
-        all.push_back({"`jabulghi_block` of " + std::to_string(length), A_SAMPLE, LENGTH, [length] { fill_by(length); }});
+        all.push_back(
+            {"`jabulghi_block` of " + std::to_string(length), A_SAMPLE, LENGTH, [length] { fill_by(length); }});
     }
 }
 
@@ -115,11 +115,11 @@ static void add_wide(Contestants &all) {
 
 static void add_plain(Contestants &all) {
     static uint32_t by_double[6], by_bits[6];
-    for (uint32_t *registers : {by_double, by_bits}) {
-        memcpy(registers, SEEDS, sizeof SEEDS);
-    }
-    all.push_back({"the same steps in plain C, root by floating point", A_SAMPLE, LENGTH, [] { plain_block(by_double, buffer, LENGTH); }});
-    all.push_back({"the same steps in plain C, root bit by bit", A_SAMPLE, LENGTH, [] { plain_block_bits(by_bits, buffer, LENGTH); }});
+    for (uint32_t *registers : {by_double, by_bits}) { memcpy(registers, SEEDS, sizeof SEEDS); }
+    all.push_back({"the same steps in plain C, root by floating point", A_SAMPLE, LENGTH,
+                   [] { plain_block(by_double, buffer, LENGTH); }});
+    all.push_back({"the same steps in plain C, root bit by bit", A_SAMPLE, LENGTH,
+                   [] { plain_block_bits(by_bits, buffer, LENGTH); }});
 }
 
 static void add_others(Contestants &all) {
@@ -128,14 +128,16 @@ static void add_others(Contestants &all) {
     static auto ziggurat = [] { return gsl_ran_gaussian_ziggurat(rng, 1); };
     static auto polar = [] { return gsl_ran_gaussian(rng, 1); };
     all.push_back({ZIGGURAT, A_SAMPLE, LENGTH, [] { fill_from(ziggurat, rounded); }});
-    all.push_back({"the same, rounded by a sum in place of `lrint`", A_SAMPLE, LENGTH, [] { fill_from(ziggurat, rounded_by_sum); }});
+    all.push_back({"the same, rounded by a sum in place of `lrint`", A_SAMPLE, LENGTH,
+                   [] { fill_from(ziggurat, rounded_by_sum); }});
     all.push_back({"GSL `gsl_ran_gaussian` over `gsl_rng_taus`", A_SAMPLE, LENGTH, [] { fill_from(polar, rounded); }});
 #endif
 #ifdef HAVE_BOOST
     static boost::random::taus88 taus;
     static boost::random::normal_distribution<double> boost_normal;
     static auto boost_next = [] { return boost_normal(taus); };
-    all.push_back({"Boost `normal_distribution` over `taus88`", A_SAMPLE, LENGTH, [] { fill_from(boost_next, rounded); }});
+    all.push_back(
+        {"Boost `normal_distribution` over `taus88`", A_SAMPLE, LENGTH, [] { fill_from(boost_next, rounded); }});
     all.push_back({"the same, rounded by a sum", A_SAMPLE, LENGTH, [] { fill_from(boost_next, rounded_by_sum); }});
 #endif
 #ifdef HAVE_RAND_DISTR
@@ -145,22 +147,22 @@ static void add_others(Contestants &all) {
     static std::mt19937 twister;
     static std::normal_distribution<double> normal;
     static auto next = [] { return normal(twister); };
-    all.push_back({"C++ `std::normal_distribution` over `std::mt19937`", A_SAMPLE, LENGTH, [] { fill_from(next, rounded); }});
+    all.push_back(
+        {"C++ `std::normal_distribution` over `std::mt19937`", A_SAMPLE, LENGTH, [] { fill_from(next, rounded); }});
 }
 
 // Single pairs from a record, and from k and v as they are drawn.
 static void add_pairs(Contestants &all) {
     static std::vector<uint64_t> numbers(LENGTH / 2);
     std::mt19937_64 twister;
-    for (uint64_t &z : numbers) {
-        z = twister();
-    }
+    for (uint64_t &z : numbers) { z = twister(); }
     all.push_back({"`jabulghi_pair`", A_PAIR, LENGTH / 2.0, [] {
-        for (size_t at = 0; at < LENGTH; at += 2) jabulghi_pair(&ours, buffer + at);
-    }});
+                       for (size_t at = 0; at < LENGTH; at += 2) jabulghi_pair(&ours, buffer + at);
+                   }});
     all.push_back({"`jabulghi_sample`", A_PAIR, LENGTH / 2.0, [] {
-        for (size_t j = 0; j < LENGTH / 2; j++) jabulghi_sample(numbers[j] >> 16, numbers[j] & 65535, buffer + 2 * j);
-    }});
+                       for (size_t j = 0; j < LENGTH / 2; j++)
+                           jabulghi_sample(numbers[j] >> 16, numbers[j] & 65535, buffer + 2 * j);
+                   }});
 }
 
 static void add_job(Contestants &all) {
@@ -178,7 +180,8 @@ static void add_job(Contestants &all) {
     all.push_back({"`jabulghi_list`, a job of 500 shots", A_CALL, 1, list});
 }
 
-// Plays of a loop of 40 legs, beside the texts' way: the job written with the play's registers, listed, and the listing summed.
+// Plays of a loop of 40 legs, beside the texts' way: the job written with the play's registers, listed, and the listing
+// summed.
 static const size_t LEGS = 40, PLAYS = 1000;
 static const std::string PLAY = "`jabulghi_play`, a loop of " + std::to_string(LEGS) + " legs";
 static const std::string BY_TEXTS = "the same by `jabulghi_list` and `jabulghi_misclosure` of a job a play";
@@ -186,11 +189,13 @@ static int64_t misses[PLAYS][2];
 
 static std::string loop_after(const jabulghi_record &r) {
     char seeds[100];
-    snprintf(seeds, sizeof seeds, "(seeds (a %u %u %u) (b %u %u %u))\n(sigma 4 10)\n", r.a[0], r.a[1], r.a[2], r.b[0], r.b[1], r.b[2]);
+    snprintf(seeds, sizeof seeds, "(seeds (a %u %u %u) (b %u %u %u))\n(sigma 4 10)\n", r.a[0], r.a[1], r.a[2], r.b[0],
+             r.b[1], r.b[2]);
     static std::string shots;
     if (shots.empty()) {
         for (size_t leg = 0; leg < LEGS; leg++) {
-            shots += "(shot A" + std::to_string(leg) + " A" + std::to_string((leg + 1) % LEGS) + " 12345 " + std::to_string(leg * 65536 / LEGS) + ")\n";
+            shots += "(shot A" + std::to_string(leg) + " A" + std::to_string((leg + 1) % LEGS) + " 12345 " +
+                     std::to_string(leg * 65536 / LEGS) + ")\n";
         }
     }
     return seeds + shots;
@@ -199,7 +204,8 @@ static std::string loop_after(const jabulghi_record &r) {
 static void play(uint64_t first, size_t runs) {
     static const std::string text = loop_after(seeded());
     uint32_t line;
-    if (jabulghi_play((const uint8_t *)text.data(), text.size(), first, misses, runs, &line) != JABULGHI_OK) fail("plays");
+    if (jabulghi_play((const uint8_t *)text.data(), text.size(), first, misses, runs, &line) != JABULGHI_OK)
+        fail("plays");
 }
 
 static void play_by_texts(jabulghi_record &record, int64_t *millimetres) {
@@ -226,10 +232,10 @@ static void check_plays() {
 static void add_plays(Contestants &all) {
     all.push_back({PLAY, A_PLAY, (double)PLAYS, [] { play(0, PLAYS); }});
     all.push_back({BY_TEXTS, A_PLAY, 10, [] {
-        static jabulghi_record record = seeded();
-        int64_t millimetres[2];
-        for (int j = 0; j < 10; j++) play_by_texts(record, millimetres);
-    }});
+                       static jabulghi_record record = seeded();
+                       int64_t millimetres[2];
+                       for (int j = 0; j < 10; j++) play_by_texts(record, millimetres);
+                   }});
 }
 
 // From count 0, so that none is refused; beside a skip the same pairs drawn.
@@ -238,11 +244,11 @@ static void add_skips(Contestants &all, const std::vector<uint64_t> &numbers) {
     static jabulghi_record record = seeded();
     for (uint64_t n : numbers) {
         all.push_back({"`jabulghi_skip` of " + std::to_string(n) + " pairs", A_CALL, calls, [n] {
-            for (int j = 0; j < calls; j++) {
-                record.count = 0;
-                jabulghi_skip(&record, n);
-            }
-        }});
+                           for (int j = 0; j < calls; j++) {
+                               record.count = 0;
+                               jabulghi_skip(&record, n);
+                           }
+                       }});
     }
 }
 
@@ -259,13 +265,13 @@ static void add_windows(Contestants &all) {
     for (uint32_t n : {1000, 4096}) {
         std::string of = " onto a window of " + std::to_string(n);
         all.push_back({"`jabulghi_window_push_all` of 4096" + of, A_PUSH, LENGTH, [n] {
-            if (window.size != n) jabulghi_window_make(&window, n);
-            jabulghi_window_push_all(&window, samples.data(), LENGTH);
-        }});
+                           if (window.size != n) jabulghi_window_make(&window, n);
+                           jabulghi_window_push_all(&window, samples.data(), LENGTH);
+                       }});
         all.push_back({"`jabulghi_window_push`" + of, A_PUSH, LENGTH, [n] {
-            if (window.size != n) jabulghi_window_make(&window, n);
-            for (int16_t sample : samples) jabulghi_window_push(&window, sample);
-        }});
+                           if (window.size != n) jabulghi_window_make(&window, n);
+                           for (int16_t sample : samples) jabulghi_window_push(&window, sample);
+                       }});
     }
 }
 
@@ -316,9 +322,7 @@ static void check_others() {
 #endif
 }
 
-static bool same_record(const jabulghi_record &x, const jabulghi_record &y) {
-    return memcmp(&x, &y, sizeof x) == 0;
-}
+static bool same_record(const jabulghi_record &x, const jabulghi_record &y) { return memcmp(&x, &y, sizeof x) == 0; }
 
 static void check_skips() {
     static int16_t block[2000];
@@ -331,7 +335,8 @@ static void check_skips() {
     jabulghi_skip(&twice, UINT64_MAX / 2);
     jabulghi_skip(&twice, UINT64_MAX / 2 + 1);
     if (!same_record(twice, skipped)) fail("the record after one skip and after two");
-    if (skipped.count != UINT64_MAX || jabulghi_skip(&skipped, 1) != JABULGHI_COUNT_FULL) fail("the count of the most pairs");
+    if (skipped.count != UINT64_MAX || jabulghi_skip(&skipped, 1) != JABULGHI_COUNT_FULL)
+        fail("the count of the most pairs");
 }
 
 // Samples of 18 bits are normal and end in the record that those of 16 bits end in.
@@ -400,9 +405,7 @@ static void take_turns(Contestants &all) {
             if (turn >= 0) each.seconds.push_back(seconds / each.count);
         }
     }
-    for (Contestant &each : all) {
-        std::sort(each.seconds.begin(), each.seconds.end());
-    }
+    for (Contestant &each : all) { std::sort(each.seconds.begin(), each.seconds.end()); }
 }
 
 static const Contestant *named(const Contestants &all, const std::string &name) {
@@ -416,7 +419,8 @@ static void print_table(const Contestants &all) {
     printf("\n| | | least | median | to GSL's ziggurat, least | median |\n|---|---|---:|---:|---:|---:|\n");
     for (const Contestant &each : all) {
         double scale = each.unit.in_a_second;
-        printf("| %s | %s | %.2f | %.2f |", each.name.c_str(), each.unit.name, each.least() * scale, each.median() * scale);
+        printf("| %s | %s | %.2f | %.2f |", each.name.c_str(), each.unit.name, each.least() * scale,
+               each.median() * scale);
         if (gsl != nullptr && &each.unit == &A_SAMPLE) {
             printf(" %.2f | %.2f |\n", each.least() / gsl->least(), each.median() / gsl->median());
         } else {
@@ -425,12 +429,15 @@ static void print_table(const Contestants &all) {
     }
 }
 
-// Quiet: others had no work before the run, took no processor from it, and the fixed loop took nearly the same time in nine of ten runs.
+// Quiet: others had no work before the run, took no processor from it, and the fixed loop took nearly the same time in
+// nine of ten runs.
 static void print_quiet(double load, double share, const Contestant &loop) {
     double spread = loop.ninth_tenth() / loop.least();
     bool quiet = load < 1 && share > 0.98 && spread < 1.05;
-    printf("The machine was %s: load %.2f before the run; the run had %.0f %% of a processor; nine of ten runs of a fixed loop took at most\n"
-           "%.2f of the least time.\n", quiet ? "quiet" : "NOT QUIET", load, share * 100, spread);
+    printf("The machine was %s: load %.2f before the run; the run had %.0f %% of a processor; nine of ten runs of a "
+           "fixed loop took at most\n"
+           "%.2f of the least time.\n",
+           quiet ? "quiet" : "NOT QUIET", load, share * 100, spread);
 }
 
 static Contestants contestants() {
@@ -448,7 +455,8 @@ static Contestants contestants() {
     return all;
 }
 
-// For the data sheet: blocks of every power of two, the others, calls, and skips of as many pairs as just fit a number of bits.
+// For the data sheet: blocks of every power of two, the others, calls, and skips of as many pairs as just fit a number
+// of bits.
 static Contestants of_sheet() {
     Contestants all;
     std::vector<size_t> lengths;
@@ -468,7 +476,8 @@ static Contestants of_sheet() {
 
 // For a program to read.
 static void print_fields(const Contestants &all) {
-    for (const Contestant &each : all) printf("%s\t%s\t%.4f\n", each.name.c_str(), each.unit.name, each.least() * each.unit.in_a_second);
+    for (const Contestant &each : all)
+        printf("%s\t%s\t%.4f\n", each.name.c_str(), each.unit.name, each.least() * each.unit.in_a_second);
 }
 
 // With the argument `sheet` it times what the data sheet shows, and prints the least of each in fields.
@@ -497,12 +506,16 @@ int main(int argc, char **argv) {
     }
     print_table(all);
     const Contestant *eighteen = named(all, WIDE);
-    printf("\nA block of samples of 18 bits takes %.2f of the time of one of 16 bits by the least and %.2f by the median.\n",
+    printf("\nA block of samples of 18 bits takes %.2f of the time of one of 16 bits by the least and %.2f by the "
+           "median.\n",
            eighteen->least() / all[0].least(), eighteen->median() / all[0].median());
     const Contestant *play = named(all, PLAY), *texts = named(all, BY_TEXTS);
-    printf("\nA play takes %.2f times a block's sample a leg by the least and %.2f by the median (4 at most), and the texts' way %.1f times as long.\n",
-           play->least() / LEGS / all[0].least(), play->median() / LEGS / all[0].median(), texts->least() / play->least());
-    printf("\nSamples of others are rounded to i16, in units of 2^-11. All take turns; a time is the least or the median of %d short runs.\n"
+    printf("\nA play takes %.2f times a block's sample a leg by the least and %.2f by the median (4 at most), and the "
+           "texts' way %.1f times as long.\n",
+           play->least() / LEGS / all[0].least(), play->median() / LEGS / all[0].median(),
+           texts->least() / play->least());
+    printf("\nSamples of others are rounded to i16, in units of 2^-11. All take turns; a time is the least or the "
+           "median of %d short runs.\n"
            "To draw 2^64 - 1 pairs by blocks of %zu would take %.0f years.\n",
            RUNS, LENGTH, 2 * all[0].least() * UINT64_MAX / (365.25 * 86400));
     print_quiet(load, share, loop);

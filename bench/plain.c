@@ -39,9 +39,7 @@ static inline int top_bit(uint64_t m) {
     return (int)(bits >> 52) - 1023;
 }
 
-static inline uint64_t root_double(uint64_t x) {
-    return (uint64_t)(int64_t)sqrt((double)(int64_t)x);
-}
+static inline uint64_t root_double(uint64_t x) { return (uint64_t)(int64_t)sqrt((double)(int64_t)x); }
 
 static inline uint64_t root_bits(uint64_t x) {
     uint64_t root = 0;
@@ -80,16 +78,10 @@ static inline void pair(uint64_t k, uint32_t v, int16_t *out, uint64_t (*root)(u
 }
 
 static inline uint32_t block_by(uint32_t *registers, int16_t *block, size_t length, uint64_t (*root)(uint64_t)) {
-    if (!accepted(registers)) {
-        return 1;
-    }
-    if (length % 2 == 1) {
-        return 4;
-    }
+    if (!accepted(registers)) { return 1; }
+    if (length % 2 == 1) { return 4; }
     uint32_t r[6];
-    for (int j = 0; j < 6; j++) {
-        r[j] = registers[j];
-    }
+    for (int j = 0; j < 6; j++) { r[j] = registers[j]; }
     /* by stretches: the draws of 512 pairs, then their samples */
     uint64_t drawn[512];
     for (size_t at = 0; at < length;) {
@@ -98,13 +90,9 @@ static inline uint32_t block_by(uint32_t *registers, int16_t *block, size_t leng
             uint64_t a = step(r);
             drawn[j] = a << 32 | step(r + 3);
         }
-        for (size_t j = 0; j < pairs; j++, at += 2) {
-            pair(drawn[j] >> 16, drawn[j] & 65535, block + at, root);
-        }
+        for (size_t j = 0; j < pairs; j++, at += 2) { pair(drawn[j] >> 16, drawn[j] & 65535, block + at, root); }
     }
-    for (int j = 0; j < 6; j++) {
-        registers[j] = r[j];
-    }
+    for (int j = 0; j < 6; j++) { registers[j] = r[j]; }
     return 0;
 }
 

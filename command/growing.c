@@ -7,14 +7,15 @@
 
 /* `array` is the place of a pointer to elements of that size; its room doubles at least. */
 bool room_for(size_t more, void *array, size_t count, size_t *room, size_t size) {
-    void *bytes;
+    void *bytes, *grown;
     if (*room - count >= more) return true;
     size_t wanted = 2 * *room + more + 64;
     memcpy(&bytes, array, sizeof bytes);
-    bytes = realloc(bytes, wanted * size);
-    if (bytes == NULL) return false;
-    memcpy(array, &bytes, sizeof bytes);
+    grown = realloc(bytes, wanted * size);
+    if (grown == NULL) return false;
+    memcpy(array, &grown, sizeof grown);
     *room = wanted;
+    /* cppcheck-suppress memleak ; it is where `array` points */
     return true;
 }
 

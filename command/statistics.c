@@ -8,9 +8,9 @@
 vector noise_of(const task *t, uint64_t run) { return (vector){(double)(t->misses[run][0] - t->own[0]), (double)(t->misses[run][1] - t->own[1])}; }
 
 /* The step that a measure of a run falls into: the smallest whose end it does not pass. */
-static uint64_t step_of(vector noise, int measure, uint64_t width) {
+static uint64_t step_of(vector noise, int which, uint64_t width) {
     uint64_t east = (uint64_t)fabs(noise.east), north = (uint64_t)fabs(noise.north), square = east * east + north * north;
-    if (measure != DISTANCE) return ((measure == EAST ? east : north) + width - 1) / width;
+    if (which != DISTANCE) return ((which == EAST ? east : north) + width - 1) / width;
     uint64_t step = (uint64_t)(sqrt((double)square) / (double)width);
     while (step > 0 && (step - 1) * width * (step - 1) * width >= square) step--;
     while (step * width * step * width < square) step++;
@@ -27,14 +27,14 @@ static bool keep(histogram *h, const uint64_t *counts, size_t size) {
     return h->bars != NULL;
 }
 
-static bool count_steps(const task *t, int measure, uint64_t width, histogram *h) {
+static bool count_steps(const task *t, int which, uint64_t width, histogram *h) {
     uint64_t most = 0;
     for (uint64_t run = 0; run < t->runs; run++) {
-        uint64_t step = step_of(noise_of(t, run), measure, width);
+        uint64_t step = step_of(noise_of(t, run), which, width);
         if (step > most) most = step;
     }
     uint64_t *counts = calloc((size_t)most + 1, sizeof counts[0]);
-    for (uint64_t run = 0; counts != NULL && run < t->runs; run++) counts[step_of(noise_of(t, run), measure, width)]++;
+    for (uint64_t run = 0; counts != NULL && run < t->runs; run++) counts[step_of(noise_of(t, run), which, width)]++;
     bool kept = counts != NULL && keep(h, counts, (size_t)most + 1);
     free(counts);
     return kept;
@@ -66,8 +66,8 @@ int tally_of(const task *t, uint64_t width, tally *kept) {
     *kept = (tally){.first = t->first, .runs = t->runs, .width = width};
     add_up(t, kept);
     count_beyond(t, kept);
-    for (int measure = 0; measure < MEASURES; measure++) {
-        if (!count_steps(t, measure, width, &kept->of[measure])) return trouble("tolerance", strerror(ENOMEM));
+    for (int which = 0; which < MEASURES; which++) {
+        if (!count_steps(t, which, width, &kept->of[which])) return trouble("tolerance", strerror(ENOMEM));
     }
     return DONE;
 }
@@ -84,14 +84,14 @@ covariance covariance_of(const tally *kept) {
     };
 }
 
-double rms_of(const tally *kept, int measure) {
-    double squares = measure == EAST ? kept->squares.east : measure == NORTH ? kept->squares.north : kept->squares.east + kept->squares.north;
+double rms_of(const tally *kept, int which) {
+    double squares = which == EAST ? kept->squares.east : which == NORTH ? kept->squares.north : kept->squares.east + kept->squares.north;
     return sqrt(squares / (double)kept->runs);
 }
 
 /* The least end of a step that at least so many thousandths of the runs lie within. */
-uint64_t within_of(const tally *kept, int measure, unsigned thousandths) {
-    const histogram *h = &kept->of[measure];
+uint64_t within_of(const tally *kept, int which, unsigned thousandths) {
+    const histogram *h = &kept->of[which];
     uint64_t wanted = (kept->runs / 1000 * thousandths) + (kept->runs % 1000 * thousandths + 999) / 1000, found = 0;
     size_t at = 0;
     while (at + 1 < h->size && (found += h->bars[at].count) < wanted) at++;

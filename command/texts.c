@@ -33,11 +33,11 @@ int list(int count, char **words) {
 }
 
 int legs(int count, char **words) {
-    text survey;
+    text legs_text;
     uint8_t *shots;
     size_t length;
-    int status = named_text(count, words, &survey);
-    if (status == DONE) status = shots_of(&survey, &shots, &length);
+    int status = named_text(count, words, &legs_text);
+    if (status == DONE) status = shots_of(&legs_text, &shots, &length);
     return status == DONE ? put(shots, length) : status;
 }
 
@@ -46,7 +46,7 @@ int misses(int count, char **words) {
     static const char BETWEEN[] = "FROM TO LOW HIGH STEP\n";
     text listing;
     int64_t sums[4], mm[4];
-    uint32_t line;
+    uint32_t line = 0;
     int status = named_text(count, words, &listing);
     if (status != DONE) return status;
     bool between = listing.length >= strlen(BETWEEN) && memcmp(listing.bytes, BETWEEN, strlen(BETWEEN)) == 0;

@@ -1,5 +1,6 @@
-/* Every call of jabulghi.h once, as a maker uses it. Each returns a number, 0 when accepted; a device that checks none but the first misses little, since a
- * record that was accepted is refused later for its count, its note or a call's own arguments alone.
+/* Every call of jabulghi.h once, as a maker uses it. Each returns a number, 0 when accepted; a device that checks none
+ * but the first misses little, since a record that was accepted is refused later for its count, its note or a call's
+ * own arguments alone.
  *
  *   cc calls.c $(pkg-config --cflags --libs jabulghi) -o calls
  */
@@ -8,7 +9,8 @@
 #include <stdio.h>
 #include <string.h>
 
-/* Two samples as noise on a shot of 12.345 m at 90 degrees (16384 of 65536 steps), with a sigma of 4 mm and of 10 steps. */
+/* Two samples as noise on a shot of 12.345 m at 90 degrees (16384 of 65536 steps), with a sigma of 4 mm and of 10
+ * steps. */
 static void print_shot(const int16_t samples[2]) {
     double millimetres = 12345 + 4.0 * samples[0] / 2048, steps = 16384 + 10.0 * samples[1] / 2048;
     printf("%.3f mm, %.3f steps\n", millimetres, steps);
@@ -18,7 +20,8 @@ static void records(jabulghi_record *record) {
     int16_t pair[2], screen[6], block[6];
 
     /* six unrelated large numbers, as `jabulghi seeds` draws them */
-    uint32_t number = jabulghi_seed(3770694558u, 3532774216u, 2901327257u, 4093209576u, 2137023497u, 2889436789u, record);
+    uint32_t number =
+        jabulghi_seed(3770694558u, 3532774216u, 2901327257u, 4093209576u, 2137023497u, 2889436789u, record);
     if (number != JABULGHI_OK) printf("refused: %" PRIu32 "\n", number);
 
     jabulghi_pair(record, pair); /* one shot */
@@ -31,10 +34,10 @@ static void records(jabulghi_record *record) {
     jabulghi_skip(record, 1000000000000u); /* another rig's stretch of the same stream */
     printf("%" PRIu64 " pairs handed out or skipped\n", record->count);
 
-    jabulghi_ask(record, 3);          /* three pairs are noted, and nothing moves */
-    jabulghi_take(record, block, 6);  /* just two samples for each */
-    jabulghi_ask(record, 3);          /* or */
-    jabulghi_give_up(record);         /* the note is cleared, and nothing moves */
+    jabulghi_ask(record, 3);         /* three pairs are noted, and nothing moves */
+    jabulghi_take(record, block, 6); /* just two samples for each */
+    jabulghi_ask(record, 3);         /* or */
+    jabulghi_give_up(record);        /* the note is cleared, and nothing moves */
     printf("%" PRIu64 " pairs\n", record->count);
 
     jabulghi_sample(357, 0, pair); /* the two samples of a k and a v of one's own */
@@ -76,10 +79,12 @@ static void again(jabulghi_record *record) {
     printf("the same from D7 on: %s\n", memcmp(first, second, sizeof first) == 0 ? "yes" : "no");
 }
 
-/* From a Survex survey to how far its loop misses: the legs become shot lines, a job's first two lines come before them, and its listing is added up. */
+/* From a Survex survey to how far its loop misses: the legs become shot lines, a job's first two lines come before
+ * them, and its listing is added up. */
 static void survey(void) {
     static const char text[] = "*data normal from to tape compass clino\nA B 10 0 0\nB C 10 120 0\nC A 10 240 0\n";
-    static const char head[] = "(seeds (a 3770694558 3532774216 2901327257) (b 4093209576 2137023497 2889436789))\n(sigma 4 10)\n";
+    static const char head[] =
+        "(seeds (a 3770694558 3532774216 2901327257) (b 4093209576 2137023497 2889436789))\n(sigma 4 10)\n";
     static uint8_t job[1000], listing[JABULGHI_LISTING_ROOM];
     size_t start = strlen(head), length, line_of_legs;
     int64_t sums[2], millimetres[2];
@@ -94,7 +99,8 @@ static void survey(void) {
 
 /* An old tape book gives a shortest and a longest distance: how far the loop misses at least and at most. */
 static void tape_book(void) {
-    static const char text[] = "FROM TO LOW HIGH STEP\nA B 9990 10010 0\nB C 9980 10000 21845\nC A 9990 10030 43691\nEND 3\n";
+    static const char text[] =
+        "FROM TO LOW HIGH STEP\nA B 9990 10010 0\nB C 9980 10000 21845\nC A 9990 10030 43691\nEND 3\n";
     int64_t sums[4], mm[4];
     uint32_t line;
     jabulghi_intervals((const uint8_t *)text, strlen(text), sums, mm, &line);
@@ -103,12 +109,14 @@ static void tape_book(void) {
 
 /* A loop played three times: east and north of each run's miss. Another machine would go on from run 3. */
 static void plays(void) {
-    static const char job[] = "(seeds (a 3770694558 3532774216 2901327257) (b 4093209576 2137023497 2889436789))\n(sigma 4 10)\n"
-                              "(shot A B 10000 0)\n(shot B C 10000 21845)\n(shot C A 10000 43691)\n";
+    static const char job[] =
+        "(seeds (a 3770694558 3532774216 2901327257) (b 4093209576 2137023497 2889436789))\n(sigma 4 10)\n"
+        "(shot A B 10000 0)\n(shot B C 10000 21845)\n(shot C A 10000 43691)\n";
     int64_t misses[3][2];
     uint32_t line;
     jabulghi_play((const uint8_t *)job, strlen(job), 0, misses, 3, &line);
-    for (int run = 0; run < 3; run++) printf("run %d: east %" PRId64 " mm, north %" PRId64 " mm\n", run, misses[run][0], misses[run][1]);
+    for (int run = 0; run < 3; run++)
+        printf("run %d: east %" PRId64 " mm, north %" PRId64 " mm\n", run, misses[run][0], misses[run][1]);
 }
 
 int main(void) {

@@ -18,7 +18,8 @@ extern "C" {
 
 fn main() {
     let (mut record, mut block) = (Record::default(), [0i16; 8]);
-    let seeded = unsafe { jabulghi_seed(3770694558, 3532774216, 2901327257, 4093209576, 2137023497, 2889436789, &mut record) };
+    let seeded =
+        unsafe { jabulghi_seed(3770694558, 3532774216, 2901327257, 4093209576, 2137023497, 2889436789, &mut record) };
     let drawn = unsafe { jabulghi_block(&mut record, block.as_mut_ptr(), block.len()) };
     assert!(seeded == 0 && drawn == 0);
     for sample in block {

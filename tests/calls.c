@@ -1,10 +1,12 @@
-/* Every call of include/jabulghi.h from C but those for 18 bits and jabulghi_play: one that is accepted and one for each refusal but 9. */
+/* Every call of include/jabulghi.h from C but those for 18 bits and jabulghi_play: one that is accepted and one for
+ * each refusal but 9. */
 #include "jabulghi.h"
 #include <inttypes.h>
 #include <stdio.h>
 #include <string.h>
 
-/* A record is six registers, a count and a note with nothing between them: where that fails, the size of an array is negative. */
+/* A record is six registers, a count and a note with nothing between them: where that fails, the size of an array is
+ * negative. */
 typedef char record_has_40_bytes[sizeof(jabulghi_record) == 40 ? 1 : -1];
 typedef char a_comes_first[offsetof(jabulghi_record, a) == 0 ? 1 : -1];
 typedef char b_comes_after[offsetof(jabulghi_record, b) == 12 ? 1 : -1];
@@ -20,7 +22,8 @@ typedef char sum_is_aligned[offsetof(jabulghi_window, sum) == 8208 ? 1 : -1];
 typedef char squares_come_last[offsetof(jabulghi_window, squares) == 8216 ? 1 : -1];
 
 static void show_record(const jabulghi_record *r) {
-    printf(" %" PRIu32 " %" PRIu32 " %" PRIu32 " %" PRIu32 " %" PRIu32 " %" PRIu32, r->a[0], r->a[1], r->a[2], r->b[0], r->b[1], r->b[2]);
+    printf(" %" PRIu32 " %" PRIu32 " %" PRIu32 " %" PRIu32 " %" PRIu32 " %" PRIu32, r->a[0], r->a[1], r->a[2], r->b[0],
+           r->b[1], r->b[2]);
     printf(", count %" PRIu64, r->count);
     if (r->open || r->asked) printf(", open %" PRIu32 ", asked %" PRIu32, r->open, r->asked);
     printf("\n");
@@ -86,7 +89,8 @@ static void give_up(jabulghi_record *r) {
 
 /* A request from asking to its take or its end, with each call that waits. */
 static void requests(void) {
-    jabulghi_record r, unfit = {{2, 8, 16}, {2, 8, 15}, 0, 9, 2}, elsewhere = {{2, 8, 16}, {2, 8, 16}, 0, 7, 2000000}, full;
+    jabulghi_record r, unfit = {{2, 8, 16}, {2, 8, 15}, 0, 9, 2}, elsewhere = {{2, 8, 16}, {2, 8, 16}, 0, 7, 2000000},
+                       full;
     seed(&r, 2);
     take(&r, 0);
     give_up(&r);
@@ -131,7 +135,8 @@ static void list(size_t length, size_t room) {
     uint32_t line = 7;
     size_t written = 7;
     uint32_t number = jabulghi_list((const uint8_t *)text, length, listing, room, &line, &written);
-    printf("list %" PRIu32 ": line %" PRIu32 ", length %lu, listing '%.*s'\n", number, line, (unsigned long)written, (int)written + 3, (char *)listing);
+    printf("list %" PRIu32 ": line %" PRIu32 ", length %lu, listing '%.*s'\n", number, line, (unsigned long)written,
+           (int)written + 3, (char *)listing);
 }
 
 static void list_text(const char *lines, size_t room) {
@@ -145,7 +150,8 @@ static void list_shots(int shots) {
     uint32_t line = 7;
     size_t written = 7;
     static uint8_t listing[JABULGHI_LISTING_ROOM];
-    uint32_t number = jabulghi_list((const uint8_t *)text, (size_t)(end - text), listing, sizeof listing, &line, &written);
+    uint32_t number =
+        jabulghi_list((const uint8_t *)text, (size_t)(end - text), listing, sizeof listing, &line, &written);
     printf("%d shots %" PRIu32 ": line %" PRIu32 ", length %lu\n", shots, number, line, (unsigned long)written);
 }
 
@@ -153,9 +159,10 @@ static void list_shots(int shots) {
 static void show_window(const char *call, uint32_t number, const jabulghi_window *w) {
     int others = 0;
     for (int j = 4; j < 4095; j++) others += w->places[j] != 0;
-    printf("%s %" PRIu32 ": N %" PRIu32 ", held %" PRIu32 ", place %" PRIu32 ", sums %" PRId64 " %" PRId64, call, number, w->size, w->held, w->place,
-           w->sum, w->squares);
-    printf(", places %d %d %d %d .. %d, %d others\n", w->places[0], w->places[1], w->places[2], w->places[3], w->places[4095], others);
+    printf("%s %" PRIu32 ": N %" PRIu32 ", held %" PRIu32 ", place %" PRIu32 ", sums %" PRId64 " %" PRId64, call,
+           number, w->size, w->held, w->place, w->sum, w->squares);
+    printf(", places %d %d %d %d .. %d, %d others\n", w->places[0], w->places[1], w->places[2], w->places[3],
+           w->places[4095], others);
 }
 
 static void make(jabulghi_window *w, uint32_t n) {
@@ -229,7 +236,8 @@ static void legs(const char *lines, size_t room) {
     memset(shots, '-', sizeof shots);
     size_t line = 7, written = 7;
     uint32_t number = jabulghi_legs((const uint8_t *)lines, strlen(lines), shots, room, &line, &written);
-    printf("legs %" PRIu32 ": line %lu, length %lu, shots '%.*s'\n", number, (unsigned long)line, (unsigned long)written, (int)written + 3, (char *)shots);
+    printf("legs %" PRIu32 ": line %lu, length %lu, shots '%.*s'\n", number, (unsigned long)line,
+           (unsigned long)written, (int)written + 3, (char *)shots);
 }
 
 #define SHOTS 500
@@ -305,7 +313,8 @@ static void miss(const char *t) {
     int64_t sums[2] = {7, 7}, mm[2] = {7, 7};
     uint32_t line = 7;
     uint32_t number = jabulghi_misclosure((const uint8_t *)t, strlen(t), sums, mm, &line);
-    printf("misclosure %" PRIu32 ": line %" PRIu32 ", east %" PRId64 ", north %" PRId64, number, line, sums[0], sums[1]);
+    printf("misclosure %" PRIu32 ": line %" PRIu32 ", east %" PRId64 ", north %" PRId64, number, line, sums[0],
+           sums[1]);
     printf(", in mm %" PRId64 " and %" PRId64 "\n", mm[0], mm[1]);
 }
 

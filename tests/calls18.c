@@ -17,9 +17,7 @@ static void show(const char *call, uint32_t number, const int32_t s[6], const ja
 
 typedef uint32_t filler(jabulghi_record *r, int32_t *block, size_t length);
 
-static uint32_t look(jabulghi_record *r, int32_t *block, size_t length) {
-    return jabulghi_look18(r, block, length);
-}
+static uint32_t look(jabulghi_record *r, int32_t *block, size_t length) { return jabulghi_look18(r, block, length); }
 
 static void fill(const char *call, filler *f, jabulghi_record *r, size_t length) {
     int32_t s[6] = {7, 7, 7, 7, 7, 7};

@@ -1,5 +1,6 @@
-/* Runs the calls that the other implementation wrote into a file (target/tests/release/beside elsewhere FILE; tests/src/elsewhere.rs says how), which stands in
- * the program itself, so that no system is needed. The number that a call returns and all memory that it is lent, with margins, have to be as written. */
+/* Runs the calls that the other implementation wrote into a file (target/tests/release/beside elsewhere FILE;
+ * tests/src/elsewhere.rs says how), which stands in the program itself, so that no system is needed. The number that a
+ * call returns and all memory that it is lent, with margins, have to be as written. */
 #include "jabulghi.h"
 #include <stdio.h>
 #include <string.h>
@@ -11,7 +12,10 @@ static const unsigned char *at = calls;
 #define MARGIN 16
 #define MARK 0xA5
 /* What is lent, and what it has to be after the call. */
-static union { uint64_t aligned; unsigned char bytes[1 << 16]; } lent, expected;
+static union {
+    uint64_t aligned;
+    unsigned char bytes[1 << 16];
+} lent, expected;
 
 /* A number of so many bytes. */
 static uint64_t number(int bytes) {
@@ -36,10 +40,15 @@ static size_t lend(size_t place) {
 }
 
 /* A size_t between margins of its own, as a number of 64 bits. */
-static void keep(uint64_t *place, const size_t size[3]) { *place = size[0] == 1 && size[2] == 3 ? size[1] : UINT64_MAX; }
+static void keep(uint64_t *place, const size_t size[3]) {
+    *place = size[0] == 1 && size[2] == 3 ? size[1] : UINT64_MAX;
+}
 
-#define CALL(name, arguments) \
-    static uint32_t name(void **p, const uint64_t *n) { (void)n; return jabulghi_##name arguments; }
+#define CALL(name, arguments)                                                                                          \
+    static uint32_t name(void **p, const uint64_t *n) {                                                                \
+        (void)n;                                                                                                       \
+        return jabulghi_##name arguments;                                                                              \
+    }
 CALL(seed, ((uint32_t)n[0], (uint32_t)n[1], (uint32_t)n[2], (uint32_t)n[3], (uint32_t)n[4], (uint32_t)n[5], p[0]))
 CALL(sample, (n[0], (uint32_t)n[1], p[0]))
 CALL(pair, (p[0], p[1]))
@@ -77,11 +86,38 @@ static uint32_t legs(void **p, const uint64_t *n) {
     return returned;
 }
 
-#define ROW(name) {#name, name, 0}
-static struct { const char *name; uint32_t (*call)(void **, const uint64_t *); unsigned long ran; } CALLS[] = {
-    ROW(seed), ROW(sample), ROW(pair), ROW(block), ROW(look), ROW(skip), ROW(ask), ROW(take), ROW(give_up), ROW(sample18), ROW(pair18), ROW(block18),
-    ROW(look18), ROW(take18), ROW(list), ROW(legs), ROW(misclosure), ROW(intervals), ROW(play), ROW(window_make_members), ROW(window_push_members),
-    ROW(window_push_all_members), ROW(marks_save_members), ROW(marks_return_members), ROW(marks_drop_members),
+#define ROW(name)                                                                                                      \
+    { #name, name, 0 }
+static struct {
+    const char *name;
+    uint32_t (*call)(void **, const uint64_t *);
+    unsigned long ran;
+} CALLS[] = {
+    ROW(seed),
+    ROW(sample),
+    ROW(pair),
+    ROW(block),
+    ROW(look),
+    ROW(skip),
+    ROW(ask),
+    ROW(take),
+    ROW(give_up),
+    ROW(sample18),
+    ROW(pair18),
+    ROW(block18),
+    ROW(look18),
+    ROW(take18),
+    ROW(list),
+    ROW(legs),
+    ROW(misclosure),
+    ROW(intervals),
+    ROW(play),
+    ROW(window_make_members),
+    ROW(window_push_members),
+    ROW(window_push_all_members),
+    ROW(marks_save_members),
+    ROW(marks_return_members),
+    ROW(marks_drop_members),
 };
 #define ROWS (sizeof CALLS / sizeof CALLS[0])
 

@@ -1,4 +1,5 @@
-/* A number for 10^6 samples of each width after a long skip, drawn in blocks, and the count after them. (FNV-1a of their bytes, lowest first.) */
+/* A number for 10^6 samples of each width after a long skip, drawn in blocks, and the count after them. (FNV-1a of
+ * their bytes, lowest first.) */
 #include "jabulghi.h"
 #include <inttypes.h>
 #include <stdio.h>
@@ -20,9 +21,11 @@ static void run(int bits) {
     for (int k = 0; k < 1000000 / LENGTH; k++) {
         if (bits == 16) jabulghi_block(&record, block, LENGTH);
         else jabulghi_block18(&record, block18, LENGTH);
-        for (int j = 0; j < LENGTH; j++) add(bits == 16 ? (uint32_t)block[j] : (uint32_t)block18[j], bits == 16 ? 2 : 4);
+        for (int j = 0; j < LENGTH; j++)
+            add(bits == 16 ? (uint32_t)block[j] : (uint32_t)block18[j], bits == 16 ? 2 : 4);
     }
-    printf("%d bits: %08" PRIx32 "%08" PRIx32 ", count %" PRIu64 "\n", bits, (uint32_t)(hash >> 32), (uint32_t)hash, record.count);
+    printf("%d bits: %08" PRIx32 "%08" PRIx32 ", count %" PRIu64 "\n", bits, (uint32_t)(hash >> 32), (uint32_t)hash,
+           record.count);
 }
 
 int main(void) {

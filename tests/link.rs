@@ -1,6 +1,12 @@
 #[repr(C)]
 #[derive(Default)]
-struct Record { a: [u32; 3], b: [u32; 3], count: u64, open: u32, asked: u32 }
+struct Record {
+    a: [u32; 3],
+    b: [u32; 3],
+    count: u64,
+    open: u32,
+    asked: u32,
+}
 extern "C" {
     fn jabulghi_seed(a0: u32, a1: u32, a2: u32, b0: u32, b1: u32, b2: u32, record: &mut Record) -> u32;
     fn jabulghi_block(record: &mut Record, block: *mut i16, length: usize) -> u32;

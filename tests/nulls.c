@@ -1,4 +1,5 @@
-/* Where a length is 0 its pointer may be null: every such call returns and leaves what it does with a pointer to something. Prints "alike". */
+/* Where a length is 0 its pointer may be null: every such call returns and leaves what it does with a pointer to
+ * something. Prints "alike". */
 #include "jabulghi.h"
 #include <stdio.h>
 #include <string.h>

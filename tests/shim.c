@@ -1,5 +1,5 @@
-/* Stands before the C library where tests/command loads it: reads and writes that are interrupted every second time and cut short else, and a system
- * without randomness. */
+/* Stands before the C library where tests/command loads it: reads and writes that are interrupted every second time and
+ * cut short else, and a system without randomness. */
 #define _GNU_SOURCE
 #include <errno.h>
 #include <stdio.h>

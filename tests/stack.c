@@ -1,5 +1,6 @@
-/* How much stack each call takes: it runs on a stack that was painted, and the bytes that lost their paint are counted, from the deepest one on, less
- * those of a call that does nothing. Prints a line for each call. Inputs are the longest, and both accepted and refused ones. */
+/* How much stack each call takes: it runs on a stack that was painted, and the bytes that lost their paint are counted,
+ * from the deepest one on, less those of a call that does nothing. Prints a line for each call. Inputs are the longest,
+ * and both accepted and refused ones. */
 #include "jabulghi.h"
 #include <stdio.h>
 #include <string.h>
@@ -41,11 +42,23 @@ static void set_text(const char *head, const char *row, const char *end) {
     at += sprintf(at, "%s", end);
     text_length = (size_t)(at - (char *)text);
 }
-static void set_job(void) { set_text("(seeds (a 2 8 16) (b 2 8 16))\n(sigma 1000 1000)\n", "(shot ABCDEFGHIJKL MNOPQRSTUVWX 1000000 65535)\n", ""); }
-static void set_loop(void) { set_text("(seeds (a 2 8 16) (b 2 8 16))\n(sigma 1000 1000)\n", "(shot ABCDEFGHIJKL ABCDEFGHIJKL 1000000 65535)\n", ""); }
-static void set_survey(void) { set_text("*data normal from to tape compass clino\n", "ABCDEFGHIJKL\tMNOPQRSTUVWX 0999.999 0359.99 0 ; c\n", ""); }
-static void set_listing(void) { set_text("FROM TO MM STEP\n", "ABCDEFGHIJKL ABCDEFGHIJKL 1008242 65535\n", "END 500\n"); }
-static void set_readings(void) { set_text("FROM TO LOW HIGH STEP\n", "ABCDEFGHIJKL ABCDEFGHIJKL 1008241 1008242 65535\n", "END 500\n"); }
+static void set_job(void) {
+    set_text("(seeds (a 2 8 16) (b 2 8 16))\n(sigma 1000 1000)\n", "(shot ABCDEFGHIJKL MNOPQRSTUVWX 1000000 65535)\n",
+             "");
+}
+static void set_loop(void) {
+    set_text("(seeds (a 2 8 16) (b 2 8 16))\n(sigma 1000 1000)\n", "(shot ABCDEFGHIJKL ABCDEFGHIJKL 1000000 65535)\n",
+             "");
+}
+static void set_survey(void) {
+    set_text("*data normal from to tape compass clino\n", "ABCDEFGHIJKL\tMNOPQRSTUVWX 0999.999 0359.99 0 ; c\n", "");
+}
+static void set_listing(void) {
+    set_text("FROM TO MM STEP\n", "ABCDEFGHIJKL ABCDEFGHIJKL 1008242 65535\n", "END 500\n");
+}
+static void set_readings(void) {
+    set_text("FROM TO LOW HIGH STEP\n", "ABCDEFGHIJKL ABCDEFGHIJKL 1008241 1008242 65535\n", "END 500\n");
+}
 static void set_none(void) { text_length = 0; }
 static void set_records(void) {
     jabulghi_seed(3770694558u, 3532774216u, 2901327257u, 4093209576u, 2137023497u, 2889436789u, &record);
@@ -77,7 +90,9 @@ static void block18(void) { jabulghi_block18(&record, samples18, 4096); }
 static void look18(void) { jabulghi_look18(&record, samples18, 4096); }
 static void take18(void) { jabulghi_take18(&record, samples18, 4096); }
 static void list(void) { jabulghi_list(text, text_length, listing, sizeof listing, &line, &length); }
-static void list_measured(void) { jabulghi_list(text, text_length, listing, 20023, &line, &length); } /* a byte less than the longest listing */
+static void list_measured(void) {
+    jabulghi_list(text, text_length, listing, 20023, &line, &length);
+} /* a byte less than the longest listing */
 static void legs(void) { jabulghi_legs(text, text_length, shots, sizeof shots, &line_of_legs, &length); }
 static void misclosure(void) { jabulghi_misclosure(text, text_length, sums, millimetres, &line); }
 static void intervals(void) { jabulghi_intervals(text, text_length, sums, millimetres, &line); }
@@ -90,20 +105,42 @@ static void marks_return(void) { jabulghi_marks_return(&marks, &record, "P0", 2)
 static void marks_drop(void) { jabulghi_marks_drop(&marks, "P0", 2); }
 
 /* What is set up before a call, on the program's own stack, and the call. Two rows of a name: the deeper one counts. */
-static const struct { const char *name; void (*set)(void), (*call)(void); } CALLS[] = {
-    {"jabulghi_seed", set_records, seed}, {"jabulghi_sample", set_records, sample}, {"jabulghi_pair", set_records, pair},
-    {"jabulghi_block", set_records, block}, {"jabulghi_block", set_records, block_refused}, {"jabulghi_look", set_records, look},
-    {"jabulghi_skip", set_records, skip}, {"jabulghi_ask", set_records, ask}, {"jabulghi_take", set_request, take},
-    {"jabulghi_give_up", set_request, give_up}, {"jabulghi_sample18", set_records, sample18}, {"jabulghi_pair18", set_records, pair18},
-    {"jabulghi_block18", set_records, block18}, {"jabulghi_look18", set_records, look18}, {"jabulghi_take18", set_request, take18},
-    {"jabulghi_list", set_job, list}, {"jabulghi_list", set_job, list_measured}, {"jabulghi_list", set_none, list},
-    {"jabulghi_legs", set_survey, legs}, {"jabulghi_legs", set_none, legs},
-    {"jabulghi_misclosure", set_listing, misclosure}, {"jabulghi_misclosure", set_none, misclosure},
-    {"jabulghi_intervals", set_readings, intervals}, {"jabulghi_intervals", set_none, intervals},
-    {"jabulghi_play", set_loop, play}, {"jabulghi_play", set_job, play},
-    {"jabulghi_window_make", set_window, window_make}, {"jabulghi_window_push", set_window, window_push},
-    {"jabulghi_window_push_all", set_window, window_push_all}, {"jabulghi_marks_save", set_marks, marks_save},
-    {"jabulghi_marks_return", set_marks, marks_return}, {"jabulghi_marks_drop", set_marks, marks_drop},
+static const struct {
+    const char *name;
+    void (*set)(void), (*call)(void);
+} CALLS[] = {
+    {"jabulghi_seed", set_records, seed},
+    {"jabulghi_sample", set_records, sample},
+    {"jabulghi_pair", set_records, pair},
+    {"jabulghi_block", set_records, block},
+    {"jabulghi_block", set_records, block_refused},
+    {"jabulghi_look", set_records, look},
+    {"jabulghi_skip", set_records, skip},
+    {"jabulghi_ask", set_records, ask},
+    {"jabulghi_take", set_request, take},
+    {"jabulghi_give_up", set_request, give_up},
+    {"jabulghi_sample18", set_records, sample18},
+    {"jabulghi_pair18", set_records, pair18},
+    {"jabulghi_block18", set_records, block18},
+    {"jabulghi_look18", set_records, look18},
+    {"jabulghi_take18", set_request, take18},
+    {"jabulghi_list", set_job, list},
+    {"jabulghi_list", set_job, list_measured},
+    {"jabulghi_list", set_none, list},
+    {"jabulghi_legs", set_survey, legs},
+    {"jabulghi_legs", set_none, legs},
+    {"jabulghi_misclosure", set_listing, misclosure},
+    {"jabulghi_misclosure", set_none, misclosure},
+    {"jabulghi_intervals", set_readings, intervals},
+    {"jabulghi_intervals", set_none, intervals},
+    {"jabulghi_play", set_loop, play},
+    {"jabulghi_play", set_job, play},
+    {"jabulghi_window_make", set_window, window_make},
+    {"jabulghi_window_push", set_window, window_push},
+    {"jabulghi_window_push_all", set_window, window_push_all},
+    {"jabulghi_marks_save", set_marks, marks_save},
+    {"jabulghi_marks_return", set_marks, marks_return},
+    {"jabulghi_marks_drop", set_marks, marks_drop},
 };
 
 int main(void) {

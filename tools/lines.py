@@ -62,7 +62,7 @@ def faults(path: str, rules: Rules):
             yield number, f'{len(line)} columns, and {most} are the most'
 
 
-def main():
+def main() -> None:
     found = subprocess.run(
         ['git', 'ls-files', '-z', '-co', '--exclude-standard'], capture_output=True, text=True, check=True
     ).stdout.split('\0')

@@ -14,7 +14,7 @@ import tails
 PATH = tails.CRATES / "normal" / "specs" / "NormalRows.antt"
 LISTS = [("nearness", tails.LISTS[0]), ("nearness18", tails.LISTS[1])]
 PROOFS = tails.CRATES / "normal" / "proofs" / "TailTest.antt"
-TERMS = int(re.search(r"^terms = (\d+)$", PROOFS.read_text(), re.M).group(1))
+[TERMS] = map(int, re.findall(r"^terms = (\d+)$", PROOFS.read_text(), re.M))
 PARTS = 10**8
 
 

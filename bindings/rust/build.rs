@@ -9,7 +9,8 @@ fn main() {
         out.status.success().then(|| String::from_utf8_lossy(&out.stdout).trim().to_owned())
     };
     let folder = env::var("JABULGHI_LIB_DIR").map_or_else(said, Some);
-    let folder = folder.expect("libjabulghi.a: set JABULGHI_LIB_DIR to its folder, or install it where pkg-config looks");
+    let folder =
+        folder.expect("libjabulghi.a: set JABULGHI_LIB_DIR to its folder, or install it where pkg-config looks");
     println!("cargo:rerun-if-changed={folder}/libjabulghi.a");
     println!("cargo:rustc-link-search=native={folder}");
     println!("cargo:rustc-link-lib=static=jabulghi");

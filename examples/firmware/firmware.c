@@ -1,9 +1,13 @@
-/* A simulated logger without a system: the shots of a loop, each with noise as a listing has it, drawn shot by shot, so that no text is
- * kept (jabulghi_list makes the whole listing, in up to 20 KB of memory). It prints over semihosting what `jabulghi list ../loop.job` prints. */
+/* A simulated logger without a system: the shots of a loop, each with noise as a listing has it, drawn shot by shot, so
+ * that no text is kept (jabulghi_list makes the whole listing, in up to 20 KB of memory). It prints over semihosting
+ * what `jabulghi list ../loop.job` prints. */
 #include "jabulghi.h"
 #include "semihosting.h"
 
-struct shot { const char *from, *to; int32_t millimetres, step; };
+struct shot {
+    const char *from, *to;
+    int32_t millimetres, step;
+};
 static const struct shot SHOTS[] = {
     {"E0", "D1", 21700, 2321},  {"D1", "D2", 18050, 60348}, {"D2", "D3", 14255, 49480}, {"D3", "D4", 11900, 46239},
     {"D4", "D5", 13310, 36454}, {"D5", "D6", 16600, 27489}, {"D6", "D7", 9400, 21527},  {"D7", "E0", 17999, 17979},
@@ -40,12 +44,14 @@ int main(void) {
     static jabulghi_record record;
     int16_t samples[2];
     /* a device keeps its record, or seeds it with six numbers of its own, as `jabulghi seeds` draws them */
-    uint32_t number = jabulghi_seed(3770694558u, 3532774216u, 2901327257u, 4093209576u, 2137023497u, 2889436789u, &record);
+    uint32_t number =
+        jabulghi_seed(3770694558u, 3532774216u, 2901327257u, 4093209576u, 2137023497u, 2889436789u, &record);
     if (number != JABULGHI_OK) leave(1);
     print("FROM TO MM STEP\n");
     for (int j = 0; j < COUNT; j++) {
         jabulghi_pair(&record, samples);
-        print_shot(&SHOTS[j], SHOTS[j].millimetres + noise(SIGMA_MILLIMETRES, samples[0]), SHOTS[j].step + noise(SIGMA_STEPS, samples[1]));
+        print_shot(&SHOTS[j], SHOTS[j].millimetres + noise(SIGMA_MILLIMETRES, samples[0]),
+                   SHOTS[j].step + noise(SIGMA_STEPS, samples[1]));
     }
     print("END ");
     print_number(COUNT);

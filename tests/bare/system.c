@@ -1,4 +1,5 @@
-/* What a C library asks of a system, for the tests that print: text over semihosting, and memory for its buffers. The linker puts __wrap_main before main. */
+/* What a C library asks of a system, for the tests that print: text over semihosting, and memory for its buffers. The
+ * linker puts __wrap_main before main. */
 #include "semihosting.h"
 #include <stddef.h>
 #include <stdio.h>

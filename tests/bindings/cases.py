@@ -126,7 +126,8 @@ KINDS = {
     "intervals": sums,
     "play": play,
 }
-seen, wrong, left_out = {}, 0, 0
+seen: dict[str, int] = {}
+wrong = left_out = 0
 while place < len(content):
     name, returned, numbers, lent = written()
     if name in ("list", "legs") and returned == 10:

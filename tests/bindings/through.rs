@@ -93,7 +93,12 @@ calls! {
     }
 }
 
-fn miss<const N: usize>(answer: Result<Miss<N>, TextRefusal>, sums: &mut [i64; N], millimetres: &mut [i64; N], line: &mut u32) -> u32 {
+fn miss<const N: usize>(
+    answer: Result<Miss<N>, TextRefusal>,
+    sums: &mut [i64; N],
+    millimetres: &mut [i64; N],
+    line: &mut u32,
+) -> u32 {
     let (number, bad) = text_number(&answer);
     let found = answer.unwrap_or(Miss { sums: [0; N], millimetres: [0; N] });
     (*sums, *millimetres, *line) = (found.sums, found.millimetres, bad as u32);
@@ -102,10 +107,14 @@ fn miss<const N: usize>(answer: Result<Miss<N>, TextRefusal>, sums: &mut [i64; N
 
 type Members<'a> = (&'a mut u32, &'a mut u32, &'a mut u32, &'a mut [i16; 4096], &'a mut i64, &'a mut i64);
 
-fn on_window((size, held, place, places, sum, squares): Members, call: impl FnOnce(&mut Window) -> Result<(), Refusal>) -> u32 {
+fn on_window(
+    (size, held, place, places, sum, squares): Members,
+    call: impl FnOnce(&mut Window) -> Result<(), Refusal>,
+) -> u32 {
     let mut window = Window { size: *size, held: *held, place: *place, places: *places, sum: *sum, squares: *squares };
     let is = number(&call(&mut window));
-    (*size, *held, *place, *places, *sum, *squares) = (window.size, window.held, window.place, window.places, window.sum, window.squares);
+    (*size, *held, *place, *places, *sum, *squares) =
+        (window.size, window.held, window.place, window.places, window.sum, window.squares);
     is
 }
 

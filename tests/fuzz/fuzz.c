@@ -1,5 +1,6 @@
-/* Any bytes as the words and the texts of the command `jabulghi`, for libFuzzer: a survey, a job, a listing or a part of a merge, each with the options that
- * its first byte chooses. Nothing may read or write beyond its memory, overflow or divide by zero; tests/fuzz/run says how it is run. */
+/* Any bytes as the words and the texts of the command `jabulghi`, for libFuzzer: a survey, a job, a listing or a part
+ * of a merge, each with the options that its first byte chooses. Nothing may read or write beyond its memory, overflow
+ * or divide by zero; tests/fuzz/run says how it is run. */
 #include "../../command/tolerance.h"
 #include <stdio.h>
 #include <stdlib.h>
@@ -8,12 +9,12 @@
 /* The text as a part of a merge, which a NUL ends. */
 static void as_part(const uint8_t *bytes, size_t length) {
     part p = {0};
-    char *text = calloc(length + 1, 1);
-    memcpy(text, bytes, length);
-    read_part(text, length, &p);
+    char *ended = calloc(length + 1, 1);
+    memcpy(ended, bytes, length);
+    read_part(ended, length, &p);
     free(p.job.bytes);
     for (int j = 0; j < MEASURES; j++) free(p.runs.of[j].bars);
-    free(text);
+    free(ended);
 }
 
 /* The text as the word of each option that has a form. */
@@ -44,7 +45,9 @@ static void as_loop(const uint8_t *bytes, size_t length, const char *name) {
     t.runs = 20;
     t.jobs = 1;
     if (take_survey((text){name, copy, length}, &t.s) == DONE) {
-        if (t.s.about != JOB) t.s.seeds[0] = t.s.seeds[1] = t.s.seeds[2] = t.s.seeds[3] = t.s.seeds[4] = t.s.seeds[5] = 2901327257, t.s.sigma[0] = 4, t.s.sigma[1] = 91;
+        if (t.s.about != JOB)
+            t.s.seeds[0] = t.s.seeds[1] = t.s.seeds[2] = t.s.seeds[3] = t.s.seeds[4] = t.s.seeds[5] = 2901327257,
+            t.s.sigma[0] = 4, t.s.sigma[1] = 91;
         if (prepare(&t, "--first") == DONE && play_all(&t) == DONE && tally_of(&t, 1, &kept) == DONE) {
             report(&t, &kept, &written);
             report_json(&t, &kept, &written);

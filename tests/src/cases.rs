@@ -33,7 +33,12 @@ pub fn same<C: Case>(tables: &Tables, case: &C) -> C::Answer {
 }
 
 /// The same for calls from k and v: each v with the least k and with one of the last, and so many others. Gives how many calls, and how many were refused.
-pub fn same_samples<T, C: Case<Answer = (u32, T)>>(tables: &Tables, random: &mut Random, count: u32, call: fn(u64, u32) -> C) -> (u32, u32) {
+pub fn same_samples<T, C: Case<Answer = (u32, T)>>(
+    tables: &Tables,
+    random: &mut Random,
+    count: u32,
+    call: fn(u64, u32) -> C,
+) -> (u32, u32) {
     let mut refused = 0;
     for v in 0..65536 {
         same(tables, &call(0, v));
@@ -136,7 +141,8 @@ impl Call {
 /// Numbers below n: 0, half, one bit less, one less.
 pub fn below(n: u64) -> Vec<u64> {
     let bits = (0..64).rev().map(|bit| n & !(1 << bit));
-    let mut out: Vec<u64> = [0, n / 2].into_iter().chain(bits).chain([n.saturating_sub(1)]).filter(|&m| m < n).collect();
+    let mut out: Vec<u64> =
+        [0, n / 2].into_iter().chain(bits).chain([n.saturating_sub(1)]).filter(|&m| m < n).collect();
     out.dedup();
     out
 }
@@ -175,7 +181,11 @@ pub fn records(record: &Record) -> Vec<Record> {
     let fewer = below(record.count).into_iter().map(|count| Record { count, ..*record });
     let closed = below(record.open.into()).into_iter().map(|open| Record { open: open as u32, ..*record });
     let less = below(record.asked.into()).into_iter().map(|asked| Record { asked: asked as u32, ..*record });
-    closed.chain(less).chain(fewer).chain(lower(&record.registers).into_iter().map(|registers| Record { registers, ..*record })).collect()
+    closed
+        .chain(less)
+        .chain(fewer)
+        .chain(lower(&record.registers).into_iter().map(|registers| Record { registers, ..*record }))
+        .collect()
 }
 
 impl Case for Seed {
@@ -206,7 +216,8 @@ impl Case for History {
     }
     fn other(&self, tables: &Tables) -> Vec<Answer> {
         let [a0, a1, a2, b0, b1, b2] = self.0;
-        let streams = stream::recurrence([a0, a1, a2], self.1).into_iter().zip(stream::recurrence([b0, b1, b2], self.1));
+        let streams =
+            stream::recurrence([a0, a1, a2], self.1).into_iter().zip(stream::recurrence([b0, b1, b2], self.1));
         let pair = |(count, (a, b)): (u64, ([u32; 3], [u32; 3]))| {
             let record = Record { count, ..fresh([a[0], a[1], a[2], b[0], b[1], b[2]]) };
             (0, lent(&record), Lent::holding(&stream::samples(tables, draw_of(a), draw_of(b))))

@@ -42,7 +42,8 @@ fn printed(tables: &Tables) -> String {
     let (text, shot) = (text(), "(shot A B 5 65530)\n".len());
     let mut out = [JOB, &text[..text.len() - shot], &text].map(|text| job(tables, text)).concat();
     out +=
-        &[samples(tables, 1 << 48, 0), samples(tables, 0, 65536), block_line(tables, 1, 16), block_line(tables, 2, 16)].concat();
+        &[samples(tables, 1 << 48, 0), samples(tables, 0, 65536), block_line(tables, 1, 16), block_line(tables, 2, 16)]
+            .concat();
     out.extend((0..36).map(scattered).map(|s0| block_line(tables, s0, scattered(s0))));
     out
 }

@@ -28,7 +28,8 @@ impl Case for Run {
     }
     fn other(&self, tables: &Tables) -> Vec<Answer> {
         let registers = stream::seed(&self.0).1.registers;
-        let after = |pairs, (open, asked)| Record { registers: jump::ahead(&registers, pairs), count: pairs, open, asked };
+        let after =
+            |pairs, (open, asked)| Record { registers: jump::ahead(&registers, pairs), count: pairs, open, asked };
         let (mut pairs, mut note) = (0, (0, 0));
         let mut answer = |call: &Call| {
             let (number, _, samples) = call.other(tables, &after(pairs, note));
@@ -63,7 +64,8 @@ fn calls(count: u64) -> Vec<Call> {
     let fit = u64::MAX - count;
     let blocks = (0..=5).flat_map(|length| [Call::Look(length), Call::Block(length)]);
     let skips = [0, 1, 2, 3, fit.saturating_sub(1), fit, fit.saturating_add(1), u64::MAX].map(Call::Skip);
-    let few = [fit.saturating_sub(1), fit, fit.saturating_add(1)].map(|n| Call::Ask(u32::try_from(n).unwrap_or(u32::MAX)));
+    let few =
+        [fit.saturating_sub(1), fit, fit.saturating_add(1)].map(|n| Call::Ask(u32::try_from(n).unwrap_or(u32::MAX)));
     let asks = [0, 1, MOST_ASKED, MOST_ASKED + 1].map(Call::Ask);
     [Call::Pair, Call::GiveUp, Call::Take(0)].into_iter().chain(blocks).chain(skips).chain(few).chain(asks).collect()
 }
@@ -72,7 +74,8 @@ fn calls(count: u64) -> Vec<Call> {
 pub fn given(tables: &Tables) -> String {
     let most = u64::MAX;
     let low = 1 << 32;
-    let counts = [0, 1, low - 2, low - 1, low, most / 2, most / 2 + 1, most - low, most - 4, most - 3, most - 2, most - 1, most];
+    let counts =
+        [0, 1, low - 2, low - 1, low, most / 2, most / 2 + 1, most - low, most - 4, most - 3, most - 2, most - 1, most];
     let (extremes, mut run, mut full) = (edges::extremes(), 0, 0);
     for &registers in &extremes {
         for count in counts {
@@ -83,7 +86,11 @@ pub fn given(tables: &Tables) -> String {
             }
         }
     }
-    format!("{run} calls on {} records with {} counts at the edges, {full} refused with 13", extremes.len(), counts.len())
+    format!(
+        "{run} calls on {} records with {} counts at the edges, {full} refused with 13",
+        extremes.len(),
+        counts.len()
+    )
 }
 
 /// A call where so many pairs still fit: often for all of them or nearly all, or for one more.
@@ -129,15 +136,21 @@ pub fn runs(tables: &Tables, random: &mut Random) -> String {
         for _ in 0..random.below(40) {
             let next = match open {
                 Some(asked) => call_while_open(random, asked),
-                None if random.below(20) == 0 => [Call::Take(0), Call::Take(random.below(6)), Call::GiveUp][random.below(3)],
+                None if random.below(20) == 0 => {
+                    [Call::Take(0), Call::Take(random.below(6)), Call::GiveUp][random.below(3)]
+                }
                 None => call(random, fit),
             };
             match (next, open) {
                 (Call::Ask(n), None) if n <= MOST_ASKED && u64::from(n) <= fit => open = Some(n),
-                (Call::Take(length), Some(asked)) if length == 2 * asked as usize => (open, fit) = (None, fit - u64::from(asked)),
+                (Call::Take(length), Some(asked)) if length == 2 * asked as usize => {
+                    (open, fit) = (None, fit - u64::from(asked))
+                }
                 (Call::GiveUp, _) => open = None,
                 (Call::Block(length), None) if length % 2 == 1 => (),
-                (Call::Pair | Call::Block(_) | Call::Skip(_), None) => fit = fit.checked_sub(next.pairs()).unwrap_or(fit),
+                (Call::Pair | Call::Block(_) | Call::Skip(_), None) => {
+                    fit = fit.checked_sub(next.pairs()).unwrap_or(fit)
+                }
                 _ => (),
             }
             calls.push(next);
@@ -165,7 +178,9 @@ pub fn noted(tables: &Tables, random: &mut Random) -> String {
             1 => Call::Block(random.below(40)),
             2 => Call::Look(random.below(40)),
             3 => Call::Skip(random.below(3) as u64),
-            4 => Call::Ask([random.below(30) as u32, MOST_ASKED, MOST_ASKED + 1, random.number(32) as u32][random.below(4)]),
+            4 => Call::Ask(
+                [random.below(30) as u32, MOST_ASKED, MOST_ASKED + 1, random.number(32) as u32][random.below(4)],
+            ),
             5 => Call::GiveUp,
             6 => Call::Take(random.below(40)),
             _ => Call::Take(just),

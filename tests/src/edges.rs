@@ -27,7 +27,11 @@ pub fn extremes() -> Vec<Registers> {
     }
     let extremes = [u32::MAX, 1 << 31, (1 << 31) - 1, 0x5555_5555, 0xAAAA_AAAA, 1 << 16];
     all.extend(extremes.map(|register| [register; 6]));
-    all.extend([LEAST.map(|least| 2 * least), LEAST.map(|least| least.wrapping_neg()), LEAST.map(|least| 2 * least - 1)]);
+    all.extend([
+        LEAST.map(|least| 2 * least),
+        LEAST.map(|least| least.wrapping_neg()),
+        LEAST.map(|least| 2 * least - 1),
+    ]);
     all
 }
 

@@ -24,7 +24,10 @@ fn whole(out: &mut Vec<Vec<u8>>) {
     }
     let most = u32::MAX;
     add(format!("(seeds (a {most} {most} {most}) (b {most} {most} {most}))\n(sigma 1000 1000)\n{}", shots(SHOTS)));
-    add(format!("(seeds (a 123456789 987654321 555555555) (b 314159265 271828182 161803398))\n(sigma 37 911)\n{}", shots(300)));
+    add(format!(
+        "(seeds (a 123456789 987654321 555555555) (b 314159265 271828182 161803398))\n(sigma 37 911)\n{}",
+        shots(300)
+    ));
     let ends = [0, 1, 500, 1_000_000].map(|d| [0, 1, 65534, 65535].map(|b| format!("(shot a b {d} {b})\n")).concat());
     add(format!("{SEEDS}(sigma 1000 1000)\n{}", ends.concat().repeat(8)));
 }

@@ -35,7 +35,8 @@ pub fn record(random: &mut Random, pairs: u64) -> Record {
 pub fn noted(random: &mut Random, pairs: u64) -> Record {
     let record = record(random, pairs);
     let open = [0, 0, 1, random.number(32) as u32][random.below(4)];
-    let asked = [0, 1, random.below(300) as u32, MOST_ASKED, MOST_ASKED + 1, 2_000_000, random.number(32) as u32][random.below(7)];
+    let asked = [0, 1, random.below(300) as u32, MOST_ASKED, MOST_ASKED + 1, 2_000_000, random.number(32) as u32]
+        [random.below(7)];
     [record, Record { open, asked, ..record }][random.below(2)]
 }
 

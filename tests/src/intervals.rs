@@ -10,7 +10,8 @@ use crate::sums::{self, headed};
 use std::time::Duration;
 
 extern "C" {
-    fn jabulghi_intervals(text: *const u8, length: usize, sums: *mut i64, millimetres: *mut i64, line: *mut u32) -> u32;
+    fn jabulghi_intervals(text: *const u8, length: usize, sums: *mut i64, millimetres: *mut i64, line: *mut u32)
+        -> u32;
 }
 
 type Listing = sums::Listing<4>;
@@ -141,14 +142,21 @@ fn choices(tables: &Tables, random: &mut Random, runs: usize) {
             let (number, _, sums, mm) = chosen(&rows, &choice(random, &rows));
             assert_eq!(number, 0, "{rows:?}");
             for j in 0..2 {
-                let within = ends[2 * j] <= sums[j] && sums[j] <= ends[2 * j + 1] && whole[2 * j] <= mm[j] && mm[j] <= whole[2 * j + 1];
+                let within = ends[2 * j] <= sums[j]
+                    && sums[j] <= ends[2 * j + 1]
+                    && whole[2 * j] <= mm[j]
+                    && mm[j] <= whole[2 * j + 1];
                 assert!(within, "{rows:?}: {sums:?} {mm:?}");
             }
         }
         for end in 0..4 {
             let least = |&(low, high, step): &Row| {
                 let (sine, cosine) = tables.rotation(step as u32);
-                if ([sine, cosine][end / 2] < 0) == (end % 2 == 0) { high } else { low }
+                if ([sine, cosine][end / 2] < 0) == (end % 2 == 0) {
+                    high
+                } else {
+                    low
+                }
             };
             let (_, _, sums, mm) = chosen(&rows, &rows.iter().map(least).collect::<Vec<_>>());
             assert_eq!((sums[end / 2], mm[end / 2]), (ends[end], whole[end]), "{rows:?}: end {end} is met");
@@ -199,11 +207,17 @@ pub fn program(tables: &Tables, random: &mut Random) -> String {
     };
     let mut texts: Vec<Vec<u8>> = written().into_iter().step_by(3).collect();
     texts.extend((0..200).map(|_| text(random)));
-    let longest = headed(BETWEEN, &vec![format!("ABCDEFGHIJKL ABCDEFGHIJKL {FARTHEST} {FARTHEST} 65535\n"); SHOTS]).into_bytes();
+    let longest =
+        headed(BETWEEN, &vec![format!("ABCDEFGHIJKL ABCDEFGHIJKL {FARTHEST} {FARTHEST} 65535\n"); SHOTS]).into_bytes();
     assert_eq!(longest.len(), 24_030, "the longest accepted listing");
     texts.push(longest);
     for text in &texts {
-        writes(&run(misses::PROGRAM, text, text.len().max(1), Duration::ZERO), expected(text).as_bytes(), "", &format!("\"{}\"", text.escape_ascii()));
+        writes(
+            &run(misses::PROGRAM, text, text.len().max(1), Duration::ZERO),
+            expected(text).as_bytes(),
+            "",
+            &format!("\"{}\"", text.escape_ascii()),
+        );
     }
     format!("the program misses on {} listings of two readings", texts.len())
 }

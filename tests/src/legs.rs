@@ -46,13 +46,20 @@ impl Case for Legs {
     fn library(&self) -> Answer {
         let (mut text, mut shots) = (Lent::holding(&self.0), Lent::marked(self.1));
         let (mut line, mut length) = (Lent::marked(1), Lent::marked(1));
-        let number =
-            unsafe { jabulghi_legs(text.pointer(), self.0.len(), shots.pointer(), self.1, line.pointer(), length.pointer()) };
+        let number = unsafe {
+            jabulghi_legs(text.pointer(), self.0.len(), shots.pointer(), self.1, line.pointer(), length.pointer())
+        };
         (number, text, shots, line, length)
     }
     fn other(&self, _: &Tables) -> Answer {
         let (number, line, bytes) = survex::legs(&self.0, self.1);
-        (number, Lent::holding(&self.0), Lent::starting(&bytes, self.1), Lent::holding(&[line]), Lent::holding(&[bytes.len()]))
+        (
+            number,
+            Lent::holding(&self.0),
+            Lent::starting(&bytes, self.1),
+            Lent::holding(&[line]),
+            Lent::holding(&[bytes.len()]),
+        )
     }
     fn smaller(&self) -> Vec<Legs> {
         let Legs(text, room) = self;
@@ -238,7 +245,8 @@ pub fn elsewhere(tables: &Tables, random: &mut Random) -> Written {
     let room = survex::legs(&text, usize::MAX).2.len() + *random.of(&[0, 0, 20]);
     let room = if random.one_in(6) { room / 2 } else { room };
     let (number, same_text, shots, line, length) = Legs(text.clone(), room).other(tables);
-    let written = Written::new("legs", number, &[text.len() as u64, room as u64]).lent(&Lent::holding(&text), &same_text);
+    let written =
+        Written::new("legs", number, &[text.len() as u64, room as u64]).lent(&Lent::holding(&text), &same_text);
     written.lent(&Lent::marked(room), &shots).lent(&Lent::marked(1), &line).lent(&Lent::marked(1), &length)
 }
 
@@ -303,7 +311,12 @@ pub fn program(tables: &Tables, random: &mut Random) -> String {
     }
     for (piece, pause) in [(1, 1), (30, 20)] {
         let text = survey(random, 12);
-        writes(&run(PROGRAM, text.as_bytes(), piece, Duration::from_millis(pause)), &expected(text.as_bytes()), "", "a slow pipe");
+        writes(
+            &run(PROGRAM, text.as_bytes(), piece, Duration::from_millis(pause)),
+            &expected(text.as_bytes()),
+            "",
+            "a slow pipe",
+        );
     }
     let sentence = format!("legs: the text has more than {MOST} bytes\n");
     for more in [1, 5000, 1_000_000] {
@@ -354,7 +367,8 @@ pub fn peer(tables: &Tables, random: &mut Random) -> String {
         let text = survey(random, legs);
         let (number, _, shots) = survex::legs(text.as_bytes(), usize::MAX);
         assert_eq!(number, 0, "a survey is accepted: {text}");
-        let stations = positions(&folder, &text).unwrap_or_else(|| panic!("cavern refuses what the converter accepts: {text}"));
+        let stations =
+            positions(&folder, &text).unwrap_or_else(|| panic!("cavern refuses what the converter accepts: {text}"));
         let listing = listing(tables, &shots);
         let (mut east, mut north, mut length) = (0.0, 0.0, 0.0);
         let mut ends = (String::new(), String::new());

@@ -40,7 +40,8 @@ type Listed = (u32, Lent<u8>, Lent<u8>, Lent<u32>, Lent<usize>);
 fn list(text: &[u8], room: usize) -> Listed {
     let (mut lent, mut listing) = (Lent::holding(text), Lent::marked(room));
     let (mut line, mut length) = (Lent::marked(1), Lent::marked(1));
-    let number = unsafe { jabulghi_list(lent.pointer(), text.len(), listing.pointer(), room, line.pointer(), length.pointer()) };
+    let number =
+        unsafe { jabulghi_list(lent.pointer(), text.len(), listing.pointer(), room, line.pointer(), length.pointer()) };
     (number, lent, listing, line, length)
 }
 
@@ -61,7 +62,13 @@ impl Case for Job {
     }
     fn other(&self, tables: &Tables) -> Listed {
         let (number, line, bytes) = job::list(tables, &self.0, self.1);
-        (number, Lent::holding(&self.0), Lent::starting(&bytes, self.1), Lent::holding(&[line]), Lent::holding(&[bytes.len()]))
+        (
+            number,
+            Lent::holding(&self.0),
+            Lent::starting(&bytes, self.1),
+            Lent::holding(&[line]),
+            Lent::holding(&[bytes.len()]),
+        )
     }
     fn smaller(&self) -> Vec<Job> {
         let Job(text, room) = self;
@@ -74,7 +81,8 @@ impl Case for Job {
             texts.extend(starts.map(|at| [&lines[..at], &lines[(at + run).min(lines.len())..]].concat().concat()));
             run /= 2;
         }
-        let plain = |line: &&[u8]| if line.starts_with(b"(shot ") { b"(shot A B 0 0)\n".to_vec() } else { line.to_vec() };
+        let plain =
+            |line: &&[u8]| if line.starts_with(b"(shot ") { b"(shot A B 0 0)\n".to_vec() } else { line.to_vec() };
         texts.push(lines.iter().map(plain).collect::<Vec<_>>().concat());
         if text.len() < 2000 {
             texts.extend(without_one(text));
@@ -82,7 +90,8 @@ impl Case for Job {
         texts.retain(|shorter| shorter.len() < text.len());
         // each with the room there is, and with just the room that its listing takes
         let just = |t: &[u8]| list(t, job::ROOM).4.elements()[0];
-        let mut out: Vec<Job> = texts.into_iter().flat_map(|t| [Job(t.clone(), *room), Job(t.clone(), just(&t))]).collect();
+        let mut out: Vec<Job> =
+            texts.into_iter().flat_map(|t| [Job(t.clone(), *room), Job(t.clone(), just(&t))]).collect();
         out.extend(below(*room as u64).into_iter().map(|r| Job(text.clone(), r as usize)));
         out
     }
@@ -107,7 +116,8 @@ pub fn elsewhere(tables: &Tables, random: &mut Random) -> Written {
     let length = job::list(tables, &text, usize::MAX).2.len();
     let room = [length, length.saturating_sub(1), length + 40, length + 40][random.below(4)];
     let (number, same_text, listing, line, length) = Job(text.clone(), room).other(tables);
-    let written = Written::new("list", number, &[text.len() as u64, room as u64]).lent(&Lent::holding(&text), &same_text);
+    let written =
+        Written::new("list", number, &[text.len() as u64, room as u64]).lent(&Lent::holding(&text), &same_text);
     written.lent(&Lent::marked(room), &listing).lent(&Lent::marked(1), &line).lent(&Lent::marked(1), &length)
 }
 

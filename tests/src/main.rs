@@ -40,6 +40,10 @@ use random::Random;
 use sample::Tables;
 use std::time::Instant;
 
+/// Cases written out, and generated ones; each says what was compared.
+type Edges = fn(&Tables) -> String;
+type Group = fn(&Tables, &mut Random) -> String;
+
 fn main() {
     let seed = std::env::var("JABULGHI_SEED").map_or(1996, |s| s.parse().expect("JABULGHI_SEED is a number"));
     let tables = Tables::new();
@@ -53,7 +57,7 @@ fn main() {
     let sum = linked::sum(linked::LIBRARY).to_string();
     assert_eq!(sum, env!("LIBRARY_SUM"), "this program was linked with another library than {}", linked::LIBRARY);
     println!("the other implementation gives document 01's readings and example; inputs from seed {seed}");
-    let edges: [(&str, fn(&Tables) -> String); 11] = [
+    let edges: [(&str, Edges); 11] = [
         ("cells", edges::cells),
         ("records", edges::records),
         ("lengths", edges::lengths),
@@ -69,7 +73,7 @@ fn main() {
     for (_, group) in edges.iter().filter(|(name, _)| wanted(&words, name)) {
         println!("{}, all equal", group(&tables));
     }
-    let groups: [(&str, fn(&Tables, &mut Random) -> String); 28] = [
+    let groups: [(&str, Group); 28] = [
         ("seeds", seeds),
         ("roots", roots::places),
         ("samples", samples),
@@ -101,14 +105,17 @@ fn main() {
     ];
     for (j, (name, group)) in groups.iter().enumerate().filter(|(_, (name, _))| wanted(&words, name)) {
         if let (&"cavern", Some(missing)) = (name, legs::peer_lacks()) {
-            println!("NOT RUN: the converter of surveys beside Survex, which needs {missing} (Debian: survex survex-aven)");
+            println!(
+                "NOT RUN: the converter of surveys beside Survex, which needs {missing} (Debian: survex survex-aven)"
+            );
             continue;
         }
         let start = Instant::now();
         let said = group(&tables, &mut Random(seed ^ (j as u64) << 56));
         println!("{said}, all equal ({:.1} s)", start.elapsed().as_secs_f64());
     }
-    let known = |word: &String| edges.iter().any(|(name, _)| name == word) || groups.iter().any(|(name, _)| name == word);
+    let known =
+        |word: &String| edges.iter().any(|(name, _)| name == word) || groups.iter().any(|(name, _)| name == word);
     if let Some(word) = words.iter().find(|word| !known(word)) {
         println!("FAILED: no part or group is named '{word}'; tests/run list names them");
         std::process::exit(1);

@@ -146,7 +146,9 @@ impl Memory {
         let (record, length, name) = (record.pointer(), name.elements().len(), name.pointer());
         match what {
             What::Save => unsafe { jabulghi_marks_save_members(used, lengths, names, records, record, name, length) },
-            What::Return => unsafe { jabulghi_marks_return_members(used, lengths, names, records, record, name, length) },
+            What::Return => unsafe {
+                jabulghi_marks_return_members(used, lengths, names, records, record, name, length)
+            },
             What::Drop => unsafe { jabulghi_marks_drop_members(used, lengths, names, records, name, length) },
         }
     }
@@ -180,7 +182,8 @@ impl Case for One {
         let freed = (0..PLACES).filter(|&j| set[j] != free()).map(|j| with(j, free()));
         let plain = (0..PLACES).map(|j| Place { record: fresh([0; 6]), ..set[j] }).enumerate();
         let plain = plain.filter(|&(j, place)| set[j] != place).map(|(j, place)| with(j, place));
-        let shorter = below(name.len() as u64).into_iter().map(|n| One(*what, *set, *record, name[..n as usize].to_vec()));
+        let shorter =
+            below(name.len() as u64).into_iter().map(|n| One(*what, *set, *record, name[..n as usize].to_vec()));
         freed.chain(plain).chain(shorter).collect()
     }
 }
@@ -281,12 +284,26 @@ fn good_name(random: &mut Random) -> Vec<u8> {
 }
 
 fn bad_name(random: &mut Random) -> Vec<u8> {
-    let bad: [&[u8]; 14] =
-        [b"", b"ABCDEFGHIJKLM", b"a b", b"D7\0", b"\0", b"\0\0", b"D-7", b"D7 ", b"\xc3\xa9", b"@", b"[", b"`", b"{", b"/"];
+    let bad: [&[u8]; 14] = [
+        b"",
+        b"ABCDEFGHIJKLM",
+        b"a b",
+        b"D7\0",
+        b"\0",
+        b"\0\0",
+        b"D-7",
+        b"D7 ",
+        b"\xc3\xa9",
+        b"@",
+        b"[",
+        b"`",
+        b"{",
+        b"/",
+    ];
     match random.below(8) {
         0 => vec![b'A'; random.below(200)],
         1 => (0..1 + random.below(LETTERS)).map(|_| random.next() as u8).collect(),
-        2 => [&good_name(random)[..], &bad[random.below(bad.len())][..]].concat(),
+        2 => [&good_name(random)[..], bad[random.below(bad.len())]].concat(),
         _ => random.of(&bad).to_vec(),
     }
 }
@@ -324,7 +341,8 @@ fn set(random: &mut Random) -> Set {
     for j in 0..PLACES {
         let twice = j > 0 && random.one_in(6);
         let before = random.below(j.max(1));
-        set[j] = if twice { Place { record: inputs::noted(random, 1), ..set[before] } } else { place(random, all_used) };
+        set[j] =
+            if twice { Place { record: inputs::noted(random, 1), ..set[before] } } else { place(random, all_used) };
         if all_used && set[j].used == 0 {
             set[j].used = 1;
         }
@@ -401,7 +419,9 @@ pub fn elsewhere(tables: &Tables, random: &mut Random) -> Written {
         What::Drop => "marks_drop_members",
     };
     let (before, (number, after)) = (Memory::of(set, record, word), case.other(tables));
-    let written = Written::new(name, number, &[word.len() as u64]).lent(&before.used, &after.used).lent(&before.lengths, &after.lengths);
+    let written = Written::new(name, number, &[word.len() as u64])
+        .lent(&before.used, &after.used)
+        .lent(&before.lengths, &after.lengths);
     let written = written.lent(&before.names, &after.names).lent(&before.records, &after.records);
     written.lent(&before.record, &after.record).lent(&before.name, &after.name)
 }
@@ -412,7 +432,10 @@ pub fn calls(tables: &Tables, random: &mut Random) -> String {
     for _ in 0..count {
         numbers[same(tables, &one(random)).0 as usize] += 1;
     }
-    format!("{count} saves, returns and drops on sets from anywhere; refused {}", met(&numbers, &[0, 11, 12, 14, 18, 19, 20]))
+    format!(
+        "{count} saves, returns and drops on sets from anywhere; refused {}",
+        met(&numbers, &[0, 11, 12, 14, 18, 19, 20])
+    )
 }
 
 fn step(random: &mut Random) -> Step {

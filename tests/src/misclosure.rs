@@ -42,7 +42,9 @@ fn line<'a>(ended: &'a [u8], header: &str) -> Option<Line<'a>> {
     let fields: Vec<&[u8]> = ended.strip_suffix(b"\n")?.split(|&b| b == b' ').collect();
     match fields[..] {
         [b"END", count] => Some(Line::End(number(count)?)),
-        [from, to, mm, step] if header == HEADER && name(from) && name(to) => Some(Line::Shot(from, to, [number(mm)?; 2], number(step)?)),
+        [from, to, mm, step] if header == HEADER && name(from) && name(to) => {
+            Some(Line::Shot(from, to, [number(mm)?; 2], number(step)?))
+        }
         [from, to, low, high, step] if header == BETWEEN && name(from) && name(to) => {
             Some(Line::Shot(from, to, [number(low)?, number(high)?], number(step)?))
         }
@@ -50,8 +52,11 @@ fn line<'a>(ended: &'a [u8], header: &str) -> Option<Line<'a>> {
     }
 }
 
-/// The least and the greatest distance and the step of each shot of a listing with that header, or the number and the line of a refusal.
-fn read(text: &[u8], header: &str) -> Result<Vec<([u64; 2], u64)>, (u32, u32)> {
+/// The least and the greatest distance, and the step.
+type Shot = ([u64; 2], u64);
+
+/// The shots of a listing with that header, or the number and the line of a refusal.
+fn read(text: &[u8], header: &str) -> Result<Vec<Shot>, (u32, u32)> {
     let refused = |number, at: usize| Err((number, at as u32));
     let lines: Vec<&[u8]> = text.split_inclusive(|&b| b == b'\n').collect();
     if lines.first() != Some(&header.as_bytes()) {

@@ -12,7 +12,13 @@ use std::time::Duration;
 pub const PROGRAM: &str = "target/bin/misses";
 
 extern "C" {
-    fn jabulghi_misclosure(text: *const u8, length: usize, sums: *mut i64, millimetres: *mut i64, line: *mut u32) -> u32;
+    fn jabulghi_misclosure(
+        text: *const u8,
+        length: usize,
+        sums: *mut i64,
+        millimetres: *mut i64,
+        line: *mut u32,
+    ) -> u32;
 }
 
 pub type Listing = sums::Listing<2>;
@@ -68,7 +74,18 @@ fn written() -> Vec<Vec<u8>> {
         format!("\n{HEADER}END 0\n"),
         format!("{}END 1\n", listing(&chain(&[(1, 1)]))),
     ];
-    for (mm, step) in [(0, 0), (1, 0), (far, 0), (far, 16384), (far, 32768), (far, 49152), (far, 65535), (far + 1, 0), (1, 65536), (9999999999, 1)] {
+    for (mm, step) in [
+        (0, 0),
+        (1, 0),
+        (far, 0),
+        (far, 16384),
+        (far, 32768),
+        (far, 49152),
+        (far, 65535),
+        (far + 1, 0),
+        (1, 65536),
+        (9999999999, 1),
+    ] {
         out.push(listing(&chain(&[(mm, step)])));
         out.push(listing(&chain(&[(mm, step), (mm, step.wrapping_add(32768) % 65536)])));
     }
@@ -131,7 +148,11 @@ fn text(random: &mut Random) -> Vec<u8> {
 
 /// A listing of the listing call whose shots follow each other.
 fn heard(tables: &Tables, random: &mut Random) -> Vec<u8> {
-    let mut job = format!("(seeds (a {0} {0} {0}) (b {0} {0} {0}))\n(sigma {1} {1})\n", 16 + random.next() as u32 / 2, random.below(1001));
+    let mut job = format!(
+        "(seeds (a {0} {0} {0}) (b {0} {0} {0}))\n(sigma {1} {1})\n",
+        16 + random.next() as u32 / 2,
+        random.below(1001)
+    );
     for j in 0..random.below(SHOTS + 1) {
         job += &format!("(shot S{j} S{} {} {})\n", j + 1, random.below(1_000_001), random.below(65536));
     }
@@ -144,7 +165,11 @@ pub fn given(tables: &Tables) -> String {
     for text in texts.iter().chain(&halves) {
         same(tables, &Listing { text: text.clone() });
     }
-    format!("{} listings written out, {} of them with a sum at half a millimetre", texts.len() + halves.len(), halves.len())
+    format!(
+        "{} listings written out, {} of them with a sum at half a millimetre",
+        texts.len() + halves.len(),
+        halves.len()
+    )
 }
 
 /// One call, for other processors.
@@ -191,18 +216,34 @@ pub fn program(tables: &Tables, random: &mut Random) -> String {
     let mut texts: Vec<Vec<u8>> = written().into_iter().step_by(20).collect();
     texts.extend((0..400).map(|_| text(random)));
     for text in texts.iter().filter(|text| text.len() <= 65536) {
-        writes(&run(PROGRAM, text, text.len().max(1), Duration::ZERO), expected(text).as_bytes(), "", &format!("\"{}\"", text.escape_ascii()));
+        writes(
+            &run(PROGRAM, text, text.len().max(1), Duration::ZERO),
+            expected(text).as_bytes(),
+            "",
+            &format!("\"{}\"", text.escape_ascii()),
+        );
     }
     let longest = listing(&vec![format!("ABCDEFGHIJKL ABCDEFGHIJKL {FARTHEST} 65535\n"); SHOTS]);
     let example = listing(&chain(&[(12356, 4527), (9011, 8)]));
     for (text, piece, pause) in [(&longest, 4096, 1), (&example, 1, 1), (&example, 20, 50)] {
-        writes(&run(PROGRAM, text.as_bytes(), piece, Duration::from_millis(pause)), expected(text.as_bytes()).as_bytes(), "", "a slow pipe");
+        writes(
+            &run(PROGRAM, text.as_bytes(), piece, Duration::from_millis(pause)),
+            expected(text.as_bytes()).as_bytes(),
+            "",
+            "a slow pipe",
+        );
     }
     // as many bytes as are read, and one more
-    for (length, out, err) in [(65536, "REFUSED 6 3\n", ""), (65537, "", "misses: standard input has more than 65536 bytes\n")] {
+    for (length, out, err) in
+        [(65536, "REFUSED 6 3\n", ""), (65537, "", "misses: standard input has more than 65536 bytes\n")]
+    {
         let mut text = listing(&[]).into_bytes();
         text.resize(length, b'x');
         writes(&run(PROGRAM, &text, 4096, Duration::ZERO), out.as_bytes(), err, "a long text");
     }
-    format!("the program misses on {} texts and {} failed reads and writes", texts.len() + 5, failures(PROGRAM, "misses", &example))
+    format!(
+        "the program misses on {} texts and {} failed reads and writes",
+        texts.len() + 5,
+        failures(PROGRAM, "misses", &example)
+    )
 }

@@ -13,7 +13,14 @@ use crate::texts;
 use std::fmt;
 
 extern "C" {
-    fn jabulghi_play(text: *const u8, text_length: usize, first: u64, misses: *mut [i64; 2], runs: usize, line: *mut u32) -> u32;
+    fn jabulghi_play(
+        text: *const u8,
+        text_length: usize,
+        first: u64,
+        misses: *mut [i64; 2],
+        runs: usize,
+        line: *mut u32,
+    ) -> u32;
 }
 
 impl Mark for [i64; 2] {
@@ -31,7 +38,14 @@ struct Plays(Vec<u8>, u64, usize);
 
 impl fmt::Debug for Plays {
     fn fmt(&self, f: &mut fmt::Formatter) -> fmt::Result {
-        write!(f, "{} plays from play {} of a job of {} bytes: \"{}\"", self.2, self.1, self.0.len(), self.0.escape_ascii())
+        write!(
+            f,
+            "{} plays from play {} of a job of {} bytes: \"{}\"",
+            self.2,
+            self.1,
+            self.0.len(),
+            self.0.escape_ascii()
+        )
     }
 }
 
@@ -89,7 +103,8 @@ impl Case for Plays {
     type Answer = Played;
     fn library(&self) -> Played {
         let (mut text, mut misses, mut line) = (Lent::holding(&self.0), Lent::marked(self.2), Lent::marked(1));
-        let number = unsafe { jabulghi_play(text.pointer(), self.0.len(), self.1, misses.pointer(), self.2, line.pointer()) };
+        let number =
+            unsafe { jabulghi_play(text.pointer(), self.0.len(), self.1, misses.pointer(), self.2, line.pointer()) };
         (number, text, misses, line)
     }
     fn other(&self, tables: &Tables) -> Played {
@@ -99,7 +114,8 @@ impl Case for Plays {
     fn smaller(&self) -> Vec<Plays> {
         let Plays(text, first, runs) = self;
         let lines = lines(text);
-        let mut out: Vec<Plays> = below(*runs as u64).into_iter().map(|r| Plays(text.clone(), *first, r as usize)).collect();
+        let mut out: Vec<Plays> =
+            below(*runs as u64).into_iter().map(|r| Plays(text.clone(), *first, r as usize)).collect();
         out.extend(below(*first).into_iter().map(|f| Plays(text.clone(), f, *runs)));
         out.extend(without_one(&lines).rev().map(|lines| Plays(lines.concat(), *first, *runs)));
         out
@@ -123,13 +139,15 @@ fn chain(random: &mut Random) -> Vec<u8> {
     lines.concat()
 }
 
-const LOOP: &str = "(seeds (a 2 8 16) (b 2 8 16))\n(sigma 4 10)\n(shot A B 12345 0)\n(shot B C 9000 21845)\n(shot C A 9000 43690)\n";
+const LOOP: &str =
+    "(seeds (a 2 8 16) (b 2 8 16))\n(sigma 4 10)\n(shot A B 12345 0)\n(shot B C 9000 21845)\n(shot C A 9000 43690)\n";
 
 /// Plays written out: none, of none, near the count's end, and each refusal.
 pub fn given(tables: &Tables) -> String {
     let most = u64::MAX / 3;
     let loops = [0, 1, most - 2, most - 1, most, most + 1, u64::MAX];
-    let mut cases: Vec<Plays> = loops.iter().flat_map(|&first| [0, 1, 2, 3].map(|runs| Plays(LOOP.into(), first, runs))).collect();
+    let mut cases: Vec<Plays> =
+        loops.iter().flat_map(|&first| [0, 1, 2, 3].map(|runs| Plays(LOOP.into(), first, runs))).collect();
     let empty = &LOOP[..LOOP.find("(shot").unwrap()];
     cases.extend([0, 1, u64::MAX].map(|first| Plays(empty.into(), first, 2)));
     let long: String = LOOP.to_string() + &"(shot A A 1 0)\n".repeat(497);
@@ -177,7 +195,8 @@ pub fn elsewhere(tables: &Tables, random: &mut Random) -> Written {
     let case = elsewhere::short(|| of_job(random), |case| case.0.len());
     let Plays(text, first, runs) = &case;
     let (number, same_text, misses, line) = case.other(tables);
-    let written = Written::new("play", number, &[text.len() as u64, *first, *runs as u64]).lent(&Lent::holding(text), &same_text);
+    let written =
+        Written::new("play", number, &[text.len() as u64, *first, *runs as u64]).lent(&Lent::holding(text), &same_text);
     written.lent(&Lent::marked(*runs), &misses).lent(&Lent::marked(1), &line)
 }
 

@@ -100,11 +100,22 @@ pub fn failures(program: &str, name: &str, text: &str) -> u32 {
     drop(writer);
 
     let full = ["-c", "printf %s \"$1\" | \"$0\" >/dev/full", program, text];
-    writes(&Command::new("sh").args(full).output().unwrap(), b"", &format!("{writing}No space left on device\n"), "a full device");
+    writes(
+        &Command::new("sh").args(full).output().unwrap(),
+        b"",
+        &format!("{writing}No space left on device\n"),
+        "a full device",
+    );
 
     // nobody reads the output, and the program is told so instead of being ended by a signal
     let broken = ["-c", "trap '' PIPE; sleep 0.2; exec \"$0\"", program];
-    let mut child = Command::new("sh").args(broken).stdin(Stdio::piped()).stdout(Stdio::piped()).stderr(Stdio::piped()).spawn().unwrap();
+    let mut child = Command::new("sh")
+        .args(broken)
+        .stdin(Stdio::piped())
+        .stdout(Stdio::piped())
+        .stderr(Stdio::piped())
+        .spawn()
+        .unwrap();
     drop(child.stdout.take());
     child.stdin.take().unwrap().write_all(text.as_bytes()).unwrap();
     writes(&child.wait_with_output().unwrap(), b"", &format!("{writing}Broken pipe\n"), "a broken pipe");
@@ -125,9 +136,14 @@ pub fn program(tables: &Tables, random: &mut Random) -> String {
     }
     // the longest job that is read whole, and slow pipes of a few bytes at a time
     let longest = format!("{SEEDS}{SIGMA}{}", "(shot ABCDEFGHIJKL MNOPQRSTUVWX 1000000 65535)\n".repeat(SHOTS));
-    for (text, piece, pause) in [(longest.as_str(), 4096, 1), (rows[0].0.as_str(), 1, 1), (rows[0].0.as_str(), 40, 50)] {
+    for (text, piece, pause) in [(longest.as_str(), 4096, 1), (rows[0].0.as_str(), 1, 1), (rows[0].0.as_str(), 40, 50)]
+    {
         let said = run(PROGRAM, text.as_bytes(), piece, Duration::from_millis(pause));
         writes(&said, &expected(tables, text.as_bytes()), "", "a slow pipe");
     }
-    format!("the listing program on {} texts and {} failed reads and writes", rows.len() + texts.len() + 3, failures(PROGRAM, "listing", &format!("{SEEDS}{SIGMA}{SHOT}")))
+    format!(
+        "the listing program on {} texts and {} failed reads and writes",
+        rows.len() + texts.len() + 3,
+        failures(PROGRAM, "listing", &format!("{SEEDS}{SIGMA}{SHOT}"))
+    )
 }

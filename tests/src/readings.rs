@@ -18,7 +18,8 @@ const READINGS: [(u64, u32, i16, i16); 10] = [
     ((1 << 48) - 1, 0, 0, 0),
 ];
 
-pub const JOB: &[u8] = b"(seeds (a 2 8 16) (b 2 8 16))\n(sigma 4 10)\n(shot A1 A2 12345 4500)\n(shot A2 A3 9000 65530)\n";
+pub const JOB: &[u8] =
+    b"(seeds (a 2 8 16) (b 2 8 16))\n(sigma 4 10)\n(shot A1 A2 12345 4500)\n(shot A2 A3 9000 65530)\n";
 pub const LISTING: &[u8] = b"FROM TO MM STEP\nA1 A2 12356 4527\nA2 A3 9011 8\nEND 2\n";
 
 pub fn check(tables: &Tables) {
@@ -45,7 +46,12 @@ fn jumps() {
                 let period = (1 << shifts.0) - 1;
                 let rounds = if n == 0 { 0 } else { (u64::MAX - n) / period };
                 for n in [n, n + rounds * period] {
-                    assert_eq!(register_after(record[j], n, shifts), after[j], "register {} after {n} steps", record[j]);
+                    assert_eq!(
+                        register_after(record[j], n, shifts),
+                        after[j],
+                        "register {} after {n} steps",
+                        record[j]
+                    );
                 }
             }
             step_both(&mut after);

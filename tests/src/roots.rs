@@ -113,7 +113,8 @@ pub fn places(tables: &Tables, random: &mut Random) -> String {
             continue;
         }
         (0..KINDS.len()).for_each(|j| counts[j] += kinds[j]);
-        let telling: Vec<u32> = [-1, 1].into_iter().filter_map(|by| telling(tables, place.f, place.f + by, random)).collect();
+        let telling: Vec<u32> =
+            [-1, 1].into_iter().filter_map(|by| telling(tables, place.f, place.f + by, random)).collect();
         [0, 65535].iter().chain(&telling).for_each(|&v| compare(tables, place.k, v));
         (run, told) = (run + 1, told + telling.len());
     }

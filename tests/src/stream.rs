@@ -119,7 +119,7 @@ fn fill(tables: &Tables, registers: &mut Registers, out: &mut [i16]) {
 }
 
 fn odd(length: usize) -> u32 {
-    if length % 2 == 1 { 4 } else { 0 }
+    4 * u32::from(length % 2 == 1)
 }
 
 pub fn block(tables: &Tables, record: &Record, out: &mut [i16]) -> (u32, Record) {
@@ -128,7 +128,8 @@ pub fn block(tables: &Tables, record: &Record, out: &mut [i16]) -> (u32, Record)
 
 /// A look: a block call on a copy of the record, whose note does not matter; the record stays (document 02, Jobs 6 and 7).
 pub fn look(tables: &Tables, record: &Record, out: &mut [i16]) -> (u32, Record) {
-    let (number, _) = call(record, Note::Any, odd(out.len()), out.len() as u64 / 2, |registers| fill(tables, registers, out));
+    let (number, _) =
+        call(record, Note::Any, odd(out.len()), out.len() as u64 / 2, |registers| fill(tables, registers, out));
     (number, *record)
 }
 
@@ -150,7 +151,9 @@ fn closed(answer: (u32, Record)) -> (u32, Record) {
 
 pub fn take(tables: &Tables, record: &Record, out: &mut [i16]) -> (u32, Record) {
     let other = record.asked > MOST_ASKED || out.len() as u64 != 2 * u64::from(record.asked);
-    closed(call(record, Note::Open, if other { 16 } else { 0 }, record.asked.into(), |registers| fill(tables, registers, out)))
+    closed(call(record, Note::Open, if other { 16 } else { 0 }, record.asked.into(), |registers| {
+        fill(tables, registers, out)
+    }))
 }
 
 pub fn give_up(record: &Record) -> (u32, Record) {

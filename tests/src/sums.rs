@@ -7,7 +7,8 @@ use crate::random::Random;
 use crate::texts;
 use std::fmt;
 
-type Call = unsafe extern "C" fn(text: *const u8, length: usize, sums: *mut i64, millimetres: *mut i64, line: *mut u32) -> u32;
+type Call =
+    unsafe extern "C" fn(text: *const u8, length: usize, sums: *mut i64, millimetres: *mut i64, line: *mut u32) -> u32;
 
 /// A listing, and how many sums its call has.
 #[derive(Clone)]
@@ -24,8 +25,12 @@ impl<const N: usize> fmt::Debug for Listing<N> {
 impl<const N: usize> Listing<N> {
     pub fn through(&self, call: Call) -> Sums<N> {
         let (mut sums, mut rounded, mut line) = (Lent::marked(N), Lent::marked(N), Lent::marked(1));
-        let number = unsafe { call(self.text.as_ptr(), self.text.len(), sums.pointer(), rounded.pointer(), line.pointer()) };
-        assert!(sums.is_kept() && rounded.is_kept() && line.is_kept(), "memory beside what is lent was written for {self:?}");
+        let number =
+            unsafe { call(self.text.as_ptr(), self.text.len(), sums.pointer(), rounded.pointer(), line.pointer()) };
+        assert!(
+            sums.is_kept() && rounded.is_kept() && line.is_kept(),
+            "memory beside what is lent was written for {self:?}"
+        );
         (number, line.elements()[0], sums.elements().try_into().unwrap(), rounded.elements().try_into().unwrap())
     }
 
@@ -80,8 +85,13 @@ pub fn text(
 }
 
 /// One call on a text, for other processors.
-pub fn elsewhere<const N: usize>(name: &'static str, text: &[u8], (number, line, sums, millimetres): Sums<N>) -> Written {
+pub fn elsewhere<const N: usize>(
+    name: &'static str,
+    text: &[u8],
+    (number, line, sums, millimetres): Sums<N>,
+) -> Written {
     let written = Written::new(name, number, &[text.len() as u64]).lent(&Lent::holding(text), &Lent::holding(text));
-    let written = written.lent(&Lent::marked(N), &Lent::holding(&sums)).lent(&Lent::marked(N), &Lent::holding(&millimetres));
+    let written =
+        written.lent(&Lent::marked(N), &Lent::holding(&sums)).lent(&Lent::marked(N), &Lent::holding(&millimetres));
     written.lent(&Lent::marked(1), &Lent::holding(&[line]))
 }

@@ -86,7 +86,7 @@ const WORDS: [&str; 25] = [
     "b",
     "999999999999999999999",
 ];
-const BYTES: &[u8] = b" ()\n\r\t\00129:/@AZ[`az{~\x7f\x80\xff";
+const BYTES: &[u8] = b" ()\n\r\t\x000129:/@AZ[`az{~\x7f\x80\xff";
 
 pub fn damage(random: &mut Random, text: &mut Vec<u8>) {
     let at = random.below(text.len() + 1);

@@ -112,7 +112,8 @@ pub fn elsewhere(tables: &Tables, random: &mut Random) -> Written {
         let (number, samples) = Sample18(k, v).other(tables);
         return Written::new("sample18", number, &[k, v.into()]).lent(&Lent::marked(2), &samples);
     }
-    let (name, kind) = *random.of(&[("pair18", Kind::Pair), ("block18", Kind::Block), ("look18", Kind::Look), ("take18", Kind::Take)]);
+    let (name, kind) =
+        *random.of(&[("pair18", Kind::Pair), ("block18", Kind::Block), ("look18", Kind::Look), ("take18", Kind::Take)]);
     let record = elsewhere::record(random, kind == Kind::Take);
     let length = if kind == Kind::Pair { 2 } else { elsewhere::length(random, &record, kind == Kind::Take) };
     let (number, next, out) = Called18(record, kind, length).other(tables);

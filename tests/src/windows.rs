@@ -57,7 +57,11 @@ impl fmt::Debug for Window {
     fn fmt(&self, f: &mut fmt::Formatter) -> fmt::Result {
         let used = self.places.iter().rposition(|&x| x != 0).map_or(0, |last| last + 1);
         let Window { size, held, place, sum, squares, .. } = self;
-        write!(f, "N {size}, held {held}, place {place}, sums {sum} {squares}, places {:?}, then 0", &self.places[..used])
+        write!(
+            f,
+            "N {size}, held {held}, place {place}, sums {sum} {squares}, places {:?}, then 0",
+            &self.places[..used]
+        )
     }
 }
 
@@ -433,7 +437,9 @@ pub fn pushes(tables: &Tables, random: &mut Random) -> String {
         midway += u32::from(whole.number() == UNFIT && fit(&w));
     }
     assert!(midway > 100, "only {midway} refused in mid-run");
-    format!("{count} windows from nowhere, pushed at once and one by one, {refused} refused, {midway} of them in mid-run")
+    format!(
+        "{count} windows from nowhere, pushed at once and one by one, {refused} refused, {midway} of them in mid-run"
+    )
 }
 
 /// Runs from making. Every sum is that of the last N that came, worked out afresh; of extreme samples too, so that sums come near 2^42.

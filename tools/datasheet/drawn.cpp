@@ -1,6 +1,7 @@
-// Counts drawn samples: drawn WHO SEEDS SAMPLES, WHO being jabulghi, gsl-ziggurat, gsl-polar or boost, SEEDS pi or e. All are whole numbers of units of
-// 2^-11 (others' doubles are rounded by lrint). Prints "value TAB how many" for each value, then for each kind of neighbours "which TAB sum TAB sum":
-// of their products, and of those of their squares less 1, in standard deviations. Whole blocks alone are drawn.
+// Counts drawn samples: drawn WHO SEEDS SAMPLES, WHO being jabulghi, gsl-ziggurat, gsl-polar or boost, SEEDS pi or e.
+// All are whole numbers of units of 2^-11 (others' doubles are rounded by lrint). Prints "value TAB how many" for each
+// value, then for each kind of neighbours "which TAB sum TAB sum": of their products, and of those of their squares
+// less 1, in standard deviations. Whole blocks alone are drawn.
 #include "jabulghi.h"
 #include <boost/random/normal_distribution.hpp>
 #include <boost/random/taus88.hpp>
@@ -80,8 +81,11 @@ struct Products {
     }
 };
 
-static Products products[] = {{"first and second of a pair", 0, 1}, {"second and the next first", 1, 2}, {"first and the next first", 0, 2},
-                              {"second and the next second", 1, 3}, {"first and the next second", 0, 3}};
+static Products products[] = {{"first and second of a pair", 0, 1},
+                              {"second and the next first", 1, 2},
+                              {"first and the next first", 0, 2},
+                              {"second and the next second", 1, 3},
+                              {"first and the next second", 0, 3}};
 
 static uint64_t counts[2 * LARGEST + 2];
 
@@ -99,7 +103,7 @@ static void count(const int16_t *block) {
 int main(int argc, char **argv) {
     if (argc != 4) fail("drawn WHO SEEDS SAMPLES");
     Fill fill = filler(argv[1], registers(argv[2]));
-    long long blocks = atof(argv[3]) / LENGTH;
+    long long blocks = static_cast<long long>(atof(argv[3]) / LENGTH);
     static int16_t two[2 * LENGTH];
     fill(two + LENGTH);
     for (long long j = 0; j < blocks; j++) {
@@ -110,7 +114,5 @@ int main(int argc, char **argv) {
     for (int value = -LARGEST; value <= LARGEST; value++) {
         if (counts[value + LARGEST + 1]) printf("%d\t%llu\n", value, (unsigned long long)counts[value + LARGEST + 1]);
     }
-    for (const Products &each : products) {
-        printf("%s\t%.6Lf\t%.6Lf\n", each.name, each.plain, each.squares);
-    }
+    for (const Products &each : products) { printf("%s\t%.6Lf\t%.6Lf\n", each.name, each.plain, each.squares); }
 }

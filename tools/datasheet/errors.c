@@ -1,6 +1,7 @@
-/* How far samples are from the exact Box-Muller pair of (2k + 1) over 2^49 and v over 65536, in units of the sample, the exact pair by long double (64 bits).
- * errors SWEEP BITS, SWEEP being v (every v for some k) or k (many k for some v), BITS 16 or 18. Prints for each 6400th of a unit that has errors
- * "place TAB samples", then the worst: "worst TAB which TAB k TAB v TAB sample TAB error". */
+/* How far samples are from the exact Box-Muller pair of (2k + 1) over 2^49 and v over 65536, in units of the sample,
+ * the exact pair by long double (64 bits). errors SWEEP BITS, SWEEP being v (every v for some k) or k (many k for some
+ * v), BITS 16 or 18. Prints for each 6400th of a unit that has errors "place TAB samples", then the worst: "worst TAB
+ * which TAB k TAB v TAB sample TAB error". */
 #include "jabulghi.h"
 #include <inttypes.h>
 #include <math.h>
@@ -12,7 +13,12 @@
 #define MOST 0.75   /* no error is as large: the bound of 18 bits */
 
 static uint64_t counts[2 * PLACES];
-static struct { uint64_t k; uint32_t v; int32_t sample; long double error; } worst[2];
+static struct {
+    uint64_t k;
+    uint32_t v;
+    int32_t sample;
+    long double error;
+} worst[2];
 static int wide;
 
 static void fail(const char *what) {
@@ -22,12 +28,14 @@ static void fail(const char *what) {
 
 static void samples_of(uint64_t k, uint32_t v, int32_t *samples) {
     int16_t narrow[2];
-    if ((wide ? jabulghi_sample18(k, v, samples) : jabulghi_sample(k, v, narrow)) != JABULGHI_OK) fail("a call is refused");
+    if ((wide ? jabulghi_sample18(k, v, samples) : jabulghi_sample(k, v, narrow)) != JABULGHI_OK)
+        fail("a call is refused");
     for (int j = 0; j < 2 && !wide; j++) samples[j] = narrow[j];
 }
 
 static long double radius_of(uint64_t k) {
-    long double u = (long double)(2 * k + 1) / 0x1p49L, rest = (long double)(((uint64_t)1 << 49) - 2 * k - 1) / 0x1p49L; /* both exact */
+    long double u = (long double)(2 * k + 1) / 0x1p49L,
+                rest = (long double)(((uint64_t)1 << 49) - 2 * k - 1) / 0x1p49L; /* both exact */
     return sqrtl(-2 * (u < 0.5L ? logl(u) : log1pl(-rest)));
 }
 
@@ -65,7 +73,8 @@ static void sweep_v(void) {
     }
 }
 
-/* Two million k, for v at quarter turns, beside them, at eighths, and between: all below 65536, others of 17 to 48 bits, and as far from the end. */
+/* Two million k, for v at quarter turns, beside them, at eighths, and between: all below 65536, others of 17 to 48
+ * bits, and as far from the end. */
 static void sweep_k(void) {
     static const uint32_t some[] = {0, 1, 16383, 16384, 32768, 49152, 8192, 40960, 2730, 5461, 12345, 54321};
     uint64_t z = 88172645463325252u, end = (uint64_t)1 << 48;
@@ -90,6 +99,7 @@ int main(int argc, char **argv) {
         if (counts[j]) printf("%d\t%" PRIu64 "\n", j - PLACES, counts[j]);
     }
     for (int j = 0; j < 2; j++) {
-        printf("worst\t%s\t%" PRIu64 "\t%" PRIu32 "\t%" PRId32 "\t%.6Lf\n", j ? "second" : "first", worst[j].k, worst[j].v, worst[j].sample, worst[j].error);
+        printf("worst\t%s\t%" PRIu64 "\t%" PRIu32 "\t%" PRId32 "\t%.6Lf\n", j ? "second" : "first", worst[j].k,
+               worst[j].v, worst[j].sample, worst[j].error);
     }
 }

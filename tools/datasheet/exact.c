@@ -1,8 +1,10 @@
-/* How many of the 2^64 inputs (k, v) give a sample of each size: counted, with nothing drawn. Prints for each size s from 1 how many inputs have a
- * first sample of s or more. By the law `quarter-turn` as many have one of -s or less, and the second sample has the same counts.
+/* How many of the 2^64 inputs (k, v) give a sample of each size: counted, with nothing drawn. Prints for each size s
+ * from 1 how many inputs have a first sample of s or more. By the law `quarter-turn` as many have one of -s or less,
+ * and the second sample has the same counts.
  *
- * A size is at least s just where F |G| >= s 2^39 - 2^38. So one table is enough: how many k have each F. As k grows F falls, but from one cell of
- * the logarithm (the k with one e, h and i) to the next it may rise by one. Within a cell it never rises; each cell is counted by itself. */
+ * A size is at least s just where F |G| >= s 2^39 - 2^38. So one table is enough: how many k have each F. As k grows F
+ * falls, but from one cell of the logarithm (the k with one e, h and i) to the next it may rise by one. Within a cell
+ * it never rises; each cell is counted by itself. */
 #include "../../bench/plain.c" /* for its tables, which are its own */
 #include "jabulghi.h"
 #include <inttypes.h>
@@ -22,12 +24,13 @@ static void hold(int holds, const char *what) {
     exit(1);
 }
 
-/* M goes over the odd multiples of unit from low on; Q is constant - S, or 0, and S the quotient of r 2^16 by divisor. */
-struct cell { uint64_t low, length, unit, constant, divisor; };
+/* M goes over the odd multiples of unit from low on; Q is constant - S, or 0, and S the quotient of r 2^16 by divisor.
+ */
+struct cell {
+    uint64_t low, length, unit, constant, divisor;
+};
 
-static uint64_t odd_multiples_below(uint64_t x, uint64_t unit) {
-    return ((x + unit - 1) / unit) / 2;
-}
+static uint64_t odd_multiples_below(uint64_t x, uint64_t unit) { return ((x + unit - 1) / unit) / 2; }
 
 /* The k of a cell with r below a limit. */
 static uint64_t count_below(const struct cell *cell, uint64_t limit) {
@@ -96,7 +99,8 @@ static void count_sizes(void) {
     hold(tail[LARGEST] != 0 && tail[LARGEST + 1] == 0, "the largest size");
 }
 
-/* The library itself, over every v, for all k below 2048: beyond what any other k reaches the counts are the same, and likewise for the second. */
+/* The library itself, over every v, for all k below 2048: beyond what any other k reaches the counts are the same, and
+ * likewise for the second. */
 static void compare_all(void) {
     const uint64_t few = 2048;
     static uint64_t above[2][LARGEST + 2], below[2][LARGEST + 2];
@@ -110,13 +114,16 @@ static void compare_all(void) {
     jabulghi_sample(few, 0, two);
     for (int n = LARGEST; n > two[1] + 1; n--) {
         for (int j = 0; j < 2; j++) {
-            hold(above[j][n] == tail[n] - tail[n + 1] && below[j][n] == above[j][n], "a count of the library's samples");
+            hold(above[j][n] == tail[n] - tail[n + 1] && below[j][n] == above[j][n],
+                 "a count of the library's samples");
         }
     }
-    fprintf(stderr, "Sizes above %d, all k below %" PRIu64 " and all v through the library: every count is the same.\n", two[1] + 1, few);
+    fprintf(stderr, "Sizes above %d, all k below %" PRIu64 " and all v through the library: every count is the same.\n",
+            two[1] + 1, few);
 }
 
-/* How many k have a first sample of size n or more for v, if all of them come before all others: by bisection through the library. */
+/* How many k have a first sample of size n or more for v, if all of them come before all others: by bisection through
+ * the library. */
 static uint64_t bisected(uint32_t v, int n) {
     uint64_t low = 0, high = NUMBERS; /* those below low have it, those from high on have not */
     while (low < high) {
@@ -136,14 +143,16 @@ static void compare_some(void) {
     uint64_t z = 88172645463325252u, most = 0;
     for (int j = 0; j < tries; j++) {
         z ^= z << 13, z ^= z >> 7, z ^= z << 17;
-        uint32_t v = z & 65535, n = 1 + (z >> 16) % LARGEST;
-        uint64_t counted = count_size(sine_of(v), n), found = bisected(v, n);
+        uint32_t v = z & 65535;
+        int n = 1 + (int)((z >> 16) % LARGEST);
+        uint64_t counted = count_size(sine_of(v), (uint64_t)n), found = bisected(v, n);
         uint64_t apart = counted > found ? counted - found : found - counted;
         if (apart != 0) other++;
         if (apart > most) most = apart;
     }
     hold(other < tries / 100 && most < (uint64_t)1 << 24, "counts by bisection");
-    fprintf(stderr, "Of %d counts by bisection through the library %d are others, by at most %" PRIu64 " k of 2^48.\n", tries, other, most);
+    fprintf(stderr, "Of %d counts by bisection through the library %d are others, by at most %" PRIu64 " k of 2^48.\n",
+            tries, other, most);
 }
 
 int main(void) {

@@ -1,5 +1,6 @@
-/* How many instructions calls take on a processor without a system, as qemu counts them (-icount): not how many cycles. Prints a number for each. The
- * clock is read before and after; a loop of known length says how many instructions a tick is. */
+/* How many instructions calls take on a processor without a system, as qemu counts them (-icount): not how many cycles.
+ * Prints a number for each. The clock is read before and after; a loop of known length says how many instructions a
+ * tick is. */
 #include "jabulghi.h"
 #include <stdio.h>
 #include <string.h>
@@ -7,20 +8,33 @@
 #if defined(__riscv)
 #define CLOCK 0xFFFFFFFF
 static void start_clock(void) {}
-static uint32_t now(void) { uint32_t x; __asm__ volatile(".insn i 0x73, 2, %0, x0, -1278" : "=r"(x)); return x; } /* csrr minstret */
+static uint32_t now(void) {
+    uint32_t x;
+    __asm__ volatile(".insn i 0x73, 2, %0, x0, -1278" : "=r"(x));
+    return x;
+} /* csrr minstret */
 static void count_down(uint32_t n) { __asm__ volatile("1: addi %0, %0, -1\nbnez %0, 1b" : "+r"(n)); }
 #else
 #define CLOCK 0xFFFFFF /* it has 24 bits, and counts down */
 static volatile uint32_t *const SYSTICK = (volatile uint32_t *)0xE000E010;
-static void start_clock(void) { SYSTICK[1] = CLOCK; SYSTICK[2] = 0; SYSTICK[0] = 5; }
+static void start_clock(void) {
+    SYSTICK[1] = CLOCK;
+    SYSTICK[2] = 0;
+    SYSTICK[0] = 5;
+}
 static uint32_t now(void) { return CLOCK - SYSTICK[2]; }
-static void count_down(uint32_t n) { __asm__ volatile(".syntax unified\n1: subs %0, %0, #1\nbne 1b" : "+l"(n) : : "cc"); }
+static void count_down(uint32_t n) {
+    __asm__ volatile(".syntax unified\n1: subs %0, %0, #1\nbne 1b" : "+l"(n) : : "cc");
+}
 #endif
 
 #define LOOP 1000000u
 static uint32_t begun, ticks_of_loop;
 static void begin(void) { begun = now(); }
-static uint32_t ticks(void) { uint32_t end = now(); return (end - begun) & CLOCK; }
+static uint32_t ticks(void) {
+    uint32_t end = now();
+    return (end - begun) & CLOCK;
+}
 static void end(const char *what, uint32_t times) {
     uint64_t passed = ticks();
     printf("%s\t%lu\n", what, (unsigned long)(passed * 2 * LOOP / ticks_of_loop / times));
@@ -37,7 +51,8 @@ static uint32_t line;
 static int64_t sums[2], millimetres[2];
 
 static void texts(void) {
-    char *at = job + sprintf(job, "(seeds (a 2 8 16) (b 2 8 16))\n(sigma 4 10)\n"), *leg = survey + sprintf(survey, "*data normal from to tape compass clino\n");
+    char *at = job + sprintf(job, "(seeds (a 2 8 16) (b 2 8 16))\n(sigma 4 10)\n"),
+         *leg = survey + sprintf(survey, "*data normal from to tape compass clino\n");
     for (int j = 0; j < 20; j++) {
         at += sprintf(at, "(shot D%d D%d 12345 4500)\n", j, j + 1);
         leg += sprintf(leg, "D%d D%d 12.345 24.72 0\n", j, j + 1);

@@ -1,7 +1,8 @@
-/* Plays of a loop: loops JOB PLAYS EAST NORTH BOTH, the last three being variances and covariance of the closed form, in square millimetres. Prints the sums
- * "moments TAB plays TAB east TAB north TAB east^2 TAB north^2 TAB east * north"; how many plays miss by each whole number of millimetres, "distance TAB mm TAB
- * how many", and by each hundredth of the closed form's ellipse, "ellipse TAB hundredths TAB how many"; the first plays and those beyond 4.5 ellipses, "first TAB
- * east TAB north" and "far TAB east TAB north". */
+/* Plays of a loop: loops JOB PLAYS EAST NORTH BOTH, the last three being variances and covariance of the closed form,
+ * in square millimetres. Prints the sums "moments TAB plays TAB east TAB north TAB east^2 TAB north^2 TAB east *
+ * north"; how many plays miss by each whole number of millimetres, "distance TAB mm TAB how many", and by each
+ * hundredth of the closed form's ellipse, "ellipse TAB hundredths TAB how many"; the first plays and those beyond 4.5
+ * ellipses, "first TAB east TAB north" and "far TAB east TAB north". */
 #include "jabulghi.h"
 #include <math.h>
 #include <stdio.h>
@@ -21,7 +22,8 @@ static void fail(const char *what) {
 
 static void count(int first, const int64_t *miss) {
     double e = (double)miss[0], n = (double)miss[1], distance = hypot(e, n);
-    double sigmas = sqrt((e * e * spread[1] + n * n * spread[0] - 2 * e * n * spread[2]) / (spread[0] * spread[1] - spread[2] * spread[2]));
+    double sigmas = sqrt((e * e * spread[1] + n * n * spread[0] - 2 * e * n * spread[2]) /
+                         (spread[0] * spread[1] - spread[2] * spread[2]));
     const int64_t products[5] = {miss[0], miss[1], miss[0] * miss[0], miss[1] * miss[1], miss[0] * miss[1]};
     for (int j = 0; j < 5; j++) sums[j] += products[j];
     if (!(distance < MOST && sigmas < STEPS / 100)) fail("a miss of 200 m or of 10 ellipses");
@@ -53,7 +55,8 @@ int main(int argc, char **argv) {
     for (int j = 0; j < 3; j++) spread[j] = atof(argv[3 + j]);
     for (long long from = 0; from < plays; from += AT_ONCE) {
         uint32_t line;
-        if (jabulghi_play(text, length, (uint64_t)from, misses, AT_ONCE, &line) != JABULGHI_OK) fail("the job is refused");
+        if (jabulghi_play(text, length, (uint64_t)from, misses, AT_ONCE, &line) != JABULGHI_OK)
+            fail("the job is refused");
         for (int j = 0; j < AT_ONCE; j++) count(from == 0 && j < FIRST, misses[j]);
     }
     print_counts(plays);

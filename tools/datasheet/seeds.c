@@ -1,7 +1,8 @@
-/* What seeds do, over 4096 records of small seeds (each register 1 to 16 times its minimum) and twice 4096 of seeds of 32 bits. Prints for each pair n
- * "n TAB kind TAB mean square TAB mean product", in standard deviations: the mean square of the samples n of all records, and the mean product of each
- * with the next record's. Then, from a million pairs of two records with one stream in common, twice, the correlation of their samples and of their
- * squares; and the first samples of some seeds. */
+/* What seeds do, over 4096 records of small seeds (each register 1 to 16 times its minimum) and twice 4096 of seeds of
+ * 32 bits. Prints for each pair n "n TAB kind TAB mean square TAB mean product", in standard deviations: the mean
+ * square of the samples n of all records, and the mean product of each with the next record's. Then, from a million
+ * pairs of two records with one stream in common, twice, the correlation of their samples and of their squares; and the
+ * first samples of some seeds. */
 #include "jabulghi.h"
 #include <stdio.h>
 #include <stdlib.h>

@@ -15,7 +15,7 @@ import operator
 import os
 import threading
 from array import array
-from typing import Any, NamedTuple, Sequence, Tuple, Union
+from typing import Any, NamedTuple, Sequence, SupportsIndex, Tuple, Union
 
 from .refusals import LISTING_ROOM, MOST_ASKED, VERSION, WORDS, Refusal
 
@@ -137,12 +137,12 @@ def _call(name: str, *values: Any, line: Any = None) -> None:
         raise Refused(number, line.value if line is not None else 0)
 
 
-def _whole(value: int, least: int, most: int) -> int:
+def _whole(value: SupportsIndex, least: int, most: int) -> int:
     """ctypes would cut a number that is too large."""
-    value = operator.index(value)
-    if not least <= value <= most:
-        raise OverflowError(f"{value} is not between {least} and {most}")
-    return value
+    whole = operator.index(value)
+    if not least <= whole <= most:
+        raise OverflowError(f"{whole} is not between {least} and {most}")
+    return whole
 
 
 def _u32(value: int) -> int:

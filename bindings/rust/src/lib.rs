@@ -105,23 +105,98 @@ extern "C" {
     fn jabulghi_skip(record: *mut Generator, n: u64) -> u32;
     fn jabulghi_ask(record: *mut Generator, n: u32) -> u32;
     fn jabulghi_give_up(record: *mut Generator) -> u32;
-    fn jabulghi_list(text: *const u8, text_length: usize, listing: *mut u8, listing_length: usize, line: *mut u32, length: *mut usize) -> u32;
-    fn jabulghi_legs(text: *const u8, text_length: usize, shots: *mut u8, shots_length: usize, line: *mut usize, length: *mut usize) -> u32;
-    fn jabulghi_misclosure(text: *const u8, text_length: usize, sums: *mut i64, millimetres: *mut i64, line: *mut u32) -> u32;
-    fn jabulghi_intervals(text: *const u8, text_length: usize, sums: *mut i64, millimetres: *mut i64, line: *mut u32) -> u32;
-    fn jabulghi_play(text: *const u8, text_length: usize, first: u64, misses: *mut [i64; 2], runs: usize, line: *mut u32) -> u32;
-    fn jabulghi_window_make_members(size: *mut u32, held: *mut u32, place: *mut u32, places: *mut i16, sum: *mut i64, squares: *mut i64, n: u32) -> u32;
-    fn jabulghi_window_push_members(size: *mut u32, held: *mut u32, place: *mut u32, places: *mut i16, sum: *mut i64, squares: *mut i64, sample: i16) -> u32;
+    fn jabulghi_list(
+        text: *const u8,
+        text_length: usize,
+        listing: *mut u8,
+        listing_length: usize,
+        line: *mut u32,
+        length: *mut usize,
+    ) -> u32;
+    fn jabulghi_legs(
+        text: *const u8,
+        text_length: usize,
+        shots: *mut u8,
+        shots_length: usize,
+        line: *mut usize,
+        length: *mut usize,
+    ) -> u32;
+    fn jabulghi_misclosure(
+        text: *const u8,
+        text_length: usize,
+        sums: *mut i64,
+        millimetres: *mut i64,
+        line: *mut u32,
+    ) -> u32;
+    fn jabulghi_intervals(
+        text: *const u8,
+        text_length: usize,
+        sums: *mut i64,
+        millimetres: *mut i64,
+        line: *mut u32,
+    ) -> u32;
+    fn jabulghi_play(
+        text: *const u8,
+        text_length: usize,
+        first: u64,
+        misses: *mut [i64; 2],
+        runs: usize,
+        line: *mut u32,
+    ) -> u32;
+    fn jabulghi_window_make_members(
+        size: *mut u32,
+        held: *mut u32,
+        place: *mut u32,
+        places: *mut i16,
+        sum: *mut i64,
+        squares: *mut i64,
+        n: u32,
+    ) -> u32;
+    fn jabulghi_window_push_members(
+        size: *mut u32,
+        held: *mut u32,
+        place: *mut u32,
+        places: *mut i16,
+        sum: *mut i64,
+        squares: *mut i64,
+        sample: i16,
+    ) -> u32;
     fn jabulghi_window_push_all_members(
-        size: *mut u32, held: *mut u32, place: *mut u32, places: *mut i16, sum: *mut i64, squares: *mut i64, samples: *const i16, length: usize,
+        size: *mut u32,
+        held: *mut u32,
+        place: *mut u32,
+        places: *mut i16,
+        sum: *mut i64,
+        squares: *mut i64,
+        samples: *const i16,
+        length: usize,
     ) -> u32;
     fn jabulghi_marks_save_members(
-        used: *mut u32, lengths: *mut u32, names: *mut u8, records: *mut Generator, record: *const Generator, name: *const u8, length: usize,
+        used: *mut u32,
+        lengths: *mut u32,
+        names: *mut u8,
+        records: *mut Generator,
+        record: *const Generator,
+        name: *const u8,
+        length: usize,
     ) -> u32;
     fn jabulghi_marks_return_members(
-        used: *const u32, lengths: *const u32, names: *const u8, records: *const Generator, record: *mut Generator, name: *const u8, length: usize,
+        used: *const u32,
+        lengths: *const u32,
+        names: *const u8,
+        records: *const Generator,
+        record: *mut Generator,
+        name: *const u8,
+        length: usize,
     ) -> u32;
-    fn jabulghi_marks_drop_members(used: *mut u32, lengths: *mut u32, names: *mut u8, records: *mut Generator, name: *const u8, length: usize) -> u32;
+    fn jabulghi_marks_drop_members(
+        used: *mut u32,
+        lengths: *mut u32,
+        names: *mut u8,
+        records: *mut Generator,
+        name: *const u8,
+        length: usize,
+    ) -> u32;
 }
 
 // Each call below passes references and slices on, with their own lengths: the header asks for no more of a pointer.
@@ -234,7 +309,15 @@ impl Window {
     pub fn make(&mut self, size: u32) -> Result<(), Refusal> {
         let places = self.places.as_mut_ptr();
         Refusal::check(unsafe {
-            jabulghi_window_make_members(&mut self.size, &mut self.held, &mut self.place, places, &mut self.sum, &mut self.squares, size)
+            jabulghi_window_make_members(
+                &mut self.size,
+                &mut self.held,
+                &mut self.place,
+                places,
+                &mut self.sum,
+                &mut self.squares,
+                size,
+            )
         })
     }
 
@@ -242,7 +325,15 @@ impl Window {
     pub fn push(&mut self, sample: i16) -> Result<(), Refusal> {
         let places = self.places.as_mut_ptr();
         Refusal::check(unsafe {
-            jabulghi_window_push_members(&mut self.size, &mut self.held, &mut self.place, places, &mut self.sum, &mut self.squares, sample)
+            jabulghi_window_push_members(
+                &mut self.size,
+                &mut self.held,
+                &mut self.place,
+                places,
+                &mut self.sum,
+                &mut self.squares,
+                sample,
+            )
         })
     }
 
@@ -250,7 +341,16 @@ impl Window {
     pub fn push_all(&mut self, samples: &[i16]) -> Result<(), Refusal> {
         let (places, all, length) = (self.places.as_mut_ptr(), samples.as_ptr(), samples.len());
         Refusal::check(unsafe {
-            jabulghi_window_push_all_members(&mut self.size, &mut self.held, &mut self.place, places, &mut self.sum, &mut self.squares, all, length)
+            jabulghi_window_push_all_members(
+                &mut self.size,
+                &mut self.held,
+                &mut self.place,
+                places,
+                &mut self.sum,
+                &mut self.squares,
+                all,
+                length,
+            )
         })
     }
 }
@@ -269,19 +369,34 @@ pub struct Marks {
 impl Marks {
     /// Saves a generator's place under a name.
     pub fn save(&mut self, generator: &Generator, name: &[u8]) -> Result<(), Refusal> {
-        let (used, lengths, names, records) = (self.used.as_mut_ptr(), self.length.as_mut_ptr(), self.names.as_mut_ptr().cast(), self.records.as_mut_ptr());
-        Refusal::check(unsafe { jabulghi_marks_save_members(used, lengths, names, records, generator, name.as_ptr(), name.len()) })
+        let (used, lengths, names, records) = (
+            self.used.as_mut_ptr(),
+            self.length.as_mut_ptr(),
+            self.names.as_mut_ptr().cast(),
+            self.records.as_mut_ptr(),
+        );
+        Refusal::check(unsafe {
+            jabulghi_marks_save_members(used, lengths, names, records, generator, name.as_ptr(), name.len())
+        })
     }
 
     /// The generator goes back to where it was saved.
     pub fn return_to(&self, generator: &mut Generator, name: &[u8]) -> Result<(), Refusal> {
-        let (used, lengths, names, records) = (self.used.as_ptr(), self.length.as_ptr(), self.names.as_ptr().cast(), self.records.as_ptr());
-        Refusal::check(unsafe { jabulghi_marks_return_members(used, lengths, names, records, generator, name.as_ptr(), name.len()) })
+        let (used, lengths, names, records) =
+            (self.used.as_ptr(), self.length.as_ptr(), self.names.as_ptr().cast(), self.records.as_ptr());
+        Refusal::check(unsafe {
+            jabulghi_marks_return_members(used, lengths, names, records, generator, name.as_ptr(), name.len())
+        })
     }
 
     /// Drops a mark.
     pub fn drop_mark(&mut self, name: &[u8]) -> Result<(), Refusal> {
-        let (used, lengths, names, records) = (self.used.as_mut_ptr(), self.length.as_mut_ptr(), self.names.as_mut_ptr().cast(), self.records.as_mut_ptr());
+        let (used, lengths, names, records) = (
+            self.used.as_mut_ptr(),
+            self.length.as_mut_ptr(),
+            self.names.as_mut_ptr().cast(),
+            self.records.as_mut_ptr(),
+        );
         Refusal::check(unsafe { jabulghi_marks_drop_members(used, lengths, names, records, name.as_ptr(), name.len()) })
     }
 }
@@ -310,14 +425,17 @@ pub fn sample18(k: u64, v: u32) -> Result<[i32; 2], Refusal> {
 /// ```
 pub fn list<'a>(job: &[u8], listing: &'a mut [u8]) -> Result<&'a [u8], TextRefusal> {
     let (mut line, mut length) = (0, 0);
-    let number = unsafe { jabulghi_list(job.as_ptr(), job.len(), listing.as_mut_ptr(), listing.len(), &mut line, &mut length) };
+    let number =
+        unsafe { jabulghi_list(job.as_ptr(), job.len(), listing.as_mut_ptr(), listing.len(), &mut line, &mut length) };
     TextRefusal::check(number, line as usize).map(|()| &listing[..length])
 }
 
 /// The shot lines of a Survex text's level legs, which are the start of the slice given.
 pub fn legs<'a>(survey: &[u8], shots: &'a mut [u8]) -> Result<&'a [u8], TextRefusal> {
     let (mut line, mut length) = (0, 0);
-    let number = unsafe { jabulghi_legs(survey.as_ptr(), survey.len(), shots.as_mut_ptr(), shots.len(), &mut line, &mut length) };
+    let number = unsafe {
+        jabulghi_legs(survey.as_ptr(), survey.len(), shots.as_mut_ptr(), shots.len(), &mut line, &mut length)
+    };
     TextRefusal::check(number, line).map(|()| &shots[..length])
 }
 
@@ -332,14 +450,18 @@ pub struct Miss<const N: usize> {
 /// How far the loop of a listing misses, east and north.
 pub fn misclosure(listing: &[u8]) -> Result<Miss<2>, TextRefusal> {
     let (mut sums, mut millimetres, mut line) = ([0; 2], [0; 2], 0);
-    let number = unsafe { jabulghi_misclosure(listing.as_ptr(), listing.len(), sums.as_mut_ptr(), millimetres.as_mut_ptr(), &mut line) };
+    let number = unsafe {
+        jabulghi_misclosure(listing.as_ptr(), listing.len(), sums.as_mut_ptr(), millimetres.as_mut_ptr(), &mut line)
+    };
     TextRefusal::check(number, line as usize).map(|()| Miss { sums, millimetres })
 }
 
 /// The same between two readings: east low, east high, north low, north high.
 pub fn intervals(listing: &[u8]) -> Result<Miss<4>, TextRefusal> {
     let (mut sums, mut millimetres, mut line) = ([0; 4], [0; 4], 0);
-    let number = unsafe { jabulghi_intervals(listing.as_ptr(), listing.len(), sums.as_mut_ptr(), millimetres.as_mut_ptr(), &mut line) };
+    let number = unsafe {
+        jabulghi_intervals(listing.as_ptr(), listing.len(), sums.as_mut_ptr(), millimetres.as_mut_ptr(), &mut line)
+    };
     TextRefusal::check(number, line as usize).map(|()| Miss { sums, millimetres })
 }
 

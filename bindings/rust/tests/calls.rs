@@ -53,7 +53,14 @@ fn number<T>(answer: Result<T, Refusal>) -> u32 {
 const ROOM: usize = 48;
 
 /// One call on both sides; the numbers that they return.
-fn both(kind: u64, n: usize, ours: &mut Generator, raw: &mut [u64; 5], short: &mut [[i16; ROOM]; 2], wide: &mut [[i32; ROOM]; 2]) -> [u32; 2] {
+fn both(
+    kind: u64,
+    n: usize,
+    ours: &mut Generator,
+    raw: &mut [u64; 5],
+    short: &mut [[i16; ROOM]; 2],
+    wide: &mut [[i32; ROOM]; 2],
+) -> [u32; 2] {
     let ([x, y], [p, q], r) = (short, wide, raw.as_mut_ptr());
     let (x, y, p, q) = (&mut x[8..8 + n], y[8..].as_mut_ptr(), &mut p[8..8 + n], q[8..].as_mut_ptr());
     let mut samples = [0; 2];
@@ -104,7 +111,10 @@ fn random_calls_beside_the_c_interface() {
         let [number, theirs] = both(kind, n, &mut ours, &mut raw, &mut short, &mut wide);
         assert_eq!((number, words(&ours)), (theirs, raw), "call {done}, kind {kind}, {n}");
         assert!(short[0] == short[1] && wide[0] == wide[1], "call {done}, kind {kind}, {n}");
-        assert!(short[0][..8].iter().chain(&short[0][8 + n..]).all(|&s| s == 0x5A5A) && wide[0][..8].iter().chain(&wide[0][8 + n..]).all(|&s| s == 0x5A5A5A5A));
+        assert!(
+            short[0][..8].iter().chain(&short[0][8 + n..]).all(|&s| s == 0x5A5A)
+                && wide[0][..8].iter().chain(&wide[0][8 + n..]).all(|&s| s == 0x5A5A5A5A)
+        );
         assert!(number == 0 || raw == before && short[0] == [0x5A5A; ROOM] && wide[0] == [0x5A5A5A5A; ROOM]);
         seen.insert((kind, number));
     }
@@ -128,7 +138,8 @@ fn refusals_are_errors_with_words() {
 
 #[test]
 fn marks_lead_back() {
-    let (mut rig, mut marks, mut first, mut again) = (Generator::seed(SEEDS).unwrap(), Marks::default(), [0; 10], [0; 10]);
+    let (mut rig, mut marks, mut first, mut again) =
+        (Generator::seed(SEEDS).unwrap(), Marks::default(), [0; 10], [0; 10]);
     marks.save(&rig, b"D7").unwrap();
     rig.fill(&mut first).unwrap();
     marks.return_to(&mut rig, b"D7").unwrap();
