@@ -19,7 +19,7 @@ use Rattle.noise.proofs.Requests.{ask-notes, ask-take, ask-give-up}
 use Rattle.noise.proofs.Runs.{returned-code, leftBy, next-is}
 use Rattle.histories.specs.Refusals.{one-open, Open, Applies}
 use Rattle.histories.specs.Histories.{historyOf, Keeps, AllKeep}
-use Rattle.histories.proofs.Refusals.{accepted}
+use Rattle.histories.proofs.Refusals.{decides}
 use Rattle.histories.proofs.Calls.{refused-stays, same-either-way}
 
 -- A call that keeps the request leaves the record as it is,
@@ -28,7 +28,7 @@ unfolding leftBy
 open-stays c g h k = by-call c k
   where
     waits : (c : Call) → Applies one-open c g → returned c g .next ≡ g
-    waits c holds = refused-stays c g (λ e. accepted c g .0 (returned-code c g ∙ e) one-open holds)
+    waits c holds = refused-stays c g (λ e. decides c g .accepted .0 (returned-code c g ∙ e) one-open holds)
 
     by-call : (c : Call) → Keeps c (returned c g .code) → returned c g .next ≡ g
     by-call numbers k = waits numbers h

@@ -10,7 +10,7 @@ use Rattle.text.specs.Forms.{noPlace, foundOf, placesFrom, marks}
 use Rattle.text.specs.declared.field.Place.{Place}
 use Rattle.text.specs.declared.form.Found.{Found}
 use Rattle.text.proofs.Steps.{places-found}
-use Rattle.job_lines.specs.Forms.{Form, seeds, sigma, shot, noForm, shotForm, digitStringAt, valueAt, threeAt, seedsOf, sigmaOf, said, lineIn}
+use Rattle.job_lines.specs.Forms.{Form, seeds, sigma, shot, noForm, shotForm, digitStringAt, threeAt, seedsOf, sigmaOf, said, lineIn}
 use Rattle.job_lines.specs.Private.{NamesAt}
 use Rattle.job_lines.specs.declared.Line.{Line}
 use Rattle.job_lines.specs.declared.Line.the-variants.{Seeds, Sigma, Shot, NoForm}
@@ -29,13 +29,11 @@ not-either false x e = refl
 
 pub seeds-other : (v : List (List ℕ)) → isShot (seedsOf v) ≡ false
 unfolding seedsOf
-seeds-other v =
-    not-either (threeAt v 0 && threeAt v 3)
-    (seeds (valueAt v 0) (valueAt v 1) (valueAt v 2) (valueAt v 3) (valueAt v 4) (valueAt v 5)) refl
+seeds-other v = not-either (threeAt v 0 && threeAt v 3) _ refl
 
 pub sigma-other : (v : List (List ℕ)) → isShot (sigmaOf v) ≡ false
 unfolding sigmaOf
-sigma-other v = not-either (digitStringAt v 0 && digitStringAt v 1) (sigma (valueAt v 0) (valueAt v 1)) refl
+sigma-other v = not-either (digitStringAt v 0 && digitStringAt v 1) _ refl
 
 module _ (line : List ℕ) where
   line-is : (r : Line) (x : Form) → said line r ≡ x → NamesAt (placesFrom 0 shotForm line) r → r ≡ lineIn line x

@@ -16,7 +16,7 @@ survey t x = record { text = t; gives = x }
 abbrev pub survexReadings : List SurvexReading
 survexReadings =
     survey "; a cave\n\n\t*data normal from to tape compass clino ; level\nA1 A2 12.345 24.72 0\n \nA2 A3 9 359.97 0\n"
-        (listed (ascii "(shot A1 A2 12345 4500)\n(shot A2 A3 9000 65531)\n"))
+    (listed (ascii "(shot A1 A2 12345 4500)\n(shot A2 A3 9000 65531)\n"))
     ∷ survey "*data normal from to tape compass clino\n" (listed [])
     -- "no data line, told at the next line"
     ∷ survey "" (refused 21 1)

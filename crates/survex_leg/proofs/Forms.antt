@@ -13,7 +13,7 @@ use Rattle.text.specs.Scan.{oneOf, upTo}
 use Rattle.text.specs.Fields.{all, digit, name}
 use Rattle.text.proofs.Tests.{test, _and_, each}
 use Rattle.job_lines.specs.Forms.{fieldAt}
-use Rattle.survex_leg.specs.Limits.{tapeDecimals, compassDecimals, mostTape, compassTurn}
+use Rattle.survex_leg.specs.Limits.{wholeDigits, tapeDecimals, compassDecimals, mostTape, compassTurn}
 use Rattle.survex_leg.specs.Legs.{Said, leg, wrong, whole, pointed, decimals, digitsUpTo, isDecimal, stepOf, level, tapeIn, compassIn, legForm, legRange, readLeg}
 use Rattle.survex_leg.specs.Theorems.{Digits, Number, Formed, Ranged}
 
@@ -23,6 +23,13 @@ digits-pass most l = (
       let ((some, few), digits) = each (test (leb 1 (length l)) and test (leb (length l) most) and test (all digit l)) h in
       record { some = leb-true _ _ some; few = leb-true _ _ few; digits = digits },
   λ d. rw (le-leb 1 (length l) (d .some), le-leb (length l) most (d .few)) (d .digits),
+)
+
+-- the digits before a point are at most 4
+four : (l : List ℕ) → Digits wholeDigits l ↔ Digits 4 l
+four l = (
+  λ d. record { some = d .some; few = omega (arith, d .few); digits = d .digits },
+  λ d. record { some = d .some; few = omega (arith, d .few); digits = d .digits },
 )
 
 -- ---- The point
@@ -63,21 +70,21 @@ before-point (x ∷ l) m h =
 
 number-passes : (most : ℕ) (l : List ℕ) → (isDecimal most l ≡ true) ↔ Number most l
 unfolding isDecimal Split
-number-passes most l = (λ h. by-split (split l) (each (test (digitsUpTo 4 (whole l)) and test (not (pointed l) || digitsUpTo most (decimals l))) h), passes)
+number-passes most l = (λ h. by-split (split l) (each (test (digitsUpTo wholeDigits (whole l)) and test (not (pointed l) || digitsUpTo most (decimals l))) h), passes)
   where
-    by-split : Split l → (digitsUpTo 4 (whole l) ≡ true) × (not (pointed l) || digitsUpTo most (decimals l) ≡ true) → Number most l
-    by-split (inl same) (w, d) = inl (rw same at (digits-pass 4 (whole l) .0 w))
+    by-split : Split l → (digitsUpTo wholeDigits (whole l) ≡ true) × (not (pointed l) || digitsUpTo most (decimals l) ≡ true) → Number most l
+    by-split (inl same) (w, d) = inl (rw same at (four (whole l) .0 (digits-pass wholeDigits (whole l) .0 w)))
     by-split (inr (one, same)) (w, d) =
         let d′ : digitsUpTo most (decimals l) ≡ true = rw (lt-ltb _ _ one) at d in
-        inr (whole l, decimals l, digits-pass 4 (whole l) .0 w, digits-pass most (decimals l) .0 d′, same)
+        inr (whole l, decimals l, four (whole l) .0 (digits-pass wholeDigits (whole l) .0 w), digits-pass most (decimals l) .0 d′, same)
 
     passes : Number most l → isDecimal most l ≡ true
     passes (inl w) =
         let same = whole-digits l (w .digits) in
-        rw (same, digits-pass 4 l .1 w, le-ltb (length l) (length l) (omega arith))
+        rw (same, digits-pass wholeDigits l .1 (four l .1 w), le-ltb (length l) (length l) (omega arith))
     passes (inr (b, a, w, d, e)) =
         let (same, after) = before-point b a (w .digits) in
-        rw (e, after, same, digits-pass 4 b .1 w, digits-pass most a .1 d, lt-ltb (length b) (length (b ++ (46 ∷ a))) (omega (arith, length-append b (46 ∷ a))))
+        rw (e, after, same, digits-pass wholeDigits b .1 (four b .1 w), digits-pass most a .1 d, lt-ltb (length b) (length (b ++ (46 ∷ a))) (omega (arith, length-append b (46 ∷ a))))
 
 level-passes : (l : List ℕ) → (level l ≡ true) ↔ (l ≡ 48 ∷ [])
 unfolding level
