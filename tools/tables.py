@@ -71,6 +71,7 @@ def root_cell(n):
 
 RECIPROCALS = [-(-(2**39) // h) for h in range(256, 512)]
 COARSE = [(a >> 32, a % 2**32, reciprocal) for a, reciprocal in zip(ENTRIES["LOG_COARSE"], RECIPROCALS)]
+COARSE_ROWS = [a << 32 | reciprocal for a, reciprocal in zip(ENTRIES["LOG_COARSE"], RECIPROCALS)]
 # (crate, function, first key, how an arm is written, entries)
 MATCHES = [
     ("log_coarse_lookup", "nth", 256, row("Row", 2, 8, 8), COARSE),
@@ -108,6 +109,17 @@ def write_arms(crate, function, first, written, entries):
 def read_arms(crate, function, first):
     found = re.findall(r"(\d+) => (.*),\n", arms(crate, function)[1])
     return [tuple(int(x, 16) for x in re.findall(r"0x\w+", entry)) for n, (key, entry) in enumerate(found, first) if int(key) == n]
+
+
+def private():
+    return CRATES / "log_coarse_lookup" / "specs" / "Private.antt"
+
+
+def with_rows(text):
+    """The text of Private.antt with its list of rows written anew: A, and the reciprocal in the lower 32 bits."""
+    body = rows([f"0x{x:x}" for x in COARSE_ROWS] + ["[]"], " ∷ ", "    ")
+    before, after = text.split("\nrows =\n")[0], text.split("∷ []\n", 1)[1]
+    return before + "\nrows =\n" + "\n".join(body).removesuffix(" ∷") + "\n" + after
 
 
 def path(name):
@@ -148,6 +160,7 @@ def compare():
     for file, const, name, _, entries in TABLES:
         found.append((const, read(path(file).read_text(), f"{const}: [u64; {len(entries)}] = [", "]"), entries))
         found.append((name, read(antt, f"\n{name} =", "[]"), entries))
+    found.append(("log_coarse_lookup: rows", read(private().read_text(), "\nrows =", "[]"), COARSE_ROWS))
     for crate, function, first, _, entries in MATCHES:
         found.append((f"{crate}::{function}", read_arms(crate, function, first), entries))
     for where, numbers, entries in found:
@@ -166,6 +179,7 @@ if __name__ == "__main__":
         for name in ("logarithms", "cosines", "sines"):
             path(name).write_text(source(name))
         LISTS.write_text(lists())
+        private().write_text(with_rows(private().read_text()))
         for match in MATCHES:
             write_arms(*match)
     elif sys.argv[1:]:
