@@ -1,6 +1,6 @@
 """Recomputes the seven tables with mpmath at 200 bits and compares them with the sources: crate `tables` (src/logarithms.rt,
-cosines.rt, sines.rt, specs/Values.antt), and the matches of crates `log_coarse_lookup`, `log_fine_lookup` and `reciprocal_lookup` (with
-specs/Private.antt), and `rotation_lookup`. The cells of the root in crate `root_lookup` too.
+cosines.rt, sines.rt, specs/Values.antt), and the matches of crates `log_coarse_lookup` (with the reciprocals), `log_fine_lookup` and
+`rotation_lookup`. The cells of the root in crate `root_lookup` too.
 
   python3 tools/tables.py           compare the sources with the recomputed tables
   python3 tools/tables.py --write   write the tables and the arms of the matches anew (then run `rt fmt`)
@@ -11,7 +11,7 @@ import pathlib
 import re
 import sys
 
-from mpmath import mp, mpf, cos, floor, log, nint, pi, sin
+from mpmath import mp, mpf, cos, floor, log, nint, pi, sin, sqrt
 
 mp.prec = 200
 CRATES = pathlib.Path(__file__).resolve().parent.parent / "crates"
@@ -80,51 +80,35 @@ LN_TWO = nearest(log(mpf(2)), LOG)
 ENTRIES = {const: entries for _, const, _, _, entries in TABLES}
 
 
-def beside(uppers, lowers, width):
-    """Two lists in one: the upper part of each number from the first, the lower, of so many bits, from the second."""
-    assert all(x < 1 << 64 - width for x in uppers) and all(x < 1 << width for x in lowers)
-    return [x << width | y for x, y in zip(uppers, lowers)]
-
-
-def parted(width):
-    """How a number of two parts is written, the lower of so many bits."""
-    return lambda x: f"0x{x >> width:0{(64 - width) // 4}x}_{x % (1 << width):0{width // 4}x}"
-
-
-RECIPROCALS = [-(-(2**39) // h) for h in range(256, 512)]
-INVERSES = [(2**48 - 2**18) // (65536 + i) for i in range(256)]
-FINE_ARMS = beside(INVERSES, ENTRIES["LOG_FINE"], 32)
-# (crate, file, function, first key, how an entry is written, entries)
-MATCHES = [
-    ("log_coarse_lookup", "lib", "nth", 0, str, ENTRIES["LOG_COARSE"]),
-    ("log_fine_lookup", "lib", "nth", 0, parted(32), FINE_ARMS),
-    ("reciprocal_lookup", "lib", "nth", 0, "0x{:08x}".format, RECIPROCALS),
-    ("rotation_lookup", "lib", "nth_coarse", 0, parted(32), beside(ENTRIES["COS_COARSE"], ENTRIES["SIN_COARSE"], 32)),
-    ("rotation_lookup", "lib", "nth_fine", 0, parted(32), beside(ENTRIES["COS_FINE"], ENTRIES["SIN_FINE"], 32)),
-]
-# (crate, entries): the lists that the arms of a match are compared with
-ARMS = [("log_fine_lookup", FINE_ARMS, 16), ("reciprocal_lookup", RECIPROCALS, 8)]
+def row(name, *digits):
+    """How an arm of a match is written: a tuple struct of numbers with so many hexadecimal digits."""
+    return lambda entry: f"{name}(" + ", ".join(f"0x{x:0{n}x}" for x, n in zip(entry, digits)) + ")"
 
 
 def root_cell(n):
-    """The root of y = (n + u) 2^56 for u from 0 to 1 as start + u (slope - u fall), near the best such, and never above the root."""
-    nodes = [(1 + math.cos(math.pi * (2 * k + 1) / 6)) / 2 for k in range(3)]
-    roots = [math.sqrt(n + u) * 2**28 for u in nodes]
+    """Start, slope and fall of a parabola below the root of (n + u) 2^57, for u from 0 to 1: the one that meets it at the three nodes of
+    least error, moved down until it is nowhere above the root, and by 2 more."""
+    nodes = [(1 + cos(pi * (2 * k + 1) / 6)) / 2 for k in range(3)]
+    roots = [sqrt((n + u) * 2**57) for u in nodes]
     first, second = ((roots[k + 1] - roots[k]) / (nodes[k + 1] - nodes[k]) for k in (0, 1))
-    fall = round((first - second) / (nodes[2] - nodes[0]) / 16)
-    rests = [root + 16 * fall * u * u for root, u in zip(roots, nodes)]
-    u, rest = sum(nodes) / 3, sum(rests) / 3
-    slope = round(sum((x - u) * (y - rest) for x, y in zip(nodes, rests)) / sum((x - u) ** 2 for x in nodes))
-    along = [min(4096 * k, 2**24 - 1) for k in range(4097)]
-    least = min(math.isqrt((n << 56) + (t << 32)) - (slope - fall * t // 2**20) * t // 2**24 for t in along)
-    return (least - (2**31 - 2**8)) // 8 << 36 | slope << 12 | fall
+    bend = (second - first) / (nodes[2] - nodes[0])
+    slope, fall = int(nint(first - bend * (nodes[0] + nodes[1]))), int(nint(-bend))
+    along = [min((k << 32) // 3000, 2**32 - 1) for k in range(3001)]
+    least = min((math.isqrt((n << 32 | t) << 89) - (slope - (fall * t >> 32)) * t) >> 32 for t in along)
+    return least - 2, slope, fall
 
 
-def parted_cell(x):
-    return f"0x{x >> 36:07x}_{x >> 12 & 0xFFFFFF:06x}_{x & 0xFFF:03x}"
-
-
-MATCHES.append(("root_lookup", "lib", "cell", 64, parted_cell, [root_cell(n) for n in range(64, 256)]))
+RECIPROCALS = [-(-(2**39) // h) for h in range(256, 512)]
+COARSE = [(a >> 32, a % 2**32, reciprocal) for a, reciprocal in zip(ENTRIES["LOG_COARSE"], RECIPROCALS)]
+COARSE_ROWS = [a << 32 | reciprocal for a, reciprocal in zip(ENTRIES["LOG_COARSE"], RECIPROCALS)]
+# (crate, function, first key, how an arm is written, entries)
+MATCHES = [
+    ("log_coarse_lookup", "nth", 256, row("Row", 2, 8, 8), COARSE),
+    ("log_fine_lookup", "nth", 0, "0x{0[0]:08x}".format, [(b,) for b in ENTRIES["LOG_FINE"]]),
+    ("rotation_lookup", "nth_coarse", 0, row("Rotation", 8, 8), list(zip(ENTRIES["COS_COARSE"], ENTRIES["SIN_COARSE"]))),
+    ("rotation_lookup", "nth_fine", 0, row("Rotation", 8, 8), list(zip(ENTRIES["COS_FINE"], ENTRIES["SIN_FINE"]))),
+    ("root_lookup", "cell_at", 0, row("Cell", 8, 8, 8), [(0, 0, 0)] * 32 + [root_cell(n) for n in range(32, 128)]),
+]
 
 
 def rows(words, between, indent, width=120):
@@ -137,25 +121,34 @@ def rows(words, between, indent, width=120):
     return lines + [indent + line.rstrip()]
 
 
-def arms(crate, file, function):
+def arms(crate, function):
     """A crate's source, in three: up to the arms of the match of a function, the arms, what follows."""
-    text = (CRATES / crate / "src" / f"{file}.rt").read_text()
+    text = (CRATES / crate / "src" / "lib.rt").read_text()
     start = text.index("match n {\n", text.index(f"fn {function}(")) + len("match n {\n")
-    end = text.index("        _ => past", start) if "_ => past" in text else text.index("    }\n", start)
+    end = text.index("        _ => past", start)
     return text[:start], text[start:end], text[end:]
 
 
-def write_arms(crate, file, function, first, written, entries):
-    before, _, after = arms(crate, file, function)
+def write_arms(crate, function, first, written, entries):
+    before, _, after = arms(crate, function)
     lines = [f"        {n} => {written(x)},\n" for n, x in enumerate(entries, first)]
-    if not after.startswith("        _"):  # the last entry stands in the last arm
-        lines[-1] = f"        _ => {written(entries[-1])},\n"
-    (CRATES / crate / "src" / f"{file}.rt").write_text(before + "".join(lines) + after)
+    (CRATES / crate / "src" / "lib.rt").write_text(before + "".join(lines) + after)
 
 
-def read_arms(crate, file, function, first):
-    found = re.findall(r"(\d+|_) => (\w+),\n", arms(crate, file, function)[1])
-    return [int(x, 0) for n, (key, x) in enumerate(found, first) if key == "_" or int(key) == n]
+def read_arms(crate, function, first):
+    found = re.findall(r"(\d+) => (.*),\n", arms(crate, function)[1])
+    return [tuple(int(x, 16) for x in re.findall(r"0x\w+", entry)) for n, (key, entry) in enumerate(found, first) if int(key) == n]
+
+
+def private():
+    return CRATES / "log_coarse_lookup" / "specs" / "Private.antt"
+
+
+def with_rows(text):
+    """The text of Private.antt with its list of rows written anew: A, and the reciprocal in the lower 32 bits."""
+    body = rows([f"0x{x:x}" for x in COARSE_ROWS] + ["[]"], " ∷ ", "    ")
+    before, after = text.split("\nrows =\n")[0], text.split("∷ []\n", 1)[1]
+    return before + "\nrows =\n" + "\n".join(body).removesuffix(" ∷") + "\n" + after
 
 
 def path(name):
@@ -190,16 +183,6 @@ def lists():
     return "\n".join(out) + "\n"
 
 
-def private(crate):
-    return CRATES / crate / "specs" / "Private.antt"
-
-
-def with_arms(text, entries, digits):
-    """The text of a Private.antt with its list, the last of the file, written anew."""
-    body = rows([f"0x{x:0{digits}x}" for x in entries] + ["[]"], " ∷ ", "    ")
-    return text.split("\narms =\n")[0] + "\narms =\n" + "\n".join(body).removesuffix(" ∷") + "\n"
-
-
 def read(text, start, end):
     """The numbers of the text between two marks."""
     body = text.split(start, 1)[1].split(end, 1)[0]
@@ -211,10 +194,9 @@ def compare():
     for file, const, name, _, entries in TABLES:
         found.append((const, read(path(file).read_text(), f"{const}: [u64; {len(entries)}] = [", "]"), entries))
         found.append((name, read(antt, f"\n{name} =", "[]"), entries))
-    for crate, entries, _ in ARMS:
-        found.append((f"{crate}: arms", read(private(crate).read_text(), "\narms =", "[]"), entries))
-    for crate, file, function, first, _, entries in MATCHES:
-        found.append((f"{crate}::{function}", read_arms(crate, file, function, first), entries))
+    found.append(("log_coarse_lookup: rows", read(private().read_text(), "\nrows =", "[]"), COARSE_ROWS))
+    for crate, function, first, _, entries in MATCHES:
+        found.append((f"{crate}::{function}", read_arms(crate, function, first), entries))
     for where, numbers, entries in found:
         bad = [i for i in range(max(len(numbers), len(entries))) if numbers[i : i + 1] != entries[i : i + 1]]
         wrong += len(bad)
@@ -234,8 +216,7 @@ if __name__ == "__main__":
         for name in ("logarithms", "cosines", "sines"):
             path(name).write_text(source(name))
         LISTS.write_text(lists())
-        for crate, entries, digits in ARMS:
-            private(crate).write_text(with_arms(private(crate).read_text(), entries, digits))
+        private().write_text(with_rows(private().read_text()))
         for match in MATCHES:
             write_arms(*match)
     elif sys.argv[1:]:

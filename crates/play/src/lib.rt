@@ -31,7 +31,7 @@ fn played(text: &[u8], first: u64, shots: &mut [u64], misses: &mut [[i64; 2]]) -
         };
     }
     let n = read.count;
-    let full = room_code(first, misses.len() as u64, n as u64);
+    let full = room_code(first, misses.len() as u64, n as u32);
     if full != 0 {
         return PlayAnswer {
             code: full,

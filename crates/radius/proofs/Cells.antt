@@ -103,21 +103,21 @@ module _ (k : ℕ) (below : k < 2 ^ numberBits) where
     row-is : N / 2 ^ 55 % 256 + 256 ≡ h
     row-is = rw N-is (omega (arith, split, coarse-at))
 
-    fine-is : N / 2 ^ 39 % 65536 * R / 2 ^ 39 ≡ i
+    fine-is : N % 2 ^ 55 / 2 ^ 39 * R / 2 ^ 39 ≡ i
     unfolding fineIndex
     fine-is =
         let d : ℕ = rest width m in
-        let digits : N / 2 ^ 39 % 65536 ≡ d / 2 ^ 24 = rw N-is (omega (arith, split)) in
+        let digits : N % 2 ^ 55 / 2 ^ 39 ≡ d / 2 ^ 24 = rw N-is (omega (arith, split)) in
         rw (digits, R-is, row-is)
         (quotient-is (d / 2 ^ 24) h (omega (arith, split .1)) (coarse-at .0) (coarse-at .1)
         ∙ div-div-eq-div-mul d (2 ^ 24) h ∙ ap (λ n. d / n) (mul-comm (2 ^ 24) h))
 
-    pub place-fits : N + N / 2 ^ 39 % 65536 * R / 2 ^ 39 < 2 ^ 64
+    pub place-fits : N + N % 2 ^ 55 / 2 ^ 39 * R / 2 ^ 39 < 2 ^ 64
     place-fits = rw (fine-is, N-is) (omega (arith, mantissa-at k below .1, fine-at))
 
     pub cell-is :
-        (a b K e log : ℕ) → a ≡ entryOf logCoarse 256 (N / 2 ^ 55 % 256 + 256) → b ≡ getD logFine (N / 2 ^ 39 % 65536 * R / 2 ^ 39) 0xffffffff → K ≡ lnTwo →
-        e ≡ topBit m → (log + (a + b)) % 2 ^ 64 ≡ (width - e) * K → InCell k (N + N / 2 ^ 39 % 65536 * R / 2 ^ 39) R log
+        (a b K e log : ℕ) → a ≡ entryOf logCoarse 256 (N / 2 ^ 55 % 256 + 256) → b ≡ getD logFine (N % 2 ^ 55 / 2 ^ 39 * R / 2 ^ 39) 0xffffffff → K ≡ lnTwo →
+        e ≡ topBit m → (log + (a + b)) % 2 ^ 64 ≡ (width - e) * K → InCell k (N + N % 2 ^ 55 / 2 ^ 39 * R / 2 ^ 39) R log
     cell-is a b K e log a-is b-is K-is e-is log-is = record {
       place-is = ap₂ _+_ N-is fine-is;
       reciprocal-is = R-is ∙ ap (λ n. entryOf reciprocals 256 n) row-is;

@@ -14,6 +14,9 @@ pub const LIMIT: u64 = 1 << 48;
 // The first number beyond 32 bits.
 const WORD: u64 = 1 << 32;
 
+// The unit of h in M, 2^40, times 2^15.
+const COARSE: u64 = 1 << 55;
+
 // The roots of numbers below 2^48 are below this.
 const ROOTS: u32 = 1 << 24;
 
@@ -37,15 +40,16 @@ pub fn cell_of(z: u64) -> Cell
     ensures { λ r. ⌜ InCell (z / 65536) (r .place) (r .reciprocal) (r .log) ⌝ }
 {
     let k = z / 65536;
-    // 1. M = (2k + 1) × 2^(48-e), here times 2^15, so that its highest bit is bit 63.
+    // 1. M = (2k + 1) × 2^(48-e). M and d stand here times 2^15, so that the highest bit of M is bit 63.
     let e = top_bit(k);
     let m = ((2 * k + 1) << 15) << (48 - e);
-    // 2. h = floor(M / 2^40), from 256 to 511.
+    // 2. h = floor(M / 2^40), from 256 to 511; d = M mod 2^40.
     let h = (m >> 55) % 256 + 256;
+    let d = m % COARSE;
     let row = log_coarse_lookup::coarse(h);
     let reciprocal = row.2;
     // 3. i = floor(d / (h × 2^24)), at most 255: the upper 16 bits of d by the reciprocal of h.
-    let i = (m >> 39) % 65536 * reciprocal as u64 >> 39;
+    let i = (d >> 39) * reciprocal as u64 >> 39;
     // 5. (49 - e) × K - A(h) - B(i).
     let doublings = (49 - e) * tables::ln_two();
     let a = row.0 as u64 * WORD + row.1 as u64;

@@ -14,6 +14,11 @@ same-length c = search needs
 returns : tie.Need-returns
 returns c = play-refused (c .before .before .before .before .before .before .before .before .args .text .now) (c .before .before .before .before .before .before .before .before .args .first) (c .before .before .before .before .before .before .before .before .args .misses .now) _ (c .before .before .before .before .read-loop .ensures .0) (c .if1 .taken)
 
+cast-room-code : tie.Need-cast-room-code
+cast-room-code c =
+    let start = c .before .before .before .before .before .before .before .before in
+    omega (arith, few (start .args .text .now) (start .args .first) (start .args .misses .now) _ (c .before .before .before .before .read-loop .ensures .0) (c .if1 .left))
+
 room-code-requires : tie.Need-room-code-requires
 room-code-requires c κs = tt
 
@@ -59,4 +64,4 @@ returns-3 c =
     play-accepted (start .args .text .now) (start .args .first) (start .args .misses .now) _ answer (c .before .before .before .before .before .before .before .if1 .left) _ (c .before .before .before .before .before .before .room-code .ensures) _ _ (start .pre) kept (c .before .before .before .before .before .if2 .left) _ (c .before .plays .ensures)
 
 pub played-spec : {M : Type 1} → statement M
-played-spec = tie.close (tie.spec read-loop-requires same-length returns room-code-requires same-length-2 returns-2 sub-plays part-plays-start part-plays-end plays-requires same-length-3 same-length-4 returns-3)
+played-spec = tie.close (tie.spec read-loop-requires same-length returns cast-room-code room-code-requires same-length-2 returns-2 sub-plays part-plays-start part-plays-end plays-requires same-length-3 same-length-4 returns-3)

@@ -11,7 +11,7 @@ mul-wrapping-sub-u64 : tie.Need-mul-wrapping-sub-u64
 mul-wrapping-sub-u64 c = record { fits = product-fits _ _ (omega arith) (omega arith) }
 
 returns : tie.Need-returns
-returns c below near = root-is _ _ _ _ below near refl (c .wrapping-sub-u64 .ensures) (omega arith)
+returns c below near = root-is _ _ _ _ below near refl (omega (arith, c .wrapping-sub-u64 .ensures)) (omega arith)
 
 pub root-spec : {M : Type 1} → statement M
 root-spec =
