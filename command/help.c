@@ -26,19 +26,23 @@ static const struct { const char *command, *text; } HELP[] = {
      "usage: jabulghi level [FILE] [--loop N] [-o FILE]\n"
      "\n"
      "Writes the legs of an ordinary Survex survey's loop as the strict text that legs takes, whole or not at all. It is not proved.\n"
-     "Scopes, equates, orders of readings and steep legs are worked in; standard error says what was done, and the new names of stations.\n"
+     "It reads what cavern reads, included files among it. Standard error says what was done, and the new names of stations; or, of a survey\n"
+     "that is refused, its troubles with file and line, the first 20 of them.\n"
      "  --loop N  the loop that is written, where the survey has several; not given, they are listed\n"},
     {"misses", "usage: jabulghi misses [FILE] [-o FILE]\n\nPrints how far the loop of a listing misses, east and north in whole millimetres.\n"},
     {"job",
-     "usage: jabulghi job [FILE] --sigma SIGMAS [--seeds SEEDS] [-o FILE]\n"
+     "usage: jabulghi job [FILE] --sigma SIGMAS [--seeds SEEDS] [--loop N] [-o FILE]\n"
      "\n"
-     "Prints a job with the legs of a Survex survey, the rows of a listing or the shots of another job, whole or not at all.\n"
+     "Prints a job with the legs of a Survex survey, the rows of a listing or the shots of another job, whole or not at all. A survey that legs\n"
+     "does not take is read as by level.\n"
      "  --sigma SIGMAS  of distance and bearing: 4mm,0.5deg or 4,91 (millimetres, steps of which a turn has 65536);\n"
      "                  for a job its own, where not given\n"
      "  --seeds SEEDS   a line of seeds, as `jabulghi seeds` prints it, or six numbers with commas between;\n"
-     "                  for a job its own, where not given; else some are drawn\n"},
+     "                  for a job its own, where not given; else some are drawn\n"
+     "  --loop N        the loop that is taken, where an ordinary survey has several\n"},
     {"tolerance",
-     "usage: jabulghi tolerance [FILE] --sigma SIGMAS [--seeds SEEDS] [--runs N] [--first N] [--miss E,N] [--jobs N] [--csv|--json] [--svg FILE] [-o FILE]\n"
+     "usage: jabulghi tolerance [FILE] --sigma SIGMAS [--seeds SEEDS] [--loop N] [--runs N] [--first N] [--miss E,N] [--jobs N] [--csv|--json]\n"
+     "                          [--svg FILE] [-o FILE]\n"
      "       jabulghi tolerance [FILE] --sigma SIGMAS --seeds SEEDS --run N [-o FILE]\n"
      "       jabulghi tolerance --merge FILE.. [--json] [--svg FILE] [-o FILE]\n"
      "\n"
@@ -47,6 +51,7 @@ static const struct { const char *command, *text; } HELP[] = {
      "  --sigma SIGMAS  of distance and bearing: 4mm,0.5deg or 4,91 (millimetres, steps); for a job its own, where not given\n"
      "  --seeds SEEDS   as `jabulghi seeds` prints them, or six numbers with commas between; for a job its own, where not given;\n"
      "                  else some are drawn, and printed\n"
+     "  --loop N        the loop that is played, where an ordinary survey has several; not given, they are listed\n"
      "  --runs N        how many, 1 to 10000000; 10000, where not given\n"
      "  --first N       the number of the first run; 0, where not given\n"
      "  --miss E,N      judge this miss, east and north in millimetres, and not the survey's own\n"
