@@ -10,8 +10,8 @@
 #include <sys/types.h>
 
 /* Exit statuses: all went well; the library refused what it was given; wrong usage, or a read or write that failed. ENOUGH is no exit status: nobody
- * reads the output any more, and the command ends as if it were done. */
-enum { DONE = 0, REFUSED = 1, TROUBLE = 2, ENOUGH = 3 };
+ * reads the output any more, and the command ends as if it were done. UNSOUND is none either: all went well, and the exit status is 1. */
+enum { DONE = 0, REFUSED = 1, TROUBLE = 2, ENOUGH = 3, UNSOUND = 4 };
 
 /* The shots that a job takes, and room for a name of it, its end included. */
 enum { MOST_SHOTS = 500, NAME_ROOM = 13 };

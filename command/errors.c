@@ -36,24 +36,39 @@ static const char *read_error(const char *at, struct judge_sigmas *sigmas) {
     return NULL;
 }
 
-int errors_of(const option *given, struct judge_sigmas *sigmas) {
-    uint32_t pair[2];
-    const char *at = given->value;
-    if (at == NULL) return DONE;
-    if (strchr(at, '=') == NULL) {
-        int status = sigmas_of(given, pair);
-        sigmas->of[JUDGE_TAPE] = pair[0] / 1000.0;
-        sigmas->of[JUDGE_COMPASS] = pair[1] * 360 / 65536.0;
-        sigmas->given[JUDGE_TAPE] = sigmas->given[JUDGE_COMPASS] = true;
-        sigmas->from = given->name;
-        return status;
-    }
-    sigmas->from = given->name;
+/* Tape and compass alone: a number without a unit is millimetres, or steps. */
+static bool read_pair(const char *at, struct judge_sigmas *sigmas) {
+    measure tape, compass;
+    at = read_measure(at, &tape);
+    at = at != NULL && *at == ',' ? read_measure(at + 1, &compass) : NULL;
+    if (at == NULL || *at != '\0') return false;
+    if (tape.in == NO_UNIT) tape.in = MILLIMETRES;
+    if (compass.in == NO_UNIT) compass.in = STEPS;
+    bool good = value_of(&tape, true, &sigmas->of[JUDGE_TAPE]) && value_of(&compass, false, &sigmas->of[JUDGE_COMPASS]);
+    sigmas->given[JUDGE_TAPE] = sigmas->given[JUDGE_COMPASS] = true;
+    return good && sigmas->of[JUDGE_TAPE] <= NAMES[0].most && sigmas->of[JUDGE_COMPASS] <= NAMES[1].most;
+}
+
+/* Names with their values, each once. */
+static bool read_list(const char *at, struct judge_sigmas *sigmas) {
+    struct judge_sigmas read = {{0}, {false}, NULL};
     for (;;) {
-        at = read_error(at, sigmas);
-        if (at == NULL || (*at != ',' && *at != '\0')) return wrong(NO_ERRORS, given->name, given->value);
-        if (*at++ == '\0') return DONE;
+        struct judge_sigmas one = {{0}, {false}, NULL};
+        at = read_error(at, &one);
+        if (at == NULL || (*at != ',' && *at != '\0')) return false;
+        for (int j = 0; j < JUDGE_ERRORS; j++) {
+            if (one.given[j] && read.given[j]) return false;
+            if (one.given[j]) sigmas->of[j] = one.of[j], sigmas->given[j] = read.given[j] = true;
+        }
+        if (*at++ == '\0') return true;
     }
+}
+
+int errors_of(const option *given, struct judge_sigmas *sigmas) {
+    if (given->value == NULL) return DONE;
+    sigmas->from = given->name;
+    bool good = strchr(given->value, '=') == NULL ? read_pair(given->value, sigmas) : read_list(given->value, sigmas);
+    return good ? DONE : wrong(NO_ERRORS, given->name, given->value);
 }
 
 int trip_of(const option *given, struct judge_sigmas *sigmas) {

@@ -117,7 +117,7 @@ static const char *const SAYINGS[] = {
     [MISSING_RUNS] = "--merge: no part has the runs %" PRIu64 " to %" PRIu64,
     [NOT_MERGED] = "%s: not with --merge",
     [LACKS_FILE] = "%s: names no FILE" HELP,
-    [NO_ERRORS] = "%s: '%s' is no list such as tape=10mm,compass=1deg,clino=1deg,station=50mm, one or several of them",
+    [NO_ERRORS] = "%s: '%s' is neither a list such as tape=10mm,compass=1deg,clino=1deg,station=50mm,fix=1m, each once, nor two such as 4mm,0.5deg",
     [NO_TRIP] = "%s: '%s' is no angle such as 0.5deg, at most 90 degrees",
     [FEW_PLAYS] = "%s: at least %d plays",
     [OTHER_PLAYS] = "%s: plays of another cave, or with other seeds or errors",
