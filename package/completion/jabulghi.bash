@@ -13,8 +13,8 @@ _jabulghi() {
     esac
     case $command in
     level) options='--loop -o --help' ;;
-    job) options='--sigma --seeds -o --help' ;;
-    tolerance) options='--sigma --seeds --runs --first --run --miss --jobs --csv --json --svg --merge -o --help' ;;
+    job) options='--sigma --seeds --loop -o --help' ;;
+    tolerance) options='--sigma --seeds --loop --runs --first --run --miss --jobs --csv --json --svg --merge -o --help' ;;
     noise) options='-n --seeds --skip --bits --sigma --text --raw -o --help' ;;
     *) options='-o --help' ;;
     esac
