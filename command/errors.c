@@ -1,5 +1,6 @@
 /* Standard deviations among the words of the command line, each with its name. */
 #include "check.h"
+#include <math.h>
 #include <string.h>
 
 /* The names, what each is in, and the most that is taken of it, in metres or degrees. */
@@ -79,4 +80,25 @@ int trip_of(const option *given, struct judge_sigmas *sigmas) {
         end != NULL && *end == '\0' && value_of(&read, false, &sigmas->of[JUDGE_TRIP]) && sigmas->of[JUDGE_TRIP] <= 90;
     sigmas->given[JUDGE_TRIP] = true;
     return good ? DONE : wrong(NO_TRIP, given->name, given->value);
+}
+
+/* Whole millimetres, and the nearest steps, as a job has them. */
+static int whole_errors(const option *given, const struct judge_sigmas *read, survey *s) {
+    double tape = read->of[JUDGE_TAPE] * 1000, steps = read->of[JUDGE_COMPASS] * 65536 / 360;
+    if (read->given[JUDGE_TAPE] && (fabs(tape - round(tape)) > 1e-9 || tape > 1000)) return wrong(NO_WHOLE_MM, given->name, given->value);
+    if (read->given[JUDGE_COMPASS] && steps >= 1000.5) return wrong(NO_STEPS, given->name, given->value);
+    if (read->given[JUDGE_COMPASS] && steps > 0 && steps < 0.5) return wrong(TOO_FEW_STEPS, given->name, given->value);
+    if (read->given[JUDGE_TAPE]) s->sigma[0] = (uint32_t)round(tape);
+    if (read->given[JUDGE_COMPASS]) s->sigma[1] = (uint32_t)floor(steps + 0.5);
+    s->station = read->of[JUDGE_STATION] * 1000;
+    s->clino = read->of[JUDGE_CLINO];
+    return DONE;
+}
+
+int shot_errors_of(const option *given, survey *s) {
+    struct judge_sigmas read = {{0}, {false}, NULL};
+    if (strchr(given->value, '=') == NULL) return sigmas_of(given, s->sigma);
+    if (!read_list(given->value, &read) || read.given[JUDGE_POINT]) return wrong(NO_ERRORS, given->name, given->value);
+    if (s->about != JOB && (!read.given[JUDGE_TAPE] || !read.given[JUDGE_COMPASS])) return wrong(NEEDS, given->name, "tape and compass");
+    return whole_errors(given, &read, s);
 }
