@@ -8,7 +8,8 @@ static const char OVERVIEW[] =
     "       jabulghi level [FILE]    an ordinary Survex survey as the strict text that legs takes; not proved\n"
     "       jabulghi misses [FILE]   how far the loop of a listing misses, in millimetres\n"
     "       jabulghi job [FILE] --sigma SIGMAS         a job from a survey\n"
-    "       jabulghi tolerance [FILE] --sigma SIGMAS   is this miss a blunder? The loop, played many times\n"
+    "       jabulghi check [FILE]    is this cave sound? All its loops at once, and the legs to look at first\n"
+    "       jabulghi tolerance [FILE] --sigma SIGMAS   is this miss a blunder? One loop, played many times\n"
     "       jabulghi noise -n N      samples of noise\n"
     "       jabulghi seeds           a job's line of seeds, from the system's randomness\n"
     "       jabulghi help [COMMAND]  this, or the options of a command (also --help, -h)\n"
@@ -17,7 +18,8 @@ static const char OVERVIEW[] =
     "Without FILE, or where it is -, standard input is read. -o FILE writes to a file, whole or not at all.\n"
     "A word after -- is a FILE, whatever it looks like.\n"
     "\n"
-    "Exit status: 0 done; 1 refused, with the reason on standard error; 2 wrong usage, or a read or write failed.\n";
+    "Exit status: 0 done; 1 refused, with the reason on standard error; 2 wrong usage, or a read or write failed.\n"
+    "check: 0 sound, or no loop; 1 not sound; 2 wrong usage, or the survey cannot be read.\n";
 
 static const struct { const char *command, *text; } HELP[] = {
     {"list", "usage: jabulghi list [FILE] [-o FILE]\n\nPrints the listing of a job: each shot with its noise, and the count of shots.\n"},
@@ -48,7 +50,8 @@ static const struct { const char *command, *text; } HELP[] = {
      "\n"
      "Plays the loop of a Survex survey, a job or a listing many times with noise, and says how far the runs miss and in how many of them a\n"
      "sound survey misses by as much as this one. The same seeds give the same runs, by any number of threads.\n"
-     "  --sigma SIGMAS  of distance and bearing: 4mm,0.5deg or 4,91 (millimetres, steps); for a job its own, where not given\n"
+     "  --sigma SIGMAS  of distance and bearing: 4mm,0.5deg or 4,91 (millimetres, steps); or by name, tape=4mm,compass=0.5deg, and besides\n"
+     "                  clino=0.5deg and station=50mm, each coordinate of either end of a leg; for a job its own, where not given\n"
      "  --seeds SEEDS   as `jabulghi seeds` prints them, or six numbers with commas between; for a job its own, where not given;\n"
      "                  else some are drawn, and printed\n"
      "  --loop N        the loop that is played, where an ordinary survey has several; not given, they are listed\n"
@@ -61,6 +64,26 @@ static const struct { const char *command, *text; } HELP[] = {
      "  --svg FILE      a picture besides\n"
      "  --run N         print the job of run N, for `jabulghi list`\n"
      "  --merge FILE..  add up parts that --json wrote of one job, whose runs follow each other\n"},
+    {"check",
+     "usage: jabulghi check [FILE] [--sigma SIGMAS] [--trip ANGLE] [--plays N] [--seeds SEEDS] [--first N] [--jobs N] [--loops|--json] [--svg FILE] [-o FILE]\n"
+     "       jabulghi check FILE --merge PART.. [--sigma SIGMAS] [--trip ANGLE] [--loops|--json] [--svg FILE] [-o FILE]\n"
+     "\n"
+     "Judges all loops of a Survex survey, a job or a listing together, in plan: in how many sound caves like this the worst leg looks as bad.\n"
+     "Below 5 % it names the legs to look at first, and what would explain each. Not proved but for its noise. docs/check.md has the formulas.\n"
+     "Exit status: 0 sound, or no loop; 1 not sound; 2 wrong usage, or the survey cannot be read.\n"
+     "  --sigma SIGMAS  standard deviations, one or several: tape=10mm,compass=1deg,clino=1deg,station=50mm,fix=1m; or tape and compass: 4mm,0.5deg;\n"
+     "                  station: each coordinate of either end of a leg; fix: a fixed point without its own.\n"
+     "                  Not given, those of *sd, of the job, or Survex's defaults\n"
+     "  --trip ANGLE    besides, each trip's compass is off by one angle, of this standard deviation: 0.5deg\n"
+     "  --plays N       sound caves that are played, 100 to 10000000; 1000, where not given\n"
+     "  --seeds SEEDS   as `jabulghi seeds` prints them, or six numbers with commas between; for a job its own, where not given;\n"
+     "                  else some are drawn, and printed\n"
+     "  --first N       the number of the first play; 0, where not given\n"
+     "  --jobs N        how many threads; as many as there are processors, where not given\n"
+     "  --loops         list all loops\n"
+     "  --json          the verdict for a program, and what --merge needs\n"
+     "  --svg FILE      a plan besides, the legs to look at in red\n"
+     "  --merge PART..  take the plays of parts that --json wrote of this cave, which follow each other\n"},
     {"noise",
      "usage: jabulghi noise -n N [--seeds SEEDS] [--skip M] [--bits 16|18] [--sigma SIGMA] [--text|--raw] [-o FILE]\n"
      "\n"
