@@ -5,8 +5,11 @@
 
 #define TURN 6.283185307179586476925286766559
 
-/* Below this share of sound surveys what remains of the miss is no noise. */
-#define LEAST_SHARE 0.05
+/* Below 5 % of sound surveys what remains of the miss is no noise. Other seeds make that share a little other: what is near the limit is kept and marked. */
+#define LEAST_SHARE 0.04
+#define NEAR_SHARE 0.0625
+
+bool is_near_limit(const candidate *c) { return c->remains < NEAR_SHARE; }
 
 /* A correction has one free number, so that of the two of the miss one remains. */
 static double share_of(double remains) { return erfc(sqrt(remains / 2)); }

@@ -32,8 +32,8 @@ static uint32_t play_some(void *context, uint64_t start, size_t plays) {
 static int play_cave(checked *c) {
     labour work = {play_some, c, c->plays, STRETCH, c->threads};
     c->played = malloc((size_t)c->plays * sizeof c->played[0]);
-    uint32_t number =
-        c->played == NULL || c->plays > UINT64_MAX - c->first ? JUDGE_NO_MEMORY : by_threads(&work, "plays");
+    if (c->plays > UINT64_MAX - c->first) return refuse_option("--first", JABULGHI_COUNT_FULL);
+    uint32_t number = c->played == NULL ? JUDGE_NO_MEMORY : by_threads(&work, "plays");
     if (number == JUDGE_NO_MEMORY) return trouble("--plays", strerror(ENOMEM));
     return number == JABULGHI_OK ? DONE : refuse_option("--first", number);
 }
@@ -88,7 +88,7 @@ static int write_all(const option asked[ASKED], const checked *c, const struct j
     if (asked[JSON].value != NULL) judge_json(c->cave, v, &told, &written);
     else judge_words(c->cave, v, &told, &written);
     status = put_grown(NULL, &written);
-    return status == DONE && !v->sound ? REFUSED : status;
+    return status == DONE && !v->sound ? UNSOUND : status;
 }
 
 static int judge(int count, char **words, const option asked[ASKED], checked *c) {
@@ -119,7 +119,8 @@ static int run(int count, char **words, const option asked[ASKED]) {
     if (status == DONE) status = errors_of(&asked[SIGMA], &c.sigmas);
     if (status == DONE) status = trip_of(&asked[TRIP], &c.sigmas);
     if (status != DONE) return TROUBLE;
-    return judge(count, words, asked, &c);
+    status = judge(count, words, asked, &c);
+    return status == REFUSED ? TROUBLE : status;
 }
 
 int check(int count, char **words) {

@@ -24,7 +24,7 @@ static covariance of_leg(const shot *s, double distance, double bearing) {
 /* The sum over the legs, and the rounding of east and north to whole millimetres. */
 static covariance spread_of(const task *t) {
     double step = TURN / 65536, distance = variance_of(t->s.sigma[0]), bearing = variance_of(t->s.sigma[1]) * step * step;
-    covariance sum = {0, 0, 0};
+    covariance sum = t->more;
     for (size_t j = 0; j < t->shots.count; j++) {
         covariance leg = of_leg(&t->shots.shots[j], distance, bearing);
         sum.east += leg.east;

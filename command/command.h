@@ -10,8 +10,8 @@
 #include <sys/types.h>
 
 /* Exit statuses: all went well; the library refused what it was given; wrong usage, or a read or write that failed. ENOUGH is no exit status: nobody
- * reads the output any more, and the command ends as if it were done. */
-enum { DONE = 0, REFUSED = 1, TROUBLE = 2, ENOUGH = 3 };
+ * reads the output any more, and the command ends as if it were done. UNSOUND is none either: all went well, and the exit status is 1. */
+enum { DONE = 0, REFUSED = 1, TROUBLE = 2, ENOUGH = 3, UNSOUND = 4 };
 
 /* The shots that a job takes, and room for a name of it, its end included. */
 enum { MOST_SHOTS = 500, NAME_ROOM = 13 };
@@ -34,7 +34,7 @@ typedef enum {
     NO_NUMBER, NUMBER_ABOVE, NO_BITS, NO_SEEDS, NO_SIGMA, NO_SIGMAS, NO_WHOLE_MM, NO_STEPS, TOO_FEW_STEPS, TOO_MUCH, READING, SEEDS_DRAWN,
     NO_SHOT, STARTS_ELSEWHERE, NO_LOOP, PART_CLOSES, NO_RUN, NO_JOBS, NO_MISS, NO_PART, OTHER_PART, SAME_RUNS, MISSING_RUNS, NOT_MERGED, LACKS_FILE,
     NO_ERRORS, NO_TRIP, FEW_PLAYS, OTHER_PLAYS,
-    MODELLED, ALL_ALIKE, ON_A_LINE, VERDICT, NO_BLUNDER, BLUNDER_POSSIBLE, BLUNDER_LIKELY, CANDIDATES, NO_CANDIDATE,
+    MODELLED, MODELLED_MORE, ALL_ALIKE, ON_A_LINE, VERDICT, NO_BLUNDER, BLUNDER_POSSIBLE, BLUNDER_LIKELY, CANDIDATES, NO_CANDIDATE,
 } saying;
 
 /* An option: its name, "--seeds" or "-n", whether it stands alone, and what was given: NULL for nothing, its own name where it stands alone. */

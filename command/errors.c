@@ -1,5 +1,6 @@
 /* Standard deviations among the words of the command line, each with its name. */
 #include "check.h"
+#include <math.h>
 #include <string.h>
 
 /* The names, what each is in, and the most that is taken of it, in metres or degrees. */
@@ -36,24 +37,39 @@ static const char *read_error(const char *at, struct judge_sigmas *sigmas) {
     return NULL;
 }
 
-int errors_of(const option *given, struct judge_sigmas *sigmas) {
-    uint32_t pair[2];
-    const char *at = given->value;
-    if (at == NULL) return DONE;
-    if (strchr(at, '=') == NULL) {
-        int status = sigmas_of(given, pair);
-        sigmas->of[JUDGE_TAPE] = pair[0] / 1000.0;
-        sigmas->of[JUDGE_COMPASS] = pair[1] * 360 / 65536.0;
-        sigmas->given[JUDGE_TAPE] = sigmas->given[JUDGE_COMPASS] = true;
-        sigmas->from = given->name;
-        return status;
-    }
-    sigmas->from = given->name;
+/* Tape and compass alone: a number without a unit is millimetres, or steps. */
+static bool read_pair(const char *at, struct judge_sigmas *sigmas) {
+    measure tape, compass;
+    at = read_measure(at, &tape);
+    at = at != NULL && *at == ',' ? read_measure(at + 1, &compass) : NULL;
+    if (at == NULL || *at != '\0') return false;
+    if (tape.in == NO_UNIT) tape.in = MILLIMETRES;
+    if (compass.in == NO_UNIT) compass.in = STEPS;
+    bool good = value_of(&tape, true, &sigmas->of[JUDGE_TAPE]) && value_of(&compass, false, &sigmas->of[JUDGE_COMPASS]);
+    sigmas->given[JUDGE_TAPE] = sigmas->given[JUDGE_COMPASS] = true;
+    return good && sigmas->of[JUDGE_TAPE] <= NAMES[0].most && sigmas->of[JUDGE_COMPASS] <= NAMES[1].most;
+}
+
+/* Names with their values, each once. */
+static bool read_list(const char *at, struct judge_sigmas *sigmas) {
+    struct judge_sigmas read = {{0}, {false}, NULL};
     for (;;) {
-        at = read_error(at, sigmas);
-        if (at == NULL || (*at != ',' && *at != '\0')) return wrong(NO_ERRORS, given->name, given->value);
-        if (*at++ == '\0') return DONE;
+        struct judge_sigmas one = {{0}, {false}, NULL};
+        at = read_error(at, &one);
+        if (at == NULL || (*at != ',' && *at != '\0')) return false;
+        for (int j = 0; j < JUDGE_ERRORS; j++) {
+            if (one.given[j] && read.given[j]) return false;
+            if (one.given[j]) sigmas->of[j] = one.of[j], sigmas->given[j] = read.given[j] = true;
+        }
+        if (*at++ == '\0') return true;
     }
+}
+
+int errors_of(const option *given, struct judge_sigmas *sigmas) {
+    if (given->value == NULL) return DONE;
+    sigmas->from = given->name;
+    bool good = strchr(given->value, '=') == NULL ? read_pair(given->value, sigmas) : read_list(given->value, sigmas);
+    return good ? DONE : wrong(NO_ERRORS, given->name, given->value);
 }
 
 int trip_of(const option *given, struct judge_sigmas *sigmas) {
@@ -64,4 +80,25 @@ int trip_of(const option *given, struct judge_sigmas *sigmas) {
         end != NULL && *end == '\0' && value_of(&read, false, &sigmas->of[JUDGE_TRIP]) && sigmas->of[JUDGE_TRIP] <= 90;
     sigmas->given[JUDGE_TRIP] = true;
     return good ? DONE : wrong(NO_TRIP, given->name, given->value);
+}
+
+/* Whole millimetres, and the nearest steps, as a job has them. */
+static int whole_errors(const option *given, const struct judge_sigmas *read, survey *s) {
+    double tape = read->of[JUDGE_TAPE] * 1000, steps = read->of[JUDGE_COMPASS] * 65536 / 360;
+    if (read->given[JUDGE_TAPE] && (fabs(tape - round(tape)) > 1e-9 || tape > 1000)) return wrong(NO_WHOLE_MM, given->name, given->value);
+    if (read->given[JUDGE_COMPASS] && steps >= 1000.5) return wrong(NO_STEPS, given->name, given->value);
+    if (read->given[JUDGE_COMPASS] && steps > 0 && steps < 0.5) return wrong(TOO_FEW_STEPS, given->name, given->value);
+    if (read->given[JUDGE_TAPE]) s->sigma[0] = (uint32_t)round(tape);
+    if (read->given[JUDGE_COMPASS]) s->sigma[1] = (uint32_t)floor(steps + 0.5);
+    s->station = read->of[JUDGE_STATION] * 1000;
+    s->clino = read->of[JUDGE_CLINO];
+    return DONE;
+}
+
+int shot_errors_of(const option *given, survey *s) {
+    struct judge_sigmas read = {{0}, {false}, NULL};
+    if (strchr(given->value, '=') == NULL) return sigmas_of(given, s->sigma);
+    if (!read_list(given->value, &read) || read.given[JUDGE_POINT]) return wrong(NO_ERRORS, given->name, given->value);
+    if (s->about != JOB && (!read.given[JUDGE_TAPE] || !read.given[JUDGE_COMPASS])) return wrong(NEEDS, given->name, "tape and compass");
+    return whole_errors(given, &read, s);
 }

@@ -1,4 +1,5 @@
 /* A job from a survey, a listing or another job: seeds, sigmas and the shots. */
+#include "check.h"
 #include "traverse.h"
 #include <errno.h>
 #include <inttypes.h>
@@ -20,7 +21,7 @@ static int seeds_for(const option *given, survey *s) {
 int settings_of(const option *seeds, const option *sigma, const char *command, survey *s) {
     int status = DONE;
     if (sigma->value != NULL) {
-        status = sigmas_of(sigma, s->sigma);
+        status = shot_errors_of(sigma, s);
     } else if (s->about != JOB) {
         status = wrong(NEEDS, command, sigma->name);
     }

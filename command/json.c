@@ -35,6 +35,7 @@ static void add_part(const task *t, const tally *kept, growing *to) {
     add_job(t, to);
     add(to, "  \"first\": %" PRIu64 ",\n  \"runs\": %" PRIu64 ",\n", kept->first, kept->runs);
     add(to, "  \"miss\": [%.17g, %.17g],\n", t->miss.east, t->miss.north);
+    if (t->more.east + t->more.north > 0) add(to, "  \"more\": [%.17g, %.17g, %.17g, %.17g, %.17g],\n", t->s.station, t->s.clino, t->more.east, t->more.north, t->more.both);
     add(to, "  \"beyond\": %" PRIu64 ",\n  \"farther\": %" PRIu64 ",\n", kept->beyond, kept->farther);
     add(to, "  \"sums\": [%.17g, %.17g, %.17g, %.17g, %.17g],\n", kept->sum.east, kept->sum.north, kept->squares.east, kept->squares.north, kept->product);
     add(to, "  \"width\": %" PRIu64 ",\n", kept->width);

@@ -28,6 +28,7 @@ static int read_file(const char *name, part *read) {
 static int follows(const part *before, const part *next) {
     bool same = before->job.length == next->job.length && memcmp(before->job.bytes, next->job.bytes, next->job.length) == 0;
     same = same && before->miss.east == next->miss.east && before->miss.north == next->miss.north && before->runs.width == next->runs.width;
+    same = same && before->station == next->station && before->clino == next->clino && memcmp(&before->more, &next->more, sizeof next->more) == 0;
     uint64_t end = before->runs.first + before->runs.runs;
     if (!same) return wrong(OTHER_PART, next->job.name, before->job.name), REFUSED;
     if (end > next->runs.first) return wrong(SAME_RUNS, next->job.name, before->job.name), REFUSED;
@@ -70,6 +71,9 @@ static int take_loop(const part *first, const tally *all, task *t) {
     t->miss = first->miss;
     t->given = true;
     t->first = all->first;
+    t->s.station = first->station;
+    t->s.clino = first->clino;
+    t->more = first->more;
     t->runs = all->runs;
     if (status == DONE) status = prepare(t, "--merge");
     t->given = t->miss.east != (double)t->own[0] || t->miss.north != (double)t->own[1];

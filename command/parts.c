@@ -102,15 +102,19 @@ static void reals_at(place *p, const char *name, double *numbers, size_t count) 
     }
 }
 
+/* The errors of stations and of the clino, and what they add, where there are any. */
+static const char MORE[] = "  \"more\": [";
+
 bool read_part(const char *bytes, size_t length, part *read) {
     place p = {bytes, true};
-    double miss[2], sums[5];
+    double miss[2], more[5] = {0}, sums[5];
     tally *runs = &read->runs;
     *runs = (tally){0};
     read_job(&p, length + 1, &read->job);
     runs->first = number_at(&p, "  \"first\": ");
     runs->runs = number_at(&p, "  \"runs\": ");
     reals_at(&p, "  \"miss\": [", miss, 2);
+    if (p.good && strncmp(p.at, MORE, strlen(MORE)) == 0) reals_at(&p, MORE, more, 5);
     runs->beyond = number_at(&p, "  \"beyond\": ");
     runs->farther = number_at(&p, "  \"farther\": ");
     reals_at(&p, "  \"sums\": [", sums, 5);
@@ -123,6 +127,9 @@ bool read_part(const char *bytes, size_t length, part *read) {
     pass(&p, "\n}\n");
     if (!p.good || *p.at != '\0') return false;
     read->miss = (vector){miss[0], miss[1]};
+    read->station = more[0];
+    read->clino = more[1];
+    read->more = (covariance){more[2], more[3], more[4]};
     runs->sum = (vector){sums[0], sums[1]};
     runs->squares = (vector){sums[2], sums[3]};
     runs->product = sums[4];

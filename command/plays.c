@@ -10,7 +10,8 @@
 static uint32_t play_some(void *context, uint64_t start, size_t runs) {
     const task *t = context;
     uint32_t line;
-    return jabulghi_play(t->job, t->length, t->first + start, t->misses + start, runs, &line);
+    uint32_t number = jabulghi_play(t->job, t->length, t->first + start, t->misses + start, runs, &line);
+    return number == JABULGHI_OK ? add_more(t, start, runs) : number;
 }
 
 int play_all(task *t) {

@@ -25,8 +25,10 @@ static double length_of(const traverse *t) {
 static void describe(const task *t, const tally *kept, growing *to) {
     const uint32_t *n = t->s.seeds, *sigma = t->s.sigma;
     add(to, "%s: %zu legs, %.3f m\n", t->s.source.name, t->shots.count, length_of(&t->shots) / 1000);
-    add(to, "sigma: %" PRIu32 " mm of distance, %" PRIu32 " steps (%.3f degrees) of bearing\n", sigma[0], sigma[1], sigma[1] * 360 / 65536.0);
-    add(to, "%s\n", sentence(MODELLED));
+    bool more = t->more.east + t->more.north > 0;
+    add(to, "sigma: %" PRIu32 " mm of distance, %" PRIu32 " steps (%.3f degrees) of bearing", sigma[0], sigma[1], sigma[1] * 360 / 65536.0);
+    if (more) add(to, ", %g mm of stations, %g degrees of the clino", t->s.station, t->s.clino);
+    add(to, "\n%s\n", sentence(more ? MODELLED_MORE : MODELLED));
     add(to, SEEDS_LINE "\n", n[0], n[1], n[2], n[3], n[4], n[5]);
     add(to, "%" PRIu64 " runs, from run %" PRIu64 " on\n", kept->runs, kept->first);
     add(to, "miss without noise: east %" PRId64 ", north %" PRId64 ", distance %.0f mm\n\n", t->own[0], t->own[1], hypot((double)t->own[0], (double)t->own[1]));
@@ -54,17 +56,23 @@ static void list_candidates(const task *t, const ellipse *e, growing *to) {
         const shot *s = &t->shots.shots[found[j].leg];
         add(to, "  leg %zu, %s to %s: ", found[j].leg + 1, s->from, s->to);
         add(to, found[j].bearing ? "bearing %+.1f degrees" : "distance %+.0f mm", found[j].correction);
-        add(to, " (%s %%)\n", percent(word, (uint64_t)(found[j].remains * 1e6), 1000000));
+        add(to, " (%s %%%s)\n", percent(word, (uint64_t)(found[j].remains * 1e6), 1000000), is_near_limit(&found[j]) ? ", near the limit" : "");
     }
     if (count > MOST_PRINTED) add(to, "  and %zu more\n", count - MOST_PRINTED);
+}
+
+static double bearing_of(vector v) {
+    double degrees = atan2(v.east, v.north) * 57.29577951308232;
+    return degrees < -0.5 ? degrees + 360 : fabs(degrees);
 }
 
 /* What the runs say of the miss, by their ellipse. */
 static void judge(const task *t, const tally *kept, const ellipse *e, growing *to) {
     char beyond[32], farther[32];
     double distance = hypot(t->miss.east, t->miss.north);
-    add(to, "%s: east %.10g, north %.10g, distance %.0f mm", t->given ? "the miss given" : "the miss", t->miss.east, t->miss.north, distance);
-    add(to, distance >= 0.5 ? " (1 in %.0f)\n" : "\n", length_of(&t->shots) / distance);
+    add(to, "%s: %.0f mm", t->given ? "the miss given" : "the miss", distance);
+    if (distance >= 0.5) add(to, " at %.0f degrees, %.2g %% of the length", bearing_of(t->miss), 100 * distance / length_of(&t->shots));
+    add(to, "; east %.10g, north %.10g\n", t->miss.east, t->miss.north);
     add(to, sentence(VERDICT), percent(beyond, kept->beyond, kept->runs), percent(farther, kept->farther, kept->runs));
     add(to, "\n%s\n", sentence(is_below(kept, UNLIKELY) ? BLUNDER_LIKELY : is_below(kept, DOUBTFUL) ? BLUNDER_POSSIBLE : NO_BLUNDER));
     if (is_below(kept, DOUBTFUL)) list_candidates(t, e, to);

@@ -61,7 +61,7 @@ static bool keep_origins(const levelling *l, survey *s) {
         const struct survey_leg *leg = &l->s->legs[l->walked.steps[j].leg];
         bool backwards = l->walked.steps[j].backwards;
         s->origins[j] = (origin){l->s->stations[backwards ? leg->to : leg->from].name, l->s->stations[backwards ? leg->from : leg->to].name,
-                                 l->s->files[leg->file].name, leg->line};
+                                 l->s->files[leg->file].name, leg->line, leg->up};
     }
     return s->origins != NULL;
 }
@@ -143,7 +143,7 @@ static int take_listing(survey *s) {
 }
 
 int take_survey(text source, wanted_loop wanted, survey *taken) {
-    *taken = (survey){source, kind_of(&source), NULL, 0, {0}, {0}, NULL, 0};
+    *taken = (survey){.source = source, .about = kind_of(&source)};
     return taken->about == JOB ? take_job(taken) : taken->about == LISTING ? take_listing(taken) : take_legs(taken, wanted);
 }
 
@@ -173,7 +173,7 @@ static size_t line_in_source(const survey *s, size_t line) {
 
 origin origin_of(const survey *s, const traverse *t, size_t leg) {
     if (leg < s->origin_count) return s->origins[leg];
-    return (origin){t->shots[leg].from, t->shots[leg].to, s->source.name, line_in_source(s, leg + 3)};
+    return (origin){t->shots[leg].from, t->shots[leg].to, s->source.name, line_in_source(s, leg + 3), 0};
 }
 
 int refuse_shot(const survey *s, size_t line, uint32_t number) {

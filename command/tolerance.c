@@ -83,6 +83,8 @@ static int run(int count, char **words, const option asked[ASKED]) {
     if (status == DONE) status = take_survey(source, wanted, &t.s);
     if (status == DONE) status = settings_of(&asked[SEEDS], &asked[SIGMA], "tolerance", &t.s);
     if (status == DONE) status = prepare(&t, asked[RUN].value == NULL ? "--first" : "--run");
+    t.more = more_of(&t);
+    if (status == DONE && asked[RUN].value != NULL && t.more.east + t.more.north > 0) status = wrong(EITHER, asked[RUN].name, "errors of stations and clino");
     if (status != DONE) return status;
     if (asked[RUN].value != NULL) return put_run(&t);
     tell_seeds(asked, &t);

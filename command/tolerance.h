@@ -31,7 +31,8 @@ typedef struct {
     histogram of[MEASURES];
 } tally;
 
-/* A loop, the job that is played and what is asked of it: misses is NULL where the runs were merged. */
+/* A loop, the job that is played and what is asked of it: misses is NULL where the runs were merged. More is what the errors of stations and of the
+ * clino add to the noise of each run. */
 typedef struct {
     survey s;
     traverse shots;
@@ -41,6 +42,7 @@ typedef struct {
     int64_t own[2], (*misses)[2];
     vector miss;
     bool given;
+    covariance more;
 } task;
 
 /* The closed form: errors of legs that are independent, added up. */
@@ -54,8 +56,11 @@ typedef struct { size_t leg; bool bearing; double correction, remains; } candida
 int prepare(task *t, const char *option);
 int put_run(const task *t);
 
-/* plays.c: plays all runs, by as many threads as are asked for. */
+/* plays.c: plays all runs, by as many threads as are asked for. stations.c: what the errors of stations and of the clino add, and that noise for some
+ * runs; the number of a refusal. */
 int play_all(task *t);
+covariance more_of(const task *t);
+uint32_t add_more(const task *t, uint64_t start, size_t runs);
 
 /* statistics.c: the noise of a run, its miss less the miss without noise; what is kept of all runs, and figures of it. */
 vector noise_of(const task *t, uint64_t run);
@@ -76,7 +81,8 @@ bool is_line(const ellipse *e);
 closed_form closed_form_of(const task *t);
 uint64_t width_for(const closed_form *closed);
 
-/* candidates.c: the best first; the count of them. */
+/* candidates.c: the best first; the count of them; and whether one is near the limit of 5 %. */
+bool is_near_limit(const candidate *c);
 size_t candidates_of(const task *t, const ellipse *e, candidate found[2 * MOST_SHOTS]);
 
 /* Below 5 % of sound surveys a miss is worth a look, below 0.1 % it is likely a blunder. */
@@ -92,7 +98,7 @@ int put_csv(const task *t);
 void draw(const task *t, const tally *kept, growing *to);
 
 /* parts.c: reads a part that report_json wrote, which a NUL ends. merge.c: adds parts up; the loop that they play. */
-typedef struct { text job; vector miss; tally runs; } part;
+typedef struct { text job; vector miss; double station, clino; covariance more; tally runs; } part;
 bool read_part(const char *bytes, size_t length, part *read);
 int merge(int count, char **names, task *t, tally *all);
 

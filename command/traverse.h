@@ -7,12 +7,13 @@
 typedef struct { char from[NAME_ROOM], to[NAME_ROOM]; uint32_t distance, bearing; } shot;
 typedef struct { size_t count; shot shots[MOST_SHOTS]; } traverse;
 
-/* Where a shot came from: its stations by the names that the user gave them, its file and line. */
-typedef struct { const char *from, *to, *file; size_t line; } origin;
+/* Where a shot came from: its stations by the names that the user gave them, its file and line, and how far it rises, in metres. */
+typedef struct { const char *from, *to, *file; size_t line; double rise; } origin;
 
-/* A text that was accepted: what it is, its shots as a job's lines, the seeds and sigmas that a job has besides, and where the shots of an ordinary
+/* A text that was accepted: what it is, its shots as a job's lines, the seeds and sigmas that a job has besides, the
+ * errors of stations (mm) and of the clino (degrees) that were given, and where the shots of an ordinary
  * survey came from. */
-typedef struct { text source; subject about; uint8_t *shots; size_t length; uint32_t seeds[6], sigma[2]; origin *origins; size_t origin_count; } survey;
+typedef struct { text source; subject about; uint8_t *shots; size_t length; uint32_t seeds[6], sigma[2]; double station, clino; origin *origins; size_t origin_count; } survey;
 
 /* Which loop of an ordinary survey is meant, by its number or ANY_LOOP for its only one; whether there has to be one; whether new names are told. */
 typedef struct { uint64_t number; bool needed, renamed; } wanted_loop;

@@ -73,14 +73,14 @@ int put_words(const char *format, ...) {
 
 /* Closes the output where something was written, since some devices tell a failed write only then, and gives a file its name; what is not whole goes. */
 int finish(int status) {
-    bool named = strcmp(output.name, "standard output") != 0;
+    bool named = strcmp(output.name, "standard output") != 0, unsound = status == UNSOUND;
+    if (unsound) status = DONE;
     if (status == DONE && named && !output.wrote) status = open_output();
     if (status == ENOUGH) status = DONE;
     if (output.wrote && status == DONE && close(output.descriptor) != 0) status = trouble(output.name, strerror(errno));
-    if (output.beside == NULL) return status;
-    if (status == DONE && system_rename(output.beside, output.name) != 0) status = trouble(output.name, strerror(errno));
-    if (status != DONE) system_remove(output.beside);
-    return status;
+    if (output.beside != NULL && status == DONE && system_rename(output.beside, output.name) != 0) status = trouble(output.name, strerror(errno));
+    if (output.beside != NULL && status != DONE) system_remove(output.beside);
+    return status == DONE && unsound ? REFUSED : status;
 }
 
 /* Writes a file besides the output, whole or not at all. */

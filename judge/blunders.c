@@ -23,20 +23,17 @@ struct case_of {
 #define MIDDLE_LEG 5.0
 #define LEAST_LEG 0.5
 
-/* How likely a gain is, next to that of the best explanation. Errors that are larger than they are said to be make
- * gains larger, too. */
+/* The logarithm of how likely a gain is, next to that of the best explanation. Errors that are larger than they are
+ * said to be make gains larger, too. */
 static double likelihood(const struct case_of *c, double gain) {
-    return exp((gain - c->cave->statistic) / 2 / c->cave->excess);
-}
-static double likelihood_of(const struct case_of *c, struct judge_vector move) {
-    return likelihood(c, judge_gain(c->pull, c->hold, move));
+    return (gain - c->cave->statistic) / 2 / c->cave->excess;
 }
 
 /* A correction that is known. */
 static void offer(const struct case_of *c, struct judge_explanation e, double weight) {
     if (hypot(e.move.east, e.move.north) < LEAST_MOVE) return;
     e.gain = judge_gain(c->pull, c->hold, e.move);
-    e.mass = weight * likelihood(c, e.gain);
+    e.mass = log(weight) + likelihood(c, e.gain);
     c->take(c->to, &e);
 }
 
@@ -198,29 +195,31 @@ static void explain_any_distance(const struct case_of *c) {
         .blunder = JUDGE_ANY_DISTANCE, .correction = by, .move = {by * along.east, by * along.north}};
     double density = MIDDLE_DISTANCE / ((MIDDLE_DISTANCE + fabs(by)) * (MIDDLE_DISTANCE + fabs(by))) / 2;
     e.gain = judge_gain(c->pull, c->hold, e.move);
-    e.mass = 4 * density * likelihood(c, e.gain) * sqrt(TURN * c->cave->excess / hold);
+    e.mass = log(4 * density * sqrt(TURN * c->cave->excess / hold)) + likelihood(c, e.gain);
     c->take(c->to, &e);
 }
 
+static double gain_of_turn(const struct case_of *c, double degrees) {
+    return judge_gain(c->pull, c->hold, turned(c, degrees));
+}
+
 static void explain_any_bearing(const struct case_of *c) {
-    struct judge_explanation e = {.blunder = JUDGE_ANY_BEARING};
-    double best = 0, sum = 0;
-    for (int degrees = -179; degrees <= 180; degrees++) {
-        double chance = degrees == 0 ? 0 : likelihood_of(c, turned(c, degrees));
-        sum += chance;
-        if (chance > best) best = chance, e.correction = degrees;
+    struct judge_explanation e = {.blunder = JUDGE_ANY_BEARING, .gain = -INFINITY};
+    double gains[360], sum = 0, step = 0.5;
+    for (int j = 0; j < 360; j++) {
+        gains[j] = j == 179 ? -INFINITY : gain_of_turn(c, j - 179); /* no turn is none */
+        if (gains[j] > e.gain) e.gain = gains[j], e.correction = j - 179;
     }
-    double step = 0.5;
+    for (int j = 0; j < 360; j++) sum += exp(likelihood(c, gains[j]) - likelihood(c, e.gain));
+    e.mass = log(6.0 / 360 * sum) + likelihood(c, e.gain);
     for (int j = 0; j < 10; j++, step /= 2) {
         double middle = e.correction;
         for (int side = -1; side <= 1; side += 2) {
-            double chance = likelihood_of(c, turned(c, middle + side * step));
-            if (chance > best) best = chance, e.correction = middle + side * step;
+            double gain = gain_of_turn(c, middle + side * step);
+            if (gain > e.gain) e.gain = gain, e.correction = middle + side * step;
         }
     }
     e.move = turned(c, e.correction);
-    e.mass = 6.0 / 360 * sum;
-    e.gain = judge_gain(c->pull, c->hold, e.move);
     c->take(c->to, &e);
 }
 
@@ -231,8 +230,8 @@ static void explain_any_vector(const struct case_of *c, enum judge_blunder blund
     double far = fmax(hypot(e.move.east, e.move.north), LEAST_LEG);
     double density = MIDDLE_LEG / ((MIDDLE_LEG + far) * (MIDDLE_LEG + far)) / (TURN * far);
     e.correction = hypot(e.move.east, e.move.north);
-    e.mass = weight * density * likelihood(c, e.gain) * TURN * c->cave->excess /
-             sqrt(c->hold.east * c->hold.north - c->hold.both * c->hold.both);
+    double whole = c->hold.east * c->hold.north - c->hold.both * c->hold.both;
+    e.mass = log(weight * density * TURN * c->cave->excess / sqrt(whole)) + likelihood(c, e.gain);
     c->take(c->to, &e);
 }
 

@@ -118,8 +118,8 @@ enum judge_blunder {
     JUDGE_FIXED,
 };
 
-/* What would explain the misses: the correction as metres or degrees, and as a vector; where a reading is wrong as
- * written, which and what it should be. */
+/* What would explain the misses: the logarithm of its mass, the correction as metres or degrees, and as a vector; where
+ * a reading is wrong as written, which and what it should be. */
 struct judge_explanation {
     enum judge_blunder blunder;
     double mass, gain, correction;
@@ -131,6 +131,7 @@ struct judge_explanation {
 struct judge_suspect {
     size_t edge; /* for JUDGE_LEFT_OUT the first leg of its passage */
     struct judge_explanation best;
+    double mass;    /* the logarithm of that of all its explanations */
     double share;   /* of all explanations by one blunder */
     double remains; /* sound caves that look as bad as this one would, corrected */
     size_t others;  /* how many other suspects, corrected, leave a sound cave */

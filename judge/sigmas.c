@@ -59,15 +59,15 @@ bool judge_estimates(const struct judge_cave *cave, struct judge_verdict *v) {
 }
 
 /* The chance that a point around (shift, 0), of standard deviation 1 in both directions, is farther than a radius from
- * the origin: strips. */
+ * the origin: strips of the circle, narrower towards its sides. */
 static double chance_beyond(double shift, double radius) {
     enum { STRIPS = 400 };
     double sum = 0;
     for (int j = 0; j < STRIPS; j++) {
-        double x = radius * ((j + 0.5) / STRIPS * 2 - 1);
-        sum += exp(-(x - shift) * (x - shift) / 2) * erf(sqrt((radius * radius - x * x) / 2));
+        double angle = ((j + 0.5) / STRIPS - 0.5) * (TURN / 2), x = radius * sin(angle), half = radius * cos(angle);
+        sum += exp(-(x - shift) * (x - shift) / 2) * erf(half / sqrt(2)) * half;
     }
-    return 1 - sum * 2 * radius / STRIPS / sqrt(TURN);
+    return 1 - sum * (TURN / 2) / STRIPS / sqrt(TURN);
 }
 
 /* How often a blunder has to show for it to be called one that shows. */

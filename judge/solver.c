@@ -36,6 +36,7 @@ static void invert(double *a, size_t n, double *row) {
         }
         for (size_t j = 0; j < i; j++) a[i * n + j] = row[j] * own;
         a[i * n + i] = own;
+        for (size_t j = i + 1; j < n; j++) a[i * n + j] = 0;
     }
 }
 

@@ -4,16 +4,22 @@
 #include <stdlib.h>
 #include <string.h>
 
+/* log(exp a + exp b), the larger one before. */
+static double sum_of(double a, double b) {
+    double larger = fmax(a, b), smaller = fmin(a, b);
+    return smaller == -INFINITY ? larger : larger + log1p(exp(smaller - larger));
+}
+
 /* The mass of a suspect while its explanations come in. */
 static void collect(void *to, const struct judge_explanation *e) {
     struct judge_suspect *s = to;
-    s->share += e->mass;
-    if (e->mass > s->best.mass) s->best = *e;
+    if (s->mass == -INFINITY || e->mass > s->best.mass) s->best = *e;
+    s->mass = sum_of(s->mass, e->mass);
 }
 
-static int by_share(const void *a, const void *b) {
+static int by_mass(const void *a, const void *b) {
     const struct judge_suspect *one = a, *other = b;
-    if (one->share != other->share) return one->share > other->share ? -1 : 1;
+    if (one->mass != other->mass) return one->mass > other->mass ? -1 : 1;
     return (one->edge > other->edge) - (one->edge < other->edge);
 }
 
@@ -24,21 +30,21 @@ static size_t first_leg_of(const struct judge_cave *cave, size_t passage) {
 }
 
 static void find_suspects(const struct judge_cave *cave, struct judge_verdict *v) {
-    double sum = 0;
+    double sum = -INFINITY;
     for (size_t e = 0; e < cave->edge_count; e++) {
         if (cave->edges[e].passage == JUDGE_NONE) continue;
         struct judge_suspect *s = &v->suspects[v->suspect_count++];
-        *s = (struct judge_suspect){.edge = e};
+        *s = (struct judge_suspect){.edge = e, .mass = -INFINITY};
         judge_explain(cave, &cave->edges[e], collect, s);
     }
     for (size_t p = 0; p < cave->passage_count; p++) {
         if (cave->passages[p].legs == 0) continue;
         struct judge_suspect *s = &v->suspects[v->suspect_count++];
-        *s = (struct judge_suspect){.edge = first_leg_of(cave, p)};
+        *s = (struct judge_suspect){.edge = first_leg_of(cave, p), .mass = -INFINITY};
         judge_explain_left_out(cave, &cave->passages[p], collect, s);
     }
-    for (size_t j = 0; j < v->suspect_count; j++) sum += v->suspects[j].share;
-    for (size_t j = 0; j < v->suspect_count; j++) v->suspects[j].share = sum > 0 ? v->suspects[j].share / sum : 0;
+    for (size_t j = 0; j < v->suspect_count; j++) sum = sum_of(sum, v->suspects[j].mass);
+    for (size_t j = 0; j < v->suspect_count; j++) v->suspects[j].share = exp(v->suspects[j].mass - sum);
 }
 
 /* The statistic once a passage has moved; column and u have room for the size. */
@@ -60,7 +66,7 @@ static double statistic_with(const struct judge_cave *cave, const struct judge_p
     return worst;
 }
 
-/* Of more suspects than these what remains is not worked out. */
+/* At most so many suspects are kept, and none that no blunder explains. */
 #define MOST_CORRECTED 1000
 
 static bool find_what_remains(const struct judge_cave *cave, const struct judge_played *sorted, size_t plays,
@@ -87,7 +93,8 @@ bool judge_suspects(struct judge_cave *cave, const struct judge_played *sorted, 
     v->suspects = malloc((cave->edge_count + cave->passage_count + 1) * sizeof *v->suspects);
     if (v->suspects == NULL) return false;
     find_suspects(cave, v);
-    qsort(v->suspects, v->suspect_count, sizeof v->suspects[0], by_share);
+    qsort(v->suspects, v->suspect_count, sizeof v->suspects[0], by_mass);
     if (v->suspect_count > MOST_CORRECTED) v->suspect_count = MOST_CORRECTED;
+    while (v->suspect_count > 1 && v->suspects[v->suspect_count - 1].mass == -INFINITY) v->suspect_count--;
     return find_what_remains(cave, sorted, plays, v);
 }

@@ -260,7 +260,7 @@ static void tell_loop(const struct judge_cave *cave, size_t number, growing *to)
     double far = hypot(loop->miss.east, loop->miss.north);
     struct judge_place place =
         judge_place_of(cave, &cave->edges[cave->passages[cave->loop_passages[loop->at].of].first]);
-    add(to, "%5zu %5zu %9.1f %8.2f %7.2f %8.2f %8.2f %8.2g  %s  %s:%zu\n", number + 1, loop->legs, loop->length, far,
+    add(to, "%5zu %5zu %9.1f %8.2f %7.2f %8.2f %8.2f %8.2g  %-8s  %s:%zu\n", number + 1, loop->legs, loop->length, far,
         loop->length > 0 ? 100 * far / loop->length : 0, loop->miss.east, loop->miss.north, loop->p,
         loop->bad        ? "bad"
         : loop->too_well ? "too well"

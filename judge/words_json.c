@@ -179,14 +179,20 @@ static void add_plays(const struct judge_verdict *v, const struct judge_told *to
     add(to, "\n  ]\n");
 }
 
+/* Of a cave without a loop nothing is known. */
+static void add_verdict(const struct judge_cave *cave, const struct judge_verdict *v, growing *to) {
+    if (cave->loop_count == 0) add(to, "  \"p\": null,\n  \"sound\": null,\n");
+    else add(to, "  \"p\": %.9g,\n  \"sound\": %s,\n", v->p, v->sound ? "true" : "false");
+    add(to, "  \"too_well\": %s,\n  \"beyond\": %" PRIu64 ",\n", v->too_well ? "true" : "false", v->beyond);
+}
+
 void judge_json(const struct judge_cave *cave, const struct judge_verdict *v, const struct judge_told *told,
                 growing *to) {
     add(to, "{\n  \"jabulghi\": \"%s\",\n  \"file\": ", JABULGHI_VERSION);
     add_string(to, told->name);
     add(to, ",\n  \"legs\": %zu,\n  \"length_m\": %.3f,\n  \"legs_in_no_loop\": %zu,\n", cave->survey->leg_count,
         judge_length(cave), cave->legs_in_no_loop);
-    add(to, "  \"p\": %.9g,\n  \"sound\": %s,\n  \"too_well\": %s,\n  \"beyond\": %" PRIu64 ",\n", v->p,
-        v->sound ? "true" : "false", v->too_well ? "true" : "false", v->beyond);
+    add_verdict(cave, v, to);
     add(to, "  \"statistic\": %.17g,\n  \"misfit\": %.9g,\n  \"limit\": %.9g,\n  \"shows\": %.9g,\n", cave->statistic,
         cave->misfit, v->limit, v->shows);
     add(to, "  \"passages\": %zu,\n  \"trips\": %zu,\n  \"pairs_per_play\": %zu,\n", cave->passage_count,
@@ -194,7 +200,8 @@ void judge_json(const struct judge_cave *cave, const struct judge_verdict *v, co
     add_sigma(cave, to);
     add_estimate("factor", &v->factor, 1, to);
     add_estimate("station_mm", &v->station, 1000, to);
-    add(to, "  \"factor_without\": %.9g,\n", v->factor_without);
+    add(to, cave->loop_count > 1 ? "  \"factor_without\": %.9g,\n" : "  \"factor_without\": null,\n",
+        v->factor_without);
     tell_loops(cave, to);
     add_suspects(cave, v, to);
     add_smallest(cave, v, to);

@@ -5,7 +5,7 @@ import { reach } from './ellipse.js';
 const TURN = 2 * Math.PI;
 
 // Below this share of sound surveys what remains of the miss is no noise.
-const LEAST_SHARE = 0.05;
+const LEAST_SHARE = 0.04;
 
 // A correction has one free number, so that of the two of the miss one remains.
 const shareOf = remains => erfc(Math.sqrt(remains / 2));

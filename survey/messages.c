@@ -24,7 +24,6 @@ static const char *const TROUBLES_SAID[TROUBLES] = {
     [DECIMAL_COMMA] = "write the number with a decimal point: a comma separates fields",
     [SAME_STATION] = "leg from a station to itself",
     [TWO_SPLAYS] = "leg between two points without a name",
-    [NO_SPLAY_HERE] = "a point without a name cannot stand here",
     [BAD_NUMBER] = "no number",
     [BAD_TAPE] = "tape is no number",
     [NO_TAPE] = "tape is left out",
@@ -52,7 +51,7 @@ static const char *const TROUBLES_SAID[TROUBLES] = {
     [NO_FILES_HERE] = "file is not here: other files cannot be read with this text",
     [CYCLE] = "file includes itself",
     [DEEP_FILES] = "more than 100 files that include each other",
-    [MANY_FILES] = "more than 100000 *include",
+    [MANY_FILES] = "more than 10000 *include",
     [BAD_CASE] = "*case takes tolower, toupper or preserve",
     [BAD_INFER] = "*infer takes plumbs, equates or exports, and then on or off",
     [BAD_FLAG] = "*flags takes duplicate, splay and surface, each with or without not",
@@ -75,7 +74,8 @@ static const char *const TROUBLES_SAID[TROUBLES] = {
     [IS_WALLS] = "this is a Walls file: export it as Survex first",
     [IS_POCKETTOPO] =
         "this is a PocketTopo file: export it as Survex, or convert it first, for example with CaveConverter",
-    [IS_TABLE] = "this is a table: write a line *data normal from to tape compass clino, and a leg on each line",
+    [IS_TABLE] =
+        "this is a table: put ; before its heading, and before it a line *data normal from to tape compass clino",
     [IS_ARCHIVE] = "this is an archive or an office document: take the survey out of it and save it as plain text",
     [IS_PAGE] = "this is a web page or XML: save the survey itself as plain text",
     [IS_PROSE] = "this is no Survex survey: it has neither a command such as *begin nor a leg such as 1 2 12.40 214 -3",

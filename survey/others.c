@@ -72,12 +72,13 @@ static bool is_compass_project(const struct survey_file *f) {
 /* A first line that names columns, with commas or semicolons between. */
 static bool is_table(const struct survey_file *f) {
     const uint8_t *end = memchr(f->bytes, '\n', f->length);
-    size_t between = 0, letters = 0;
+    size_t between = 0, words = 0, digits = 0;
     for (const uint8_t *at = f->bytes; end != NULL && at < end; at++) {
         between += *at == ',' || *at == ';' || *at == '\t';
-        letters += small(*at) >= 'a' && small(*at) <= 'z';
+        words += small(*at) >= 'a' && small(*at) <= 'z';
+        digits += *at >= '0' && *at <= '9';
     }
-    return between >= 2 && letters >= 4 && f->bytes[0] != ';';
+    return between >= 2 && words >= 4 && digits == 0 && f->bytes[0] != ';';
 }
 
 static bool is_number_sign(uint8_t byte) {
@@ -118,8 +119,10 @@ trouble_kind other_format(const reader *r, const struct survey_file *f) {
         if (has_line(f, LINES[j].line)) return LINES[j].is;
     }
     bool binary = memchr(f->bytes, 0, f->length) != NULL;
-    if (binary || r->commands > 0 || r->s->leg_count > 0) return TROUBLES;
+    if (binary || r->commands > 0) return TROUBLES;
+    if (is_table(f)) return IS_TABLE;
+    if (r->s->leg_count > 0) return TROUBLES;
     if (is_pockettopo(f)) return IS_POCKETTOPO;
     if (is_compass_project(f)) return IS_COMPASS_PROJECT;
-    return is_table(f) ? IS_TABLE : has_leg(f) ? TROUBLES : IS_PROSE;
+    return has_leg(f) ? TROUBLES : IS_PROSE;
 }

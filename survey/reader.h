@@ -5,12 +5,12 @@
 #include "survey.h"
 
 enum {
-    MOST_SCOPES = 1000,     /* *begin inside each other */
-    MOST_NAME = 1000,       /* bytes of a station's name with its scopes and points */
-    MOST_FIELDS = 32,       /* of a data line */
-    MOST_DEEP = 100,        /* files that include each other */
-    MOST_INCLUDES = 100000, /* *include in all */
-    MOST_LISTED = 10,       /* notes of one kind that are told with their lines */
+    MOST_SCOPES = 1000,    /* *begin inside each other */
+    MOST_NAME = 1000,      /* bytes of a station's name with its scopes and points */
+    MOST_FIELDS = 32,      /* of a data line */
+    MOST_DEEP = 100,       /* files that include each other */
+    MOST_INCLUDES = 10000, /* *include in all */
+    MOST_LISTED = 10,      /* notes of one kind that are told with their lines */
 };
 
 /* Bytes of a file. */
@@ -41,7 +41,6 @@ typedef enum {
     DECIMAL_COMMA,
     SAME_STATION,
     TWO_SPLAYS,
-    NO_SPLAY_HERE,
     BAD_NUMBER,
     BAD_TAPE,
     NO_TAPE,

@@ -11,7 +11,7 @@ from other import Cave
 from readings import Survey
 
 SEEDS = "3141592653,2718281828,1618033988,1414213562,1732050807,2236067977"
-KINDS = {"leg": "leg", "equate": "equate", "fix": "fix"}
+LEAST_SHARE = 1e-300
 
 
 class Differs(Exception):
@@ -144,10 +144,12 @@ def compare_sizes(told: Any, cave: Cave) -> None:
 
 
 def compare_suspects(told: Any, cave: Cave) -> None:
-    ranked = blunders.suspects(cave)
     rows = told["suspects"]
-    same("suspects", len(rows), min(1000, len(ranked)))
-    left = blunders.remains(cave, ranked[: len(rows)])
+    everyone = blunders.suspects(cave)
+    ranked = everyone[: len(rows)]
+    if len(rows) < 1000 and any(s.share > LEAST_SHARE for s in everyone[len(rows) :]):
+        raise Differs(f"suspects: only {len(rows)}")
+    left = blunders.remains(cave, ranked)
     well = sum(p >= other.LEAST for p in left)
     keyed = {key_of(cave, s): (s, p) for s, p in zip(ranked, left)}
     shares = [row["share"] for row in rows]
@@ -165,7 +167,7 @@ def compare_suspects(told: Any, cave: Cave) -> None:
                 if s.edge < 0 and any(cave.edges[j].line == line for j in cave.passages[s.passage])
             )
         s, p = keyed[key]
-        near(f"{name}: share", row["share"], s.share, 2e-4, 1e-300)
+        near(f"{name}: share", row["share"], s.share, 2e-4, LEAST_SHARE)
         if row["share"] > 1e-12:
             near(f"{name}: remains", row["remains"], p, 1e-5)
             same(f"{name}: others", row["others"], well - (p >= other.LEAST))

