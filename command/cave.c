@@ -25,7 +25,7 @@ survey_fetch *fetch_of(const text *source) { return strcmp(source->name, "standa
 void tell_messages(const struct survey *s) {
     growing said = {NULL, 0, 0, false};
     say_messages(s, &said);
-    fwrite(said.bytes, 1, said.length, stderr);
+    if (said.length > 0) fwrite(said.bytes, 1, said.length, stderr);
     free(said.bytes);
 }
 

@@ -94,9 +94,9 @@ static int take_ordinary(survey *s, wanted_loop wanted) {
     levelling l;
     const struct survey *cave = survey_read(s->source.name, s->source.bytes, s->source.length, fetch_of(&s->source), NULL);
     if (cave == NULL) return trouble(s->source.name, strerror(ENOMEM));
-    tell_messages(cave);
-    if (cave->trouble_count > 0) return REFUSED;
-    bool found = level_survey(cave, wanted.number, wanted.needed, &l);
+    bool taken = cave->trouble_count == 0, found = taken && level_survey(cave, wanted.number, wanted.needed, &l);
+    if (!taken || found) tell_messages(cave);
+    if (!taken) return REFUSED;
     int status = found ? take_walk(&l, wanted.renamed, s) : refuse_loop(&l, s->source.name);
     free_levelling(&l);
     return status;

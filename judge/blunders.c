@@ -14,8 +14,8 @@ struct case_of {
     void *to;
 };
 
-/* A correction that moves a leg by less, in metres, is left out. */
-#define LEAST_MOVE 0.2
+/* A correction that moves a leg by less than 0.2 m is left out; a billionth is left to rounding. */
+#define LEAST_MOVE (0.2 - 1e-9)
 
 /* The chances of a free correction: half of all distances are off by less than this, and half of the legs left out are
  * shorter, in metres. */
@@ -45,7 +45,7 @@ static struct judge_vector difference(const double end[3], struct judge_vector f
  * not be above 0. */
 static bool tape_move(const struct case_of *c, double (*changed)(const struct survey_reading *r, double by), double by,
                       struct judge_vector *move) {
-    double values[JUDGE_MOST_READINGS], end[3];
+    double *values = c->cave->values, end[3];
     bool any = false;
     for (size_t j = 0; j < c->leg->reading_count; j++) {
         const struct survey_reading *r = &c->leg->readings[j];
@@ -130,7 +130,7 @@ static bool is_possible(const struct survey_reading *r, double written) {
 static void offer_reading(const struct case_of *c, size_t reading, const char *should_be, enum judge_blunder blunder,
                           double weight) {
     const struct survey_reading *r = &c->leg->readings[reading];
-    double values[JUDGE_MOST_READINGS], end[3], written = number_in(should_be, r->written < 0 ? -1 : 1);
+    double *values = c->cave->values, end[3], written = number_in(should_be, r->written < 0 ? -1 : 1);
     if (!is_possible(r, written)) return;
     for (size_t j = 0; j < c->leg->reading_count; j++)
         values[j] = j == reading ? survey_value_of(r, written) : c->leg->readings[j].value;

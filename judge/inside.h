@@ -16,15 +16,15 @@ struct judge_graph {
 };
 bool judge_cycles(const struct judge_graph *g, size_t count, struct judge_loop *loops, struct judge_part **parts);
 
-/* model.c: the standard deviations of a reading's error and the width of its rounding; vectors and covariances of all
- * edges. */
+/* model.c: the error that a reading has, JUDGE_ERRORS where *sd alone gives it; the standard deviation of that and the
+ * width of its rounding; vectors and covariances of all edges. */
+enum judge_error judge_error_of(enum survey_quantity what);
 double judge_sd_of(const struct judge_cave *cave, const struct survey_reading *r);
 double judge_plumb_sd_of(const struct judge_cave *cave, const struct survey_leg *leg);
 double judge_rounding_of(const struct survey_reading *r);
 bool judge_is_played(const struct survey_reading *r);
 bool judge_is_compass(const struct survey_reading *r);
-void judge_model(struct judge_cave *cave);
-enum { JUDGE_MOST_READINGS = 16 };
+bool judge_model(struct judge_cave *cave);
 
 /* solver.c: the misses of vectors of passages; u for misses; g of a passage for any u; a covariance of all misses with
  * other station errors. */

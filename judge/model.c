@@ -1,10 +1,10 @@
 /* The errors of legs: what a reading may be off by, and what that does to the leg in plan. */
 #include "inside.h"
 #include <math.h>
-#include <stddef.h>
+#include <stdlib.h>
 
 /* The error that a reading's standard deviation is given by, or JUDGE_ERRORS where *sd alone has it. */
-static enum judge_error error_of(enum survey_quantity what) {
+enum judge_error judge_error_of(enum survey_quantity what) {
     switch (what) {
     case SURVEY_TAPE:
     case SURVEY_BACKTAPE: return JUDGE_TAPE;
@@ -17,7 +17,7 @@ static enum judge_error error_of(enum survey_quantity what) {
 }
 
 double judge_sd_of(const struct judge_cave *cave, const struct survey_reading *r) {
-    enum judge_error error = error_of(r->what);
+    enum judge_error error = judge_error_of(r->what);
     return error != JUDGE_ERRORS && cave->sigmas.given[error] ? cave->sigmas.of[error] : r->sd;
 }
 
@@ -38,17 +38,17 @@ double judge_rounding_of(const struct survey_reading *r) {
 }
 
 /* How the leg's end goes as some of its readings go, in m per m or degree. */
-static struct judge_vector slope_of(const struct survey_leg *leg,
+static struct judge_vector slope_of(const struct judge_cave *cave, const struct survey_leg *leg,
                                     bool (*moves)(const struct survey_reading *r, const void *which),
                                     const void *which) {
     static const double STEP = 1e-4;
-    double values[2][JUDGE_MOST_READINGS], ends[2][3];
+    double ends[2][3];
     for (int side = 0; side < 2; side++) {
         for (size_t j = 0; j < leg->reading_count; j++) {
             const struct survey_reading *r = &leg->readings[j];
-            values[side][j] = r->value + (moves(r, which) ? (side == 0 ? -STEP : STEP) : 0);
+            cave->values[j] = r->value + (moves(r, which) ? (side == 0 ? -STEP : STEP) : 0);
         }
-        survey_vector_of(leg, values[side], ends[side]);
+        survey_vector_of(leg, cave->values, ends[side]);
     }
     return (struct judge_vector){(ends[1][0] - ends[0][0]) / (2 * STEP), (ends[1][1] - ends[0][1]) / (2 * STEP)};
 }
@@ -72,19 +72,26 @@ static void add_even(struct judge_spread *to, double variance) {
 static void model_leg(const struct judge_cave *cave, struct judge_edge *e) {
     const struct survey_leg *leg = &cave->survey->legs[e->index];
     e->vector = (struct judge_vector){leg->east, leg->north};
-    e->turn = slope_of(leg, is_any_compass, NULL);
+    e->turn = slope_of(cave, leg, is_any_compass, NULL);
     e->station = cave->sigmas.given[JUDGE_STATION] ? cave->sigmas.of[JUDGE_STATION] : leg->sd.position / sqrt(2);
     for (size_t j = 0; j < leg->reading_count; j++) {
         const struct survey_reading *r = &leg->readings[j];
         double sd = judge_sd_of(cave, r), rounding = judge_rounding_of(r);
-        if (judge_is_played(r)) add_error(&e->spread, slope_of(leg, is_this, r), sd * sd + rounding * rounding / 12);
+        if (judge_is_played(r))
+            add_error(&e->spread, slope_of(cave, leg, is_this, r), sd * sd + rounding * rounding / 12);
     }
     if (leg->slope_by == SURVEY_BY_PLUMB)
         add_even(&e->spread, judge_plumb_sd_of(cave, leg) * judge_plumb_sd_of(cave, leg));
     add_even(&e->spread, 2 * e->station * e->station);
 }
 
-void judge_model(struct judge_cave *cave) {
+bool judge_model(struct judge_cave *cave) {
+    for (size_t j = 0; j < cave->survey->leg_count; j++) {
+        if (cave->survey->legs[j].reading_count > cave->most_readings)
+            cave->most_readings = cave->survey->legs[j].reading_count;
+    }
+    cave->values = malloc((cave->most_readings + 1) * sizeof *cave->values);
+    if (cave->values == NULL) return false;
     for (size_t j = 0; j < cave->edge_count; j++) {
         struct judge_edge *e = &cave->edges[j];
         if (e->kind == JUDGE_LEG) model_leg(cave, e);
@@ -95,4 +102,5 @@ void judge_model(struct judge_cave *cave) {
         e->vector = (struct judge_vector){fix->east, fix->north};
         e->spread = (struct judge_spread){east * east, 0, north * north};
     }
+    return true;
 }

@@ -11,7 +11,7 @@ struct stage {
     size_t at;
     const struct judge_off *off; /* of the next reading */
     struct judge_vector *sums;
-    double *misses, *scratch, *u;
+    double *misses, *scratch, *u, *values;
 };
 
 /* A sample is in units of 1/2048 of a standard deviation; its fraction is even from -1/2 to 1/2. */
@@ -67,7 +67,7 @@ bool judge_count_samples(struct judge_cave *cave) {
 /* The error of a leg's end, in metres. */
 static struct judge_vector error_of_leg(struct stage *s, const struct judge_edge *e, const struct survey_leg *leg,
                                         double trip) {
-    double values[JUDGE_MOST_READINGS], end[3];
+    double *values = s->values, end[3];
     for (size_t j = 0; j < leg->reading_count; j++) {
         const struct survey_reading *r = &leg->readings[j];
         values[j] = r->value;
@@ -152,10 +152,11 @@ uint32_t judge_play(const struct judge_cave *cave, const uint32_t n[6], uint64_t
     if (number != JABULGHI_OK) return number;
     s.samples = malloc((cave->samples + 1) * sizeof s.samples[0]);
     s.sums = malloc((cave->passage_count + 1) * sizeof s.sums[0]);
-    s.misses = malloc((3 * cave->size + 1) * sizeof s.misses[0]);
+    s.misses = malloc((3 * cave->size + cave->most_readings + 1) * sizeof s.misses[0]);
     if (s.samples != NULL && s.sums != NULL && s.misses != NULL) {
         s.scratch = s.misses + cave->size;
         s.u = s.scratch + cave->size;
+        s.values = s.u + cave->size;
         number = play_some(&s, &record, count, played);
     } else {
         number = JUDGE_NO_MEMORY;

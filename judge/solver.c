@@ -250,8 +250,7 @@ struct judge_cave *judge_solve(const struct survey *s, const struct judge_sigmas
     cave->sigmas = *sigmas;
     cave->excess = 1;
     bool good = judge_network(cave) && judge_count_samples(cave);
-    if (good) judge_model(cave);
-    if (good && solve(cave)) return cave;
+    if (good && judge_model(cave) && solve(cave)) return cave;
     judge_free(cave);
     return NULL;
 }
@@ -266,6 +265,7 @@ void judge_free(struct judge_cave *cave) {
     free(cave->white);
     free(cave->u);
     free(cave->trips);
+    free(cave->values);
     free(cave->offs);
     free(cave);
 }

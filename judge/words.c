@@ -33,7 +33,20 @@ double judge_bearing(struct judge_vector v) {
 
 /* ---- What was read */
 
-/* The least and the largest standard deviation of an error among the legs, and whether *sd set all, or none. */
+/* Widens a range by the standard deviations of a leg's readings that are numbers, or by that of its stations. */
+static void widen(struct judge_range *range, const struct survey_leg *leg, enum judge_error error) {
+    if (error == JUDGE_STATION) {
+        range->low = fmin(range->low, leg->sd.position / sqrt(2));
+        range->high = fmax(range->high, leg->sd.position / sqrt(2));
+    }
+    for (size_t j = 0; j < leg->reading_count; j++) {
+        const struct survey_reading *r = &leg->readings[j];
+        if (judge_error_of(r->what) != error || !judge_is_played(r)) continue;
+        range->low = fmin(range->low, r->sd);
+        range->high = fmax(range->high, r->sd);
+    }
+}
+
 struct judge_range judge_range_of(const struct judge_cave *cave, enum judge_error error) {
     static const unsigned BITS[] = {1u << SURVEY_SD_TAPE, 1u << SURVEY_SD_COMPASS, 1u << SURVEY_SD_CLINO,
                                     1u << SURVEY_SD_POSITION};
@@ -41,13 +54,12 @@ struct judge_range judge_range_of(const struct judge_cave *cave, enum judge_erro
     if (cave->sigmas.given[error])
         return (struct judge_range){cave->sigmas.of[error], cave->sigmas.of[error], false, false};
     for (size_t j = 0; j < cave->survey->leg_count; j++) {
-        const struct survey_sd *sd = &cave->survey->legs[j].sd;
-        double of[] = {sd->tape, sd->compass, sd->clino, sd->position / sqrt(2)};
-        range.low = fmin(range.low, of[error]);
-        range.high = fmax(range.high, of[error]);
-        if ((sd->given & BITS[error]) == 0) range.by_sd = false;
+        const struct survey_leg *leg = &cave->survey->legs[j];
+        widen(&range, leg, error);
+        if ((leg->sd.given & BITS[error]) == 0) range.by_sd = false;
         else range.by_default = false;
     }
+    if (range.low > range.high) range.low = range.high;
     return range;
 }
 

@@ -37,7 +37,6 @@ static void add_sigma(const struct judge_cave *cave, growing *to) {
     add(to, "  \"sigma\": {");
     for (int j = 0; j <= JUDGE_STATION; j++) {
         struct judge_range range = judge_range_of(cave, (enum judge_error)j);
-        if (cave->survey->leg_count == 0) range.low = 0;
         add(to, "%s\"%s\": {\"low\": %.9g, \"high\": %.9g, \"from\": ", j == 0 ? "" : ", ", NAMES[j].name,
             range.low * NAMES[j].scale, range.high * NAMES[j].scale);
         add_string(to, judge_source(cave, (enum judge_error)j));

@@ -1,4 +1,4 @@
-"""What `jabulghi check --json` tells of a survey, beside the other implementation: every number, to the digits that are printed."""
+"""`jabulghi check --json` beside the other implementation: every number, to the digits that are printed."""
 
 import json
 import math

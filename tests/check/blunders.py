@@ -50,9 +50,9 @@ def rewritten(text: str) -> Iterator[tuple[str, float, str]]:
     for i, j in zip(places, places[1:]):
         yield "digits exchanged", 1, text[:i] + text[j] + text[i + 1 : j] + text[i] + text[j + 1 :]
     for i in places:
-        for one, other in MISREAD:
-            if text[i] in (one, other):
-                yield "digit misread", 0.3, text[:i] + (other if text[i] == one else one) + text[i + 1 :]
+        for pair in MISREAD:
+            if text[i] in pair:
+                yield "digit misread", 0.3, text[:i] + pair[1 - pair.index(text[i])] + text[i + 1 :]
 
 
 def allowed(r: Reading, text: str) -> bool:
@@ -69,9 +69,9 @@ def known(leg: Leg, v: Array) -> Iterator[tuple[str, float, Array]]:
             yield "bearing", weight, turns(v, sign * angle)
     yield "backwards", 6, -2 * v
     for r in leg.numbers:
-        for name, weight, text in rewritten(r.text):
+        for name, share, text in rewritten(r.text):
             if allowed(r, text):
-                yield name, weight, leg.vector({r.what: r.corrected(float(text))}) - v
+                yield name, share, leg.vector({r.what: r.corrected(float(text))}) - v
 
 
 def gain(g: Array, H: Array, d: Array) -> float:

@@ -1,4 +1,4 @@
-"""`jabulghi check` on surveys that are made here: beside the other implementation, at its limits, with bad input. cases.py COMMAND"""
+"""`jabulghi check` on made surveys: beside the other implementation, at its limits, with bad input. cases.py COMMAND"""
 
 import json
 import os
@@ -57,8 +57,8 @@ def with_backsights(b: caves.Book) -> str:
 def in_feet(b: caves.Book) -> str:
     b.tape = b.tape / 1.01 / 0.3048 + 0.7
     b.compass, b.clino = b.compass - 5.5 + 1.5, b.clino + 1
-    commands = "*units tape feet\n*calibrate tape 0.7 1.01\n*calibrate declination -5.5\n*calibrate compass 1.5\n*calibrate clino 1\n"
-    return caves.sd_lines(caves.SIGMA) + commands + b.lines()
+    commands = "*units tape feet\n*calibrate tape 0.7 1.01\n*calibrate declination -5.5\n"
+    return caves.sd_lines(caves.SIGMA) + commands + "*calibrate compass 1.5\n*calibrate clino 1\n" + b.lines()
 
 
 def with_fixes(b: caves.Book, spread: float, sds: str) -> str:
@@ -203,8 +203,10 @@ def closing_too_well() -> str:
     noisy = caves.survey(numpy.random.default_rng(1), g, decimals=(4, 3, 3))
 
     def text(x: float) -> str:
-        parts = [getattr(exact, n) + x * (getattr(noisy, n) - getattr(exact, n)) for n in ("tape", "compass", "clino")]
-        return caves.Book(g, *parts, (4, 3, 3)).text()
+        tape, compass, clino = (
+            getattr(exact, n) + x * (getattr(noisy, n) - getattr(exact, n)) for n in ("tape", "compass", "clino")
+        )
+        return caves.Book(g, tape, compass, clino, (4, 3, 3)).text()
 
     below, above = crossing(lambda x: other.Cave(Survey(text(x))).closes_too_well(), 0.0, 1.0)
     for x, well in ((below, True), (above, False)):
@@ -317,38 +319,31 @@ def bad_input() -> str:
     return f"{len(WRONG)} wrong uses and {len(UNREADABLE)} surveys that cannot be read are refused"
 
 
+SQUARE = "a b 10 0 0\nb c 10 90 0\nc d 10 180 0\n"
+STRANGE = {
+    "no loop": SQUARE,
+    "it closes": SQUARE + "d a 10 270 0\n",
+    "a leg there and back": "a b 10 0 0\nb a 10 180 0\n",
+    "the same leg twice": "a b 10.00 0 0\na b 10.02 1 0\n",
+    "a leg of no length": SQUARE + "d a 10 270 0\na e 0 0 0\ne b 10 0 0\n",
+    "all legs plumbed": "a b 10 - up\nb a 10 - down\n",
+    "a huge miss": SQUARE + "d a 99999 270 0\n",
+    "a tiny cave": "a b 0.01 0 0\nb c 0.01 120 0\nc a 0.01 240 0\n",
+}
+NO_ERRORS = "tape=0mm,compass=0deg,clino=0deg,station=0mm"
+
+
 def strange_surveys() -> str:
     """Surveys at the edge of sense get an answer without a number that is none."""
-    square = "a b 10 0 0\nb c 10 90 0\nc d 10 180 0\n"
-    texts = {
-        "no loop": square,
-        "it closes": square + "d a 10 270 0\n",
-        "a leg there and back": "a b 10 0 0\nb a 10 180 0\n",
-        "the same leg twice": "a b 10.00 0 0\na b 10.02 1 0\n",
-        "a leg of no length": square + "d a 10 270 0\na e 0 0 0\ne b 10 0 0\n",
-        "all legs plumbed": "a b 10 - up\nb a 10 - down\n",
-        "a huge miss": square + "d a 99999 270 0\n",
-        "a tiny cave": "a b 0.01 0 0\nb c 0.01 120 0\nc a 0.01 240 0\n",
-    }
-    for name, legs in texts.items():
-        for words in (
-            [],
-            ["--json"],
-            ["--loops"],
-            ["--sigma", "tape=0mm,compass=0deg,clino=0deg,station=0mm"],
-            ["--trip", "90deg"],
-        ):
-            done = run("-", *words, text="*data normal from to tape compass clino\n" + legs)
-            said = done.stdout.lower()
-            if (
-                done.returncode not in (0, 1)
-                or done.stderr
-                or any(w in said.replace("information", "") for w in ("nan", "inf ", "inf,", "-0.0 "))
-            ):
-                raise Differs(f"{name}, {words}: status {done.returncode}: {done.stdout} {done.stderr}")
-            if words == ["--json"]:
+    for name, legs in STRANGE.items():
+        for words in ("", "--json", "--loops", f"--sigma {NO_ERRORS}", "--trip 90deg"):
+            done = run("-", *words.split(), text="*data normal from to tape compass clino\n" + legs)
+            none = [w for w in ("nan", "inf ", "inf,", "-0.0 ") if w in done.stdout.lower()]
+            if done.returncode not in (0, 1) or done.stderr or none:
+                raise Differs(f"{name}, {words}: status {done.returncode}: {none} {done.stdout} {done.stderr}")
+            if words == "--json":
                 json.loads(done.stdout)
-    return f"{len(texts)} strange surveys are answered"
+    return f"{len(STRANGE)} strange surveys are answered"
 
 
 def main() -> None:

@@ -1,4 +1,4 @@
-"""Another implementation of `jabulghi check`, from the formulas of docs/check.md alone. The samples of its plays are those of `jabulghi noise`."""
+"""Another implementation of `jabulghi check`, from the formulas of docs/check.md alone; its samples are those of `jabulghi noise`."""
 
 import heapq
 import math
@@ -261,8 +261,8 @@ class Cave:
                 S[:, a, :, b] = (self.B * C[:, a, b]) @ self.B.T
         S = S.reshape(2 * L, 2 * L) + 1e-8 * numpy.eye(2 * L)
         if self.trip:
-            a = self.trip_parts()
-            S += self.trip**2 * a.T @ a
+            turns = self.trip_parts()
+            S += self.trip**2 * turns.T @ turns
         return S
 
     def solve(self) -> None:
@@ -426,7 +426,7 @@ def chi_square(n: int, share: float) -> float:
 
 
 def farther(limit: float) -> float:
-    """How far out a Gaussian point in the plane is to be so that 80 % of such points are beyond the root of the limit."""
+    """How far out Gaussian points in the plane are, of which 80 % are beyond the root of the limit."""
     steps = 4000
     r = (numpy.arange(steps) + 0.5) / steps * math.sqrt(limit)
 

@@ -82,7 +82,7 @@ class Leg:
     def length(self) -> float:
         v = self.values
         both = [v[name] for name in ("tape", "backtape") if name in v]
-        return sum(both) / len(both)
+        return float(sum(both) / len(both))
 
 
 def mean_bearing(v: dict[str, Any]) -> Any:

@@ -1,4 +1,4 @@
-"""How often `jabulghi check` is right: false alarms, blunders found and ranked, station errors, times. study.py COMMAND [PART..]"""
+"""How often `jabulghi check` is right: false alarms, blunders found and ranked, station errors, times."""
 
 import json
 import math
