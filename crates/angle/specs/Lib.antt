@@ -1,4 +1,4 @@
 -- The whole-number steps from v to its signed sine and cosine, and what their margin is.
 pub mod Steps
-pub mod Private
+pub mod Rotations
 pub mod Margin
