@@ -1,6 +1,6 @@
 -- What the look-ups say of an angle, from which its sine and cosine are made with no table.
 use mathlib.Core.Path.{_≡_}
-use Prim.Native.Nat.{ℕ, zero, suc, _/_, _%_, _^_}
+use Prim.Native.Nat.{ℕ, _/_, _%_, _^_}
 use Rattle.tables.specs.Tables.{cosCoarse, sinCoarse, cosFine, sinFine, entryOf}
 use Rattle.angle.specs.Steps.{coarseAngle, fineAngle}
 
@@ -10,10 +10,3 @@ pub record Rotated (w coarse fine : ℕ) : Type 0 where
   pub sin-coarse : coarse % 2 ^ 32 ≡ entryOf sinCoarse 0 (coarseAngle w)
   pub cos-fine : fine / 2 ^ 32 ≡ entryOf cosFine 0 (fineAngle w)
   pub sin-fine : fine % 2 ^ 32 ≡ entryOf sinFine 0 (fineAngle w)
-
--- How q quarters turn a sine and a cosine: 1 exchanges them, 2 negates the first value, 4 the second.
-abbrev pub turnOf : ℕ → ℕ
-turnOf zero = 0
-turnOf (suc zero) = 5
-turnOf (suc (suc zero)) = 6
-turnOf (suc (suc (suc q))) = 3

@@ -5,7 +5,8 @@ ghost use Prim.Native.Nat.{ℕ, _%_};
 ghost use lib.IntN.{pos, negℤ};
 ghost use Rattle.exact.specs.Pair.{turn};
 ghost use Rattle.angle.specs.Steps.{sineAt, cosineAt, signedOf};
-ghost use Rattle.angle.specs.Rotations.{Rotated, turnOf};
+ghost use Rattle.angle.specs.Rotations.{Rotated};
+ghost use Rattle.angle.specs.Private.{valuesOf};
 
 // The numbers of a quarter, and the scale of sines and cosines.
 const QUARTER: u32 = 16384;
@@ -52,24 +53,18 @@ pub fn cosine(coarse: u64, fine: u64) -> u32
     (difference / SCALE % WORD) as u32
 }
 
-// The two values of a quarter, as a sum of these.
-const EXCHANGED: u64 = 1;
+// The two values of a quarter: odd where the cosine is the first; from 2 on the first is negative, and in 1 and 2 the second.
+const SIN_COS: u32 = 0;
 
-const FIRST_NEGATIVE: u64 = 2;
+const COS_MINUS_SIN: u32 = 1;
 
-const SECOND_NEGATIVE: u64 = 4;
+const MINUS_SIN_MINUS_COS: u32 = 2;
 
-const SIN_COS: u64 = 0;
-
-const COS_MINUS_SIN: u64 = EXCHANGED + SECOND_NEGATIVE;
-
-const MINUS_SIN_MINUS_COS: u64 = FIRST_NEGATIVE + SECOND_NEGATIVE;
-
-const MINUS_COS_SIN: u64 = EXCHANGED + FIRST_NEGATIVE;
+const MINUS_COS_SIN: u32 = 3;
 
 // The quarters of document 01, in its order. A q above 3 counts as 3.
-pub fn values_of(q: u64) -> u64
-    ensures { λ r. ⌜ r ≡ turnOf q ⌝ }
+fn values_of(q: u32) -> u32
+    ensures { λ r. ⌜ r ≡ valuesOf q ⌝ }
 {
     match q {
         0 => SIN_COS,
@@ -100,12 +95,13 @@ pub struct Turned {
 }
 
 // The two values of a quarter, of any two sizes.
-pub fn turn(values: u32, sin: u32, cos: u32) -> Turned
-    ensures { λ r. ⌜ ((q : ℕ) → values ≡ turnOf q → (r .first, r .second) ≡ turn negℤ q (pos sin, pos cos)) ⌝ }
+pub fn turn(q: u32, sin: u32, cos: u32) -> Turned
+    ensures { λ r. ⌜ (r .first, r .second) ≡ turn negℤ q (pos sin, pos cos) ⌝ }
 {
+    let values = values_of(q);
     let exchanged = values % 2 == 1;
-    let first = signed(values / 2 % 2 == 1, either(exchanged, sin, cos));
-    let second = signed(values / 4 % 2 == 1, either(exchanged, cos, sin));
+    let first = signed(values / 2 == 1, either(exchanged, sin, cos));
+    let second = signed((values + 1) / 2 == 1, either(exchanged, cos, sin));
     Turned { first, second }
 }
 
@@ -122,8 +118,7 @@ pub fn signed_of(v: u32) -> SineCosine
     let rotations = rotations_of(v as u64);
     let coarse = rotations.coarse;
     let fine = rotations.fine;
-    let values = values_of((v / QUARTER) as u64);
-    let turned = turn(values as u32, sine(coarse, fine), cosine(coarse, fine));
+    let turned = turn(v / QUARTER, sine(coarse, fine), cosine(coarse, fine));
     SineCosine {
         sine: turned.first,
         cosine: turned.second,

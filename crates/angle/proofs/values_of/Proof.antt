@@ -2,11 +2,11 @@
 use mathlib.Core.Path.{_≡_, refl}
 use Prim.Native.Nat.{ℕ, zero, suc}
 use borrow.Author.Needs.{needs}
-use Rattle.angle.specs.Rotations.{turnOf}
+use Rattle.angle.specs.Private.{valuesOf}
 use Rattle.angle.proofs.values_of.Statement.{statement}
 use Rattle.angle.proofs.values_of.Tie as tie
 
-last : (q : ℕ) → (q ≡ 0 → ⊥) → (q ≡ 1 → ⊥) → (q ≡ 2 → ⊥) → turnOf 3 ≡ turnOf q
+last : (q : ℕ) → (q ≡ 0 → ⊥) → (q ≡ 1 → ⊥) → (q ≡ 2 → ⊥) → valuesOf 3 ≡ valuesOf q
 last zero h₀ h₁ h₂ = absurd (h₀ refl)
 last (suc zero) h₀ h₁ h₂ = absurd (h₁ refl)
 last (suc (suc zero)) h₀ h₁ h₂ = absurd (h₂ refl)
