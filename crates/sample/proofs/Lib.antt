@@ -1,4 +1,5 @@
--- Laws of the scale, of a chunk in the caller's memory, and of its last pass.
+-- Laws of the passes, of the scale, of samples in the caller's memory, and of blocks that are filled chunk by chunk.
 mod ScaleLaws
-pub mod ChunkLaws
 mod PassLaws
+pub mod SamplesLaws
+mod StoredLaws
