@@ -52,6 +52,15 @@ start e = record {
   kept = record { places-kept = refl; r-kept = refl; x-kept = refl; coarse-kept = refl; fine-kept = refl };
 }
 
+pub room-kept : {n m : ℕ} {p₀ r₀ x₀ c₀ f₀ p r x c fi : List ℕ} → Room n p₀ r₀ x₀ c₀ f₀ → m ≡ n → Kept p₀ r₀ x₀ c₀ f₀ p r x c fi → Room m p r x c fi
+room-kept room same kept = record {
+  places-room = omega (arith, room .places-room, kept .places-kept);
+  r-room = omega (arith, room .r-room, kept .r-kept);
+  x-room = omega (arith, room .x-room, kept .x-kept);
+  coarse-room = omega (arith, room .coarse-room, kept .coarse-kept);
+  fine-room = omega (arith, room .fine-room, kept .fine-kept);
+}
+
 -- a chunk: from a place to an end that is not beyond the memory, nor beyond the room of z
 pub record Chunk (room most place end : ℕ) : Type 0 where
   pub inside : end ≤ room
@@ -122,6 +131,10 @@ module _ {room most place end : ℕ} (chunk : Chunk room most place end) (z : Li
             };
             done = done-is;
           }
+
+-- the part of z that was lent is back
+pub part-kept : {n m : ℕ} {z new : List ℕ} → length new ≡ length (take (n - 0) z) → length z ≡ m → length (putMid 0 (n - 0) z new) ≡ m
+part-kept {n} {m} {z} {new} e size = same-len-mid 0 (n - 0) z new e ∙ size
 
 -- all are written
 pub ended : {f : ℕ} {out₀ out : List ℤ} {u state : Lanes} {place : ℕ} → Reached f out₀ u out state place → length out₀ ≤ place

@@ -15,8 +15,8 @@ use Rattle.sample.proofs.sample.Tie as tie
 
 -- all clauses from the first two
 closely : {k v code : ℕ} {out : List ℤ} → Answered fractionBits k v code out
-    → (code ≡ samplesOf fractionBits k v .code) × (out ≡ samplesOf fractionBits k v .first ∷ samplesOf fractionBits k v .second ∷ [])
-    × Near nineSixteenths fractionBits k v out × Near thirtyThreeSixtyFourths fractionBits k v out
+    → (code ≡ samplesOf fractionBits k v .code) × ((out ≡ samplesOf fractionBits k v .first ∷ samplesOf fractionBits k v .second ∷ [])
+    × (Near nineSixteenths fractionBits k v out × Near thirtyThreeSixtyFourths fractionBits k v out))
 closely answered = (answered .0, (answered .1, (answer-near room answered, answer-near closer-room answered)))
 
 returns : tie.Need-returns
