@@ -1,16 +1,9 @@
--- For private functions; no public contract cites these.
-use mathlib.Core.Path.{_≡_}
-use mathlib.Core.List.{List, [], _∷_}
-use Prim.Native.Nat.{ℕ, _+_}
-use lib.IntN.{ℤ, pos, negℤ}
-use lib.ListN.{getD}
-use Rattle.exact.specs.Pair.{turn}
+-- For private functions; no public contract cites this.
+use Prim.Native.Nat.{ℕ, zero, suc}
 
--- The values of the quarters, each beside the next: sin, cos, -sin, -cos, sin.
-abbrev pub valuesOf : ℤ → ℤ → List ℤ
-valuesOf sin cos = sin ∷ cos ∷ negℤ sin ∷ negℤ cos ∷ sin ∷ []
-
--- A place in that list: its value and the next are those of q quarters.
-abbrev pub Turns : ℕ → ℕ → Type 0
-Turns q place = (sin cos : ℤ)
-    → (getD (valuesOf sin cos) place (pos 0), getD (valuesOf sin cos) (place + 1) (pos 0)) ≡ turn negℤ q (sin, cos)
+-- The two values of q quarters, by their number: (sin, cos), (cos, -sin), (-sin, -cos), (-cos, sin).
+abbrev pub valuesOf : ℕ → ℕ
+valuesOf zero = 0
+valuesOf (suc zero) = 1
+valuesOf (suc (suc zero)) = 2
+valuesOf (suc (suc (suc q))) = 3

@@ -1,4 +1,7 @@
--- Laws of the scale, of a chunk in the caller's memory, and of its last pass.
+-- Laws of the passes, of samples in the caller's memory, of one answer, and of a block that is filled chunk by chunk.
 mod ScaleLaws
-pub mod ChunkLaws
 mod PassLaws
+pub mod SamplesLaws
+mod StoredLaws
+mod AnswerLaws
+mod ChunkLaws

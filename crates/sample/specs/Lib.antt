@@ -1,3 +1,4 @@
--- What a chunk leaves in the caller's memory.
-pub mod Chunk
+-- The samples of many pairs, and what two streams leave in the caller's memory.
+pub mod Samples
+pub mod Filled
 pub mod Private

@@ -1,166 +1,181 @@
-// Two samples from k and v (document 01, 'Angle and sample'), of 16 bits, 11 of them fraction bits, or of 18 bits and 13 (document 02,
-// Job 8); crate `box_muller` has the definitions.
+// Samples of 16 bits, 11 of them fraction bits (document 01, 'Angle and sample'), or of 18 bits and 13 (document 02, Job 8): of two numbers k and v, and of the
+// pairs that two streams draw.
 mod bits18;
+mod passes;
 
+pub use bits18::fill18;
 pub use bits18::sample18;
-use box_muller::Samples;
-use box_muller::Samples18;
+use lanes::Lanes;
+use lanes::draw_pairs;
+use passes::samples;
 ghost use mathlib.Core.Path.{_≡_};
-ghost use mathlib.Core.List.{map};
-ghost use Prim.Native.Nat.{_*_, _^_, _≤_, _<_};
-ghost use lib.ListN.{length};
+ghost use mathlib.Core.List.{[], _∷_};
+ghost use Prim.Native.Nat.{_+_, _*_, _/_, _%_, _^_, _≤_, _<_, min};
+ghost use lib.IntN.{pos};
+ghost use lib.ListN.{length, getD};
 ghost use Rattle.exact.specs.Pair.{Close};
-ghost use Rattle.radius.specs.Steps.{numberBits, inverse, radiusLimit};
-ghost use Rattle.angle.specs.Steps.{signedOf};
-ghost use Rattle.box_muller.specs.Steps.{fractionBits, bitsOf, size, rounded};
-ghost use Rattle.box_muller.specs.Sample.{samplesOf, as18, nineSixteenths};
+ghost use Rattle.radius.specs.Steps.{numberBits, inverse};
+ghost use Rattle.box_muller.specs.Steps.{fractionBits};
+ghost use Rattle.box_muller.specs.Sample.{samplesOf, nineSixteenths};
 ghost use Rattle.box_muller.specs.DataSheet.{thirtyThreeSixtyFourths};
-ghost use Rattle.radii.specs.Radii.{radiusAt};
-ghost use Rattle.sample.specs.Chunk.{chunkHolds, samplesAt};
-ghost use Rattle.sample.specs.Private.{scaleOf};
+ghost use Rattle.sample.specs.Filled.{LanesDrawn, Filled};
+ghost use Rattle.sample.specs.Private.{Room};
 
-// The fraction bits of a sample of 16 bits, its unit in the product of F and a sine or cosine, and half of it.
-const FRACTION_BITS: u32 = 11;
-
-const UNIT: u64 = 1 << (50 - FRACTION_BITS);
-
-const HALF: u64 = 1 << (49 - FRACTION_BITS);
-
-// The fraction bits of a sample of 18 bits, and how many of its units make one of 16 bits.
-const FRACTION_BITS_18: u32 = 13;
-
-const SCALE_18: u64 = 1 << (FRACTION_BITS_18 - FRACTION_BITS);
-
-// How many units of a sample make one of 16 bits.
-fn scale(in18: bool) -> u64
-    ensures { λ r. ⌜ r ≡ scaleOf in18 ⌝ }
+// The two samples of k and v: document 01's steps with the half step (demand 2), and so each less than nine sixteenths of a unit of 2^-11 from its member of the
+// exact pair of (2k + 1) over 2^49, k from 0, and v over 65536 (demand 3), and less than 33/64 (document 02, Job 10); or 0 and 0 with the refusal code.
+pub fn sample(k: u64, v: u32, out: &mut [i16; 2]) -> u32
+    ensures code { λ r. ⌜ r ≡ samplesOf fractionBits k v .code ⌝ }
+    ensures steps { λ _. ⌜ now (out .exit) ≡ samplesOf fractionBits k v .first ∷ samplesOf fractionBits k v .second ∷ [] ⌝ }
+    ensures close { λ _. ⌜ (k < 2 ^ numberBits → v < 65536 → Close nineSixteenths fractionBits (inverse k) v (getD (now (out .exit)) 0 (pos 0)) (getD (now (out .exit)) 1 (pos 0))) ⌝ }
+    ensures closer { λ _. ⌜ (k < 2 ^ numberBits → v < 65536 → Close thirtyThreeSixtyFourths fractionBits (inverse k) v (getD (now (out .exit)) 0 (pos 0)) (getD (now (out .exit)) 1 (pos 0))) ⌝ }
 {
-    if in18 { SCALE_18 } else { 1 }
-}
-
-// A sample's size: the nearest whole number of units, halves up, of the radius F times the size of a sine or cosine. (A product with
-// the scale takes less time than a shift by a variable.)
-fn units(in18: bool, f: u64, g: u64) -> u32
-    requires { ⌜ (f < radiusLimit) × (g ≤ 2 ^ 30) ⌝ }
-    ensures { λ r. ⌜ r ≡ size (bitsOf in18) f g ⌝ }
-{
-    let scale = scale(in18);
-    ((f * scale * g + HALF) / UNIT) as u32
-}
-
-struct Pair {
-    first: i32,
-    second: i32,
-}
-
-// The two samples of a radius F and v: sizes are rounded first, since rounding keeps the sign.
-fn pair_of(in18: bool, f: u64, v: u64) -> Pair
-    requires { ⌜ f < radiusLimit ⌝ }
-    ensures { λ r. ⌜ (r .first ≡ rounded (bitsOf in18) f (signedOf v .0)) × (r .second ≡ rounded (bitsOf in18) f (signedOf v .1)) ⌝ }
-{
-    let angle = angle::angle_of(v % 16384);
-    let turned = angle::turn(
-        v / 16384,
-        units(in18, f, angle.sine),
-        units(in18, f, angle.cosine),
-    );
-    Pair {
-        first: turned.first as i32,
-        second: turned.second as i32,
+    if radius::LIMIT <= k {
+        *out = [0, 0];
+        return 2;
     }
-}
-
-// The samples of each z, from its radius F.
-fn sample_each(in18: bool, z: &[u64], f: &[u64], out: &mut [i32])
-    requires { ⌜ (now f ≡ map radiusAt (now z)) × (length (now out) ≡ 2 * length (now z)) ⌝ }
-    ensures { λ r. ⌜ now (out .exit) ≡ samplesAt (bitsOf in18) (now (z .entry)) ⌝ }
-{
-    let mut i = 0;
-    while 2 * i + 1 < out.len() {
-        let pair = pair_of(in18, f[i], z[i] % 65536);
-        let first = pair.first;
-        let second = pair.second;
-        out[2 * i] = first;
-        out[2 * i + 1] = second;
-        i += 1;
+    if 65535 < v {
+        *out = [0, 0];
+        return 3;
     }
+    let z = [k * 65536 + v as u64];
+    let mut places = [0u64];
+    let mut r = [0u32];
+    let mut x = [0u64];
+    let mut coarse = [0u64];
+    let mut fine = [0u64];
+    samples(&z, &mut places, &mut r, &mut x, &mut coarse, &mut fine, out);
+    0
 }
 
-// The samples of each z. What x and f hold does not matter. A single pair goes this way too: nothing else calls `radii`, so that the compiler
-// puts its passes and the last one into one function. (z is lent on as a part, the whole of it: the compiler then reads its place once.)
-fn by_passes(in18: bool, z: &[u64], x: &mut [u64], f: &mut [u64], out: &mut [i32])
-    requires { ⌜ (length (now x) ≡ length (now z)) × (length (now f) ≡ length (now z)) × (length (now out) ≡ 2 * length (now z)) ⌝ }
-    ensures { λ r. ⌜ now (out .exit) ≡ samplesAt (bitsOf in18) (now (z .entry)) ⌝ }
+// Where the chunk that begins at a place of n ends, if it has room for `most`.
+fn chunk_end(at: usize, n: usize, most: usize) -> usize
+    requires { ⌜ (at ≤ n) × (most ≤ 32) ⌝ }
+    ensures { λ r. ⌜ r ≡ min n (at + most) ⌝ }
 {
-    let n = z.len();
-    radii::radii(&z[0..n], x, f);
-    sample_each(in18, &z[0..n], f, out)
+    if n - at < most { n } else { at + most }
+}
+
+// The samples of as many pairs as z has elements, by way of their words in z: both streams are drawn side by side.
+fn draw_samples(
+    streams: Lanes,
+    z: &mut [u64],
+    places: &mut [u64],
+    r: &mut [u32],
+    x: &mut [u64],
+    coarse: &mut [u64],
+    fine: &mut [u64],
+    out: &mut [i16],
+) -> Lanes
+    requires { ⌜ Room (length (now z)) (now places) (now r) (now x) (now coarse) (now fine) × (length (now out) ≡ 2 * length (now z)) ⌝ }
+    ensures { λ u. ⌜ LanesDrawn fractionBits (length (now (z .entry))) streams u (now (out .exit)) ⌝ }
+{
+    let after = draw_pairs(streams, z);
+    samples(z, places, r, x, coarse, fine, out);
+    after
+}
+
+// The samples of half as many pairs as the memory has elements, in chunks of at most as many as z has.
+fn by_chunks(
+    streams: Lanes,
+    z: &mut [u64],
+    places: &mut [u64],
+    r: &mut [u32],
+    x: &mut [u64],
+    coarse: &mut [u64],
+    fine: &mut [u64],
+    out: &mut [i16],
+) -> Lanes
+    requires { ⌜ Room (length (now z)) (now places) (now r) (now x) (now coarse) (now fine) × ((0 < length (now z)) × (length (now z) ≤ 16)) × (length (now out) % 2 ≡ 0) ⌝ }
+    ensures { λ u. ⌜ LanesDrawn fractionBits (length (now (out .entry)) / 2) streams u (now (out .exit)) ⌝ }
+{
+    let mut state = streams;
+    let mut at = 0;
+    while at < out.len() {
+        let end = chunk_end(at, out.len(), 2 * z.len());
+        let n = (end - at) / 2;
+        state = draw_samples(
+            state,
+            &mut z[0..n],
+            places,
+            r,
+            x,
+            coarse,
+            fine,
+            &mut out[at..end],
+        );
+        at = end;
+    }
+    state
 }
 
 // The most pairs in a chunk.
-pub const CHUNK: usize = 16;
+const CHUNK: usize = 16;
 
-// The two samples of each z = 65536 k + v, first and second alternating, where a chunk has as many z and the caller's memory has two
-// elements for each; else it stays. (Lengths that were cut to the lesser one took 6 % more.)
-pub fn chunk(in18: bool, z: &[u64], out: &mut [i32])
-    ensures { λ r. ⌜ now (out .exit) ≡ chunkHolds (bitsOf in18) (now (z .entry)) (now (out .entry)) ⌝ }
+// The samples of as many pairs as a slice of even length has room for, chunk by chunk.
+pub fn chunks(streams: Lanes, out: &mut [i16]) -> Lanes
+    ensures { λ u. ⌜ Filled fractionBits streams u (now (out .entry)) (now (out .exit)) ⌝ }
 {
+    let mut z = [0u64; CHUNK];
+    let mut places = [0u64; CHUNK];
+    let mut r = [0u32; CHUNK];
     let mut x = [0u64; CHUNK];
-    let mut f = [0u64; CHUNK];
-    let n = z.len();
-    if CHUNK < n {
-        return;
+    let mut coarse = [0u64; CHUNK];
+    let mut fine = [0u64; CHUNK];
+    if out.len() % 2 != 0 {
+        return streams;
     }
-    if out.len() != 2 * n {
-        return;
-    }
-    by_passes(in18, z, &mut x[0..n], &mut f[0..n], out)
+    by_chunks(streams, &mut z, &mut places, &mut r, &mut x, &mut coarse, &mut fine, out)
 }
 
-// The answer for k and v.
-fn answer(in18: bool, k: u64, v: u32) -> Samples18
-    ensures { λ r. ⌜ r ≡ as18 (samplesOf (bitsOf in18) k v) ⌝ }
+// The most pairs in a short block, and the most samples.
+const SHORT: usize = 8;
+
+const SHORT_SAMPLES: usize = 2 * SHORT;
+
+// The same in short chunks: their slices are shorter, since they are cleared at each call.
+fn short(streams: Lanes, out: &mut [i16]) -> Lanes
+    ensures { λ u. ⌜ Filled fractionBits streams u (now (out .entry)) (now (out .exit)) ⌝ }
 {
-    if radius::LIMIT <= k {
-        return Samples18 {
-            code: 2,
-            first: 0,
-            second: 0,
-        };
+    let mut z = [0u64; SHORT];
+    let mut places = [0u64; SHORT];
+    let mut r = [0u32; SHORT];
+    let mut x = [0u64; SHORT];
+    let mut coarse = [0u64; SHORT];
+    let mut fine = [0u64; SHORT];
+    if out.len() % 2 != 0 {
+        return streams;
     }
-    if 65535 < v {
-        return Samples18 {
-            code: 3,
-            first: 0,
-            second: 0,
-        };
-    }
-    let z = [k * 65536 + v as u64];
+    by_chunks(streams, &mut z, &mut places, &mut r, &mut x, &mut coarse, &mut fine, out)
+}
+
+// The most samples of few pairs.
+const FEW_SAMPLES: usize = 4;
+
+// The same, one pair after another.
+fn one_by_one(streams: Lanes, out: &mut [i16]) -> Lanes
+    ensures { λ u. ⌜ Filled fractionBits streams u (now (out .entry)) (now (out .exit)) ⌝ }
+{
+    let mut z = [0u64];
+    let mut places = [0u64];
+    let mut r = [0u32];
     let mut x = [0u64];
-    let mut f = [0u64];
-    let mut pair = [0i32; 2];
-    by_passes(in18, &z, &mut x, &mut f, &mut pair);
-    Samples18 {
-        code: 0,
-        first: pair[0],
-        second: pair[1],
+    let mut coarse = [0u64];
+    let mut fine = [0u64];
+    if out.len() % 2 != 0 {
+        return streams;
     }
+    by_chunks(streams, &mut z, &mut places, &mut r, &mut x, &mut coarse, &mut fine, out)
 }
 
-// The two samples of k and v: document 01's steps with the half step (demand 2), and so each less than nine sixteenths of a unit of
-// 2^-11 from its member of the exact pair of (2k + 1) over 2^49, k from 0, and v over 65536 (demand 3), and less than 33/64 (document
-// 02, Job 10).
-pub fn sample(k: u64, v: u32) -> Samples
-    ensures steps { λ r. ⌜ r ≡ samplesOf fractionBits k v ⌝ }
-    ensures close { λ r. ⌜ (k < 2 ^ numberBits → v < 65536 → Close nineSixteenths fractionBits (inverse k) v (r .first) (r .second)) ⌝ }
-    ensures closer { λ r. ⌜ (k < 2 ^ numberBits → v < 65536 → Close thirtyThreeSixtyFourths fractionBits (inverse k) v (r .first) (r .second)) ⌝ }
+// The same: few pairs one by one, a short block at once, and a longer one chunk by chunk.
+pub fn fill(streams: Lanes, out: &mut [i16]) -> Lanes
+    ensures { λ u. ⌜ Filled fractionBits streams u (now (out .entry)) (now (out .exit)) ⌝ }
 {
-    let s = answer(false, k, v);
-    let first = s.first as i16;
-    let second = s.second as i16;
-    Samples {
-        code: s.code,
-        first,
-        second,
+    if SHORT_SAMPLES < out.len() {
+        return chunks(streams, out);
     }
+    if FEW_SAMPLES < out.len() {
+        return short(streams, out);
+    }
+    one_by_one(streams, out)
 }

@@ -1,2 +1,0 @@
--- What holds of a chunk, and between two of them.
-mod ChunkLaws

@@ -1,2 +1,0 @@
-pub mod Chunks
-pub mod Private
