@@ -23,10 +23,10 @@
  * What it needs at most of a C library and of the compiler's own library (libgcc or compiler-rt):
  *   on x86_64, x86_64-v3, aarch64, riscv64: memcpy, memset
  *   on x86_64-windows: memcpy, memset, ___chkstk_ms
- *   on armv7: memcpy, memset
- *   on thumbv6m: __aeabi_memcpy, __aeabi_memcpy4, __aeabi_memcpy8, __aeabi_memclr, __aeabi_memclr4, __aeabi_memclr8, __aeabi_lmul, __aeabi_llsl, __aeabi_llsr, __clzsi2
- *   on thumbv7m, thumbv7em, thumbv7em-hf, thumbv7em-dp, thumbv8m, thumbv8m-hf: __aeabi_memcpy, __aeabi_memcpy4, __aeabi_memcpy8, __aeabi_memclr, __aeabi_memclr4, __aeabi_memclr8
- *   on riscv32imc, riscv32imac: memcpy, memset
+ *   on armv7: memcpy, memset, __aeabi_uldivmod
+ *   on thumbv6m: __aeabi_memcpy, __aeabi_memcpy4, __aeabi_memcpy8, __aeabi_memclr, __aeabi_memclr4, __aeabi_memclr8, __aeabi_uldivmod, __aeabi_lmul, __aeabi_llsl, __aeabi_llsr, __clzsi2
+ *   on thumbv7m, thumbv7em, thumbv7em-hf, thumbv7em-dp, thumbv8m, thumbv8m-hf: __aeabi_memcpy, __aeabi_memcpy4, __aeabi_memcpy8, __aeabi_memclr, __aeabi_memclr4, __aeabi_memclr8, __aeabi_uldivmod
+ *   on riscv32imc, riscv32imac: memcpy, memset, __udivdi3
  *
  * Stack. A call takes at most so much, the caller's own frame left out, as measured with the longest texts and blocks of 4096 on these processors and in
  * WebAssembly; under Windows it was not measured:

@@ -99,9 +99,9 @@ module _ (k : ℕ) (below : k < 2 ^ numberBits) where
       (coarse-at .0) (coarse-at .1) fine-at (again .1)
 
   -- h and i from 2^15 M, and the cell
-  module _ (N R : ℕ) (N-is : N ≡ 2 ^ 15 * M) (R-is : R ≡ entryOf reciprocals 256 (N / 2 ^ 55 % 256 + 256)) where
-    row-is : N / 2 ^ 55 % 256 + 256 ≡ h
-    row-is = rw N-is (omega (arith, split, coarse-at))
+  module _ (N n R : ℕ) (N-is : N ≡ 2 ^ 15 * M) (n-is : n ≡ N / 2 ^ 55 % 256 + 256) (R-is : R ≡ entryOf reciprocals 256 n) where
+    row-is : n ≡ h
+    row-is = rw (n-is, N-is) (omega (arith, split, coarse-at))
 
     fine-is : N % 2 ^ 55 / 2 ^ 39 * R / 2 ^ 39 ≡ i
     unfolding fineIndex
@@ -116,12 +116,12 @@ module _ (k : ℕ) (below : k < 2 ^ numberBits) where
     place-fits = rw (fine-is, N-is) (omega (arith, mantissa-at k below .1, fine-at))
 
     pub cell-is :
-        (a b K e log : ℕ) → a ≡ entryOf logCoarse 256 (N / 2 ^ 55 % 256 + 256) → b ≡ getD logFine (N % 2 ^ 55 / 2 ^ 39 * R / 2 ^ 39) 0xffffffff → K ≡ lnTwo →
-        e ≡ topBit m → (log + (a + b)) % 2 ^ 64 ≡ (width - e) * K → InCell k (N + N % 2 ^ 55 / 2 ^ 39 * R / 2 ^ 39) R log
-    cell-is a b K e log a-is b-is K-is e-is log-is = record {
+        (a b K e t log : ℕ) → a ≡ entryOf logCoarse 256 n → b ≡ getD logFine (N % 2 ^ 55 / 2 ^ 39 * R / 2 ^ 39) 0xffffffff → K ≡ lnTwo →
+        e ≡ topBit m → t ≡ width - e → (log + (a + b)) % 2 ^ 64 ≡ t * K → InCell k (N + N % 2 ^ 55 / 2 ^ 39 * R / 2 ^ 39) R log
+    cell-is a b K e t log a-is b-is K-is e-is t-is log-is = record {
       place-is = ap₂ _+_ N-is fine-is;
       reciprocal-is = R-is ∙ ap (λ n. entryOf reciprocals 256 n) row-is;
-      log-is = rw (a-is, b-is, row-is, fine-is, fine-entry i fine-at, K-is, e-is) at log-is;
+      log-is = rw (a-is, b-is, row-is, fine-is, fine-entry i fine-at, K-is, t-is, e-is) at log-is;
     }
 
   -- 2Q, from what each step gives

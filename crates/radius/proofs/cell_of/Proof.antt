@@ -43,15 +43,15 @@ few-z c = few-bits _ (c .before .before .fits .z .fits)
 add-place : tie.Need-add-place
 add-place c =
     let at = c .before .before .before .before in
-    record { fits = place-fits _ (few-z at) _ _ (scaled-is _ (few-z at) _ _ _ (at .before .top-bit .ensures .0) (omega arith) (omega arith)) (at .coarse .ensures .1) }
+    record { fits = place-fits _ (few-z at) _ _ _ (scaled-is _ (few-z at) _ _ _ (at .before .top-bit .ensures .0) (omega arith) (omega arith)) (omega arith) (at .coarse .ensures .1) }
 
 returns : tie.Need-returns
 returns c =
     let fine = c .before in
     let ln-two = fine .before .before .before in
     let at = ln-two .before in
-    cell-is _ (few-z at) _ _ (scaled-is _ (few-z at) _ _ _ (at .before .top-bit .ensures .0) (omega arith) (omega arith)) (at .coarse .ensures .1)
-    _ _ _ _ _ (at .coarse .ensures .0) (fine .fine .ensures) (ln-two .ln-two .ensures) (at .before .top-bit .ensures .0) (c .wrapping-sub-u64 .ensures)
+    cell-is _ (few-z at) _ _ _ (scaled-is _ (few-z at) _ _ _ (at .before .top-bit .ensures .0) (omega arith) (omega arith)) (omega arith) (at .coarse .ensures .1)
+    _ _ _ _ _ _ (at .coarse .ensures .0) (fine .fine .ensures) (ln-two .ln-two .ensures) (at .before .top-bit .ensures .0) (omega arith) (c .wrapping-sub-u64 .ensures)
 
 pub cell-of-spec : {M : Type 1} → statement M
 cell-of-spec =

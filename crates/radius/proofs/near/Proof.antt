@@ -34,7 +34,7 @@ cast-result-3 c =
 returns : tie.Need-returns
 returns c below =
     let x : ℕ = c .before .before .before .before .args .x in
-    near-is x (places x) (cell x) _ _ _ _ _ below (λ few. (omega arith, omega arith)) (omega arith) (omega arith) (omega arith)
+    near-is x (places x) (cell x) _ _ _ _ _ (omega (arith, below)) (λ few. (omega arith, omega arith)) (omega arith) (omega arith) (omega arith)
     (c .before .before .before .cell-at .ensures) (omega arith)
 
 pub near-spec : {M : Type 1} → statement M

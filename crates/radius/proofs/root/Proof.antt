@@ -1,5 +1,4 @@
 -- `radius::root` meets its contract: x is below the next number's square just where the guess is the root.
-use mathlib.Core.Path.{refl}
 use native.Mathlib.Omega.{arith}
 use borrow.Author.Needs.{needs}
 use Rattle.radius.proofs.RootLaws.{root-is}
@@ -11,7 +10,7 @@ mul-wrapping-sub-u64 : tie.Need-mul-wrapping-sub-u64
 mul-wrapping-sub-u64 c = record { fits = product-fits _ _ (omega arith) (omega arith) }
 
 returns : tie.Need-returns
-returns c below near = root-is _ _ _ _ below near refl (omega (arith, c .wrapping-sub-u64 .ensures)) (omega arith)
+returns c below near = root-is _ _ _ _ below near (omega arith) (omega (arith, c .wrapping-sub-u64 .ensures)) (omega arith)
 
 pub root-spec : {M : Type 1} → statement M
 root-spec =
