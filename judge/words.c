@@ -193,7 +193,7 @@ void judge_blunder_words(const struct judge_explanation *e, growing *to) {
     case JUDGE_ANY_DISTANCE: add(to, "%.2f m too %s", fabs(by), by < 0 ? "long" : "short"); break;
     case JUDGE_ANY_BEARING: add(to, "the bearing %.1f degrees too %s", fabs(by), by < 0 ? "large" : "small"); break;
     case JUDGE_LEFT_OUT: add(to, "a leg left out, %.2f m at %.0f", far, judge_bearing(e->move)); break;
-    case JUDGE_EQUATED: add(to, "equated wrongly, %.2f m at %.0f from each other,", far, judge_bearing(e->move)); break;
+    case JUDGE_EQUATED: add(to, "equated wrongly (%.2f m at %.0f from each other)", far, judge_bearing(e->move)); break;
     case JUDGE_FIXED: add(to, "fixed wrongly by %.2f m at %.0f", far, judge_bearing(e->move)); break;
     }
 }

@@ -56,7 +56,7 @@ def ranks(geometry: caves.Geometry, kind: str, count: int, rng: Any) -> str:
         leg = caves.blunder(rng, b, kind)
         told = check(b.text({}), "--sigma", GOOD_WORDS, "--plays", "400")
         if not told["sound"]:
-            rows = [s["line"] for s in told["suspects"] if not s["blunder"].startswith("a leg left out")]
+            rows = [s["line"] for s in told["suspects"] if s["kind"] != "left out"]
             places.append(1 + rows.index(2 + leg) if 2 + leg in rows else 10**6)
     n = len(places)
     firsts = [share(sum(p <= most for p in places), n) for most in (1, 3, 10)]
@@ -111,7 +111,7 @@ def ranks_of_one(geometry: caves.Geometry, kind: str, rng: Any) -> int:
     b = caves.survey(rng, geometry, GOOD, (2, 1, 0))
     leg = caves.blunder(rng, b, kind)
     told = check(b.text({}), "--sigma", GOOD_WORDS, "--plays", "400")
-    rows = [s["line"] for s in told["suspects"] if not s["blunder"].startswith("a leg left out")]
+    rows = [s["line"] for s in told["suspects"] if s["kind"] != "left out"]
     return 0 if told["sound"] else 1 + rows.index(2 + leg) if 2 + leg in rows else 10**6
 
 
