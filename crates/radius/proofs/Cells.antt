@@ -126,19 +126,19 @@ module _ (k : ℕ) (below : k < 2 ^ numberBits) where
 
   -- 2Q, from what each step gives
   pub under-root-is :
-      (place reciprocal log q v s x y : ℕ) → InCell k place reciprocal log →
-      (q + place / 2 ^ 55 * (65536 + place % 256) % 2 ^ 32 * 2 ^ 39 % 2 ^ 64) % 2 ^ 64 ≡ place → q < 2 ^ 64 →
+      (place reciprocal log u q v s x y : ℕ) → InCell k place reciprocal log → u ≡ place / 2 ^ 55 * (65536 + place % 256) % 2 ^ 32 * 2 ^ 39 % 2 ^ 64 →
+      (q + u) % 2 ^ 64 ≡ place → q < 2 ^ 64 →
       ((h : ℕ) → 256 ≤ h → h < 512 → reciprocal ≡ entryOf reciprocals 256 h → NearInverse v (h * (65536 + place % 256))) →
       (q / 2 ^ 15 < 2 ^ 33 → 2 ^ 24 ≤ place / 2 ^ 55 * (65536 + place % 256) % 2 ^ 32 → place / 2 ^ 55 * (65536 + place % 256) % 2 ^ 32 < 2 ^ 25 →
       NearInverse v (place / 2 ^ 55 * (65536 + place % 256) % 2 ^ 32) → s ≡ q / 2 ^ 15 * 2 ^ 16 / (place / 2 ^ 55 * (65536 + place % 256) % 2 ^ 32)) →
       (x + s) % 2 ^ 64 ≡ log → x < 2 ^ 64 → y ≡ (1 - x / 2 ^ 50 % 2) * x → y * 2 % 2 ^ 64 ≡ underRoot k
   unfolding underRoot logarithm correction
-  under-root-is place reciprocal log q v s x y cell difference q-fits near quotient last x-fits y-is =
+  under-root-is place reciprocal log u q v s x y cell u-is difference q-fits near quotient last x-fits y-is =
       let p = parts place (cell .place-is) in
       let d : ℕ = h * (65536 + i) in
       let same : place / 2 ^ 55 * (65536 + place % 256) % 2 ^ 32 ≡ d = rw (p .low, p .top) (mod-eq-of-lt (omega (arith, p .divisor-small))) in
       let shifted : d * 2 ^ 39 % 2 ^ 64 ≡ d * 2 ^ 39 = mod-eq-of-lt (omega (arith, p .divisor-small)) in
-      let r-is : q / 2 ^ 15 ≡ remainder width m = p .left q q-fits (rw (same, shifted) at difference) in
+      let r-is : q / 2 ^ 15 ≡ remainder width m = p .left q q-fits (rw (u-is, same, shifted) at difference) in
       let v-near : NearInverse v d = rw (p .low) at (near h (coarse-at .0) (coarse-at .1) (cell .reciprocal-is)) in
       let s-is : s ≡ remainder width m * 2 ^ 16 / d = (rw (same, r-is) at quotient) (p .remainder-small) (p .divisor-least) (p .divisor-small) v-near in
       let D : ℕ = (width - topBit m) * lnTwo in

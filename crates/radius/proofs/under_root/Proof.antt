@@ -17,7 +17,7 @@ returns : tie.Need-returns
 returns c k below cell =
     let at = c .before in
     let before = at .before .before .before in
-    under-root-is k below _ _ _ _ _ _ _ _ cell (omega (arith, before .wrapping-sub-u64 .ensures)) (omega arith) (at .before .before .inverse .ensures .1)
+    under-root-is k below _ _ _ _ _ _ _ _ _ cell (omega arith) (before .wrapping-sub-u64 .ensures) (omega arith) (at .before .before .inverse .ensures .1)
     (at .before .correction .ensures) (at .wrapping-sub-u642 .ensures) (omega arith) (c .or-zero .ensures)
 
 pub under-root-spec : {M : Type 1} → statement M
