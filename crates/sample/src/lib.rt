@@ -16,7 +16,7 @@ ghost use Rattle.box_muller.specs.Steps.{fractionBits};
 ghost use Rattle.box_muller.specs.Sample.{samplesOf, nineSixteenths};
 ghost use Rattle.box_muller.specs.DataSheet.{thirtyThreeSixtyFourths};
 ghost use Rattle.sample.specs.Filled.{LanesDrawn, Filled};
-ghost use Rattle.sample.specs.Private.{AsMany};
+ghost use Rattle.sample.specs.Private.{Room};
 
 // The two samples of k and v: document 01's steps with the half step (demand 2), and so each less than nine sixteenths of a unit of 2^-11 from its member of the
 // exact pair of (2k + 1) over 2^49, k from 0, and v over 65536 (demand 3), and less than 33/64 (document 02, Job 10); or 0 and 0 with the refusal code.
@@ -63,7 +63,7 @@ fn draw_samples(
     fine: &mut [u64],
     out: &mut [i16],
 ) -> Lanes
-    requires { ⌜ AsMany (length (now z)) (now places) (now r) (now x) (now coarse) (now fine) × (length (now out) ≡ 2 * length (now z)) ⌝ }
+    requires { ⌜ Room (length (now z)) (now places) (now r) (now x) (now coarse) (now fine) × (length (now out) ≡ 2 * length (now z)) ⌝ }
     ensures { λ u. ⌜ LanesDrawn fractionBits (length (now (z .entry))) streams u (now (out .exit)) ⌝ }
 {
     let after = draw_pairs(streams, z);
@@ -82,7 +82,7 @@ fn by_chunks(
     fine: &mut [u64],
     out: &mut [i16],
 ) -> Lanes
-    requires { ⌜ AsMany (length (now z)) (now places) (now r) (now x) (now coarse) (now fine) × ((0 < length (now z)) × (length (now z) ≤ 16)) × (length (now out) % 2 ≡ 0) ⌝ }
+    requires { ⌜ Room (length (now z)) (now places) (now r) (now x) (now coarse) (now fine) × ((0 < length (now z)) × (length (now z) ≤ 16)) × (length (now out) % 2 ≡ 0) ⌝ }
     ensures { λ u. ⌜ LanesDrawn fractionBits (length (now (out .entry)) / 2) streams u (now (out .exit)) ⌝ }
 {
     let mut state = streams;
@@ -93,11 +93,11 @@ fn by_chunks(
         state = draw_samples(
             state,
             &mut z[0..n],
-            &mut places[0..n],
-            &mut r[0..n],
-            &mut x[0..n],
-            &mut coarse[0..n],
-            &mut fine[0..n],
+            places,
+            r,
+            x,
+            coarse,
+            fine,
             &mut out[at..end],
         );
         at = end;

@@ -10,7 +10,7 @@ ghost use Rattle.angle.specs.Steps.{inQuarter, signedOf};
 ghost use Rattle.angle.specs.Rotations.{Rotated};
 ghost use Rattle.box_muller.specs.Steps.{fractionBits, bitsOf, size, rounded};
 ghost use Rattle.sample.specs.Samples.{samplesAt};
-ghost use Rattle.sample.specs.Private.{scaleOf, AsMany, Looked, UnderRoots, NearRoots, Ready};
+ghost use Rattle.sample.specs.Private.{scaleOf, Room, Looked, UnderRoots, NearRoots, Ready};
 
 // What the tables say of each z.
 pub fn look_up(
@@ -21,7 +21,7 @@ pub fn look_up(
     coarse: &mut [u64],
     fine: &mut [u64],
 )
-    requires { ⌜ AsMany (length (now z)) (now places) (now r) (now x) (now coarse) (now fine) ⌝ }
+    requires { ⌜ Room (length (now z)) (now places) (now r) (now x) (now coarse) (now fine) ⌝ }
     ensures { λ _. ⌜ Looked (now (z .entry)) (now (places .exit)) (now (r .exit)) (now (x .exit)) (now (coarse .exit)) (now (fine .exit)) (length (now (z .entry))) ⌝ }
 {
     let mut i = 0;
@@ -37,25 +37,25 @@ pub fn look_up(
     }
 }
 
-// 2Q of each, in place of its logarithm.
-pub fn under_roots(places: &[u64], r: &[u32], x: &mut [u64])
-    requires { ⌜ (length (now places) ≡ length (now x)) × (length (now r) ≡ length (now x)) ⌝ }
-    ensures { λ _. ⌜ UnderRoots (now (places .entry)) (now (r .entry)) (now (x .entry)) (now (x .exit)) ⌝ }
+// 2Q of the first n, each in place of its logarithm.
+pub fn under_roots(n: usize, places: &[u64], r: &[u32], x: &mut [u64])
+    requires { ⌜ (n ≤ length (now places)) × (n ≤ length (now r)) × (n ≤ length (now x)) ⌝ }
+    ensures { λ _. ⌜ UnderRoots n (now (places .entry)) (now (r .entry)) (now (x .entry)) (now (x .exit)) ⌝ }
 {
     let mut i = 0;
-    while i < x.len() {
+    while i < n {
         x[i] = radius::under_root(places[i], r[i], x[i]);
         i += 1;
     }
 }
 
-// The radius F of each or one less, in place of its reciprocal.
-pub fn nears(x: &[u64], r: &mut [u32])
-    requires { ⌜ length (now r) ≡ length (now x) ⌝ }
-    ensures { λ _. ⌜ NearRoots (now (x .entry)) (now (r .exit)) ⌝ }
+// The radius F of the first n or one less, each in place of its reciprocal.
+pub fn nears(n: usize, x: &[u64], r: &mut [u32])
+    requires { ⌜ (n ≤ length (now x)) × (n ≤ length (now r)) ⌝ }
+    ensures { λ _. ⌜ NearRoots n (now (x .entry)) (now (r .exit)) ⌝ }
 {
     let mut i = 0;
-    while i < x.len() {
+    while i < n {
         r[i] = radius::near(x[i]);
         i += 1;
     }
@@ -128,11 +128,11 @@ pub fn samples(
     fine: &mut [u64],
     out: &mut [i16],
 )
-    requires { ⌜ AsMany (length (now z)) (now places) (now r) (now x) (now coarse) (now fine) × (length (now out) ≡ 2 * length (now z)) ⌝ }
+    requires { ⌜ Room (length (now z)) (now places) (now r) (now x) (now coarse) (now fine) × (length (now out) ≡ 2 * length (now z)) ⌝ }
     ensures { λ _. ⌜ now (out .exit) ≡ samplesAt fractionBits (now (z .entry)) ⌝ }
 {
     look_up(z, places, r, x, coarse, fine);
-    under_roots(places, r, x);
-    nears(x, r);
+    under_roots(z.len(), places, r, x);
+    nears(z.len(), x, r);
     sample_each(z, x, r, coarse, fine, out)
 }

@@ -1,204 +1,107 @@
+-- `by_chunks` has written the samples before `at`.
+use mathlib.Core.Path.{refl}
+use Prim.Native.Nat.{_-_}
+use native.Mathlib.Omega.{arith}
+use lib.ListN.{length}
+use borrow.Author.Needs.{needs}
+use Rattle.box_muller.specs.Steps.{fractionBits}
+use Rattle.sample.proofs.ChunkLaws.{Going, start, Chunk, chunk-is, words-room, room-kept, part-kept, asked, again, ended}
 use Rattle.sample.proofs.by_chunks.Statement.{statement}
 use Rattle.sample.proofs.by_chunks.Tie as tie
-use Rattle.sample.proofs.by_chunks.Reads as reads
-use Rattle.sample.proofs.by_chunks.Lts as lts
-use Rattle.sample.proofs.chunk_end.Reads as chunk-end-reads
-use Rattle.sample.proofs.draw_samples.Reads as draw-samples-reads
 
 abbrev Inv-loop : tie.InvT-loop
-Inv-loop z₀ places₀ r₀ x₀ coarse₀ fine₀ out₀ state₀ at₀ z places r x coarse fine out state at = ?
+Inv-loop z₀ places₀ r₀ x₀ coarse₀ fine₀ out₀ state₀ at₀ z places r x coarse fine out state at =
+    Going fractionBits z₀ places₀ r₀ x₀ coarse₀ fine₀ out₀ state₀ z places r x coarse fine out state at
 
 abbrev μ-loop : tie.MeasureT-loop
-μ-loop z₀ places₀ r₀ x₀ coarse₀ fine₀ out₀ state₀ at₀ z places r x coarse fine out state at = ?
+μ-loop z₀ places₀ r₀ x₀ coarse₀ fine₀ out₀ state₀ at₀ z places r x coarse fine out state at = length out₀ - at
 
--- src/lib.rt:90:5
 loop-holds : tie.Need-loop-holds Inv-loop μ-loop
-loop-holds c = ?
+loop-holds c = start (omega arith)
 
--- src/lib.rt:91:44
 mul-chunk-end : tie.Need-mul-chunk-end Inv-loop μ-loop
-mul-chunk-end c = ?
+mul-chunk-end c = omega (arith, c .before .loop .inv .z-kept, c .before .before .before .before .before .before .before .before .pre .1)
 
--- src/lib.rt:91:13
 chunk-end-requires : tie.Need-chunk-end-requires Inv-loop μ-loop
-chunk-end-requires c κs = ?
+chunk-end-requires c κs =
+    let inv = c .before .loop .inv in
+    (omega (arith, inv .reached .within, inv .reached .length-kept), omega (arith, inv .z-kept, c .before .before .before .before .before .before .before .before .pre .1))
 
--- src/lib.rt:92:18
+-- the next chunk
+chunk : (c : tie.After-chunk-end Inv-loop μ-loop)
+    → Chunk (length (c .before .before .loop .out)) (length (c .before .before .loop .z)) (c .before .before .loop .at) (c .chunk-end .result)
+chunk c =
+    let inv = c .before .before .loop .inv in
+    let pre = c .before .before .before .before .before .before .before .before .before .pre in
+    chunk-is (omega (arith, inv .reached .length-kept, pre .2)) (inv .reached .even) (omega (arith, inv .z-kept, pre .1)) (c .before .loop-test .taken) (c .chunk-end .ensures)
+
 sub-n : tie.Need-sub-n Inv-loop μ-loop
-sub-n c = ?
+sub-n c = omega (arith, chunk c .some)
 
--- src/lib.rt:95:13
-sub-draw-samples : tie.Need-sub-draw-samples Inv-loop μ-loop
-sub-draw-samples c = ?
-
--- src/lib.rt:95:13
-part-draw-samples-start : tie.Need-part-draw-samples-start Inv-loop μ-loop
-part-draw-samples-start c = ?
-
--- src/lib.rt:95:13
 part-draw-samples-end : tie.Need-part-draw-samples-end Inv-loop μ-loop
-part-draw-samples-end c = ?
+part-draw-samples-end c = words-room (chunk c) _ refl
 
--- src/lib.rt:96:13
-sub-draw-samples-2 : tie.Need-sub-draw-samples-2 Inv-loop μ-loop
-sub-draw-samples-2 c = ?
-
--- src/lib.rt:96:13
 part-draw-samples-start-2 : tie.Need-part-draw-samples-start-2 Inv-loop μ-loop
-part-draw-samples-start-2 c = ?
+part-draw-samples-start-2 c = omega (arith, chunk (c .before .before .before .before .before .before) .some)
 
--- src/lib.rt:96:13
 part-draw-samples-end-2 : tie.Need-part-draw-samples-end-2 Inv-loop μ-loop
-part-draw-samples-end-2 c = ?
+part-draw-samples-end-2 c = chunk (c .before .before .before .before .before .before) .inside
 
--- src/lib.rt:97:13
-sub-draw-samples-3 : tie.Need-sub-draw-samples-3 Inv-loop μ-loop
-sub-draw-samples-3 c = ?
-
--- src/lib.rt:97:13
-part-draw-samples-start-3 : tie.Need-part-draw-samples-start-3 Inv-loop μ-loop
-part-draw-samples-start-3 c = ?
-
--- src/lib.rt:97:13
-part-draw-samples-end-3 : tie.Need-part-draw-samples-end-3 Inv-loop μ-loop
-part-draw-samples-end-3 c = ?
-
--- src/lib.rt:98:13
-sub-draw-samples-4 : tie.Need-sub-draw-samples-4 Inv-loop μ-loop
-sub-draw-samples-4 c = ?
-
--- src/lib.rt:98:13
-part-draw-samples-start-4 : tie.Need-part-draw-samples-start-4 Inv-loop μ-loop
-part-draw-samples-start-4 c = ?
-
--- src/lib.rt:98:13
-part-draw-samples-end-4 : tie.Need-part-draw-samples-end-4 Inv-loop μ-loop
-part-draw-samples-end-4 c = ?
-
--- src/lib.rt:99:13
-sub-draw-samples-5 : tie.Need-sub-draw-samples-5 Inv-loop μ-loop
-sub-draw-samples-5 c = ?
-
--- src/lib.rt:99:13
-part-draw-samples-start-5 : tie.Need-part-draw-samples-start-5 Inv-loop μ-loop
-part-draw-samples-start-5 c = ?
-
--- src/lib.rt:99:13
-part-draw-samples-end-5 : tie.Need-part-draw-samples-end-5 Inv-loop μ-loop
-part-draw-samples-end-5 c = ?
-
--- src/lib.rt:100:13
-sub-draw-samples-6 : tie.Need-sub-draw-samples-6 Inv-loop μ-loop
-sub-draw-samples-6 c = ?
-
--- src/lib.rt:100:13
-part-draw-samples-start-6 : tie.Need-part-draw-samples-start-6 Inv-loop μ-loop
-part-draw-samples-start-6 c = ?
-
--- src/lib.rt:100:13
-part-draw-samples-end-6 : tie.Need-part-draw-samples-end-6 Inv-loop μ-loop
-part-draw-samples-end-6 c = ?
-
--- src/lib.rt:101:13
-mul-draw-samples : tie.Need-mul-draw-samples Inv-loop μ-loop
-mul-draw-samples c = ?
-
--- src/lib.rt:101:13
-sub-draw-samples-7 : tie.Need-sub-draw-samples-7 Inv-loop μ-loop
-sub-draw-samples-7 c = ?
-
--- src/lib.rt:101:13
-part-draw-samples-start-7 : tie.Need-part-draw-samples-start-7 Inv-loop μ-loop
-part-draw-samples-start-7 c = ?
-
--- src/lib.rt:101:13
-part-draw-samples-end-7 : tie.Need-part-draw-samples-end-7 Inv-loop μ-loop
-part-draw-samples-end-7 c = ?
-
--- src/lib.rt:93:9
 draw-samples-requires : tie.Need-draw-samples-requires Inv-loop μ-loop
-draw-samples-requires c κs = ?
+draw-samples-requires c κs =
+    let next = c .before .before .before .before .before .before .before in
+    let inv = next .before .before .loop .inv in
+    asked (chunk next) _ refl _ refl (room-kept (next .before .before .before .before .before .before .before .before .before .pre .0) (inv .z-kept) (inv .kept))
 
--- src/lib.rt:90:5
 loop-less : tie.Need-loop-less Inv-loop μ-loop
-loop-less c = ?
+loop-less c =
+    let next = c .before .before .before .before .before .before .before .before .before .before .before .before .before .before .before .before .before .before .before .before .before in
+    omega (arith, chunk next .some, chunk next .inside, next .before .before .loop .inv .reached .length-kept)
 
--- src/lib.rt:90:5
 loop-again : tie.Need-loop-again Inv-loop μ-loop
-loop-again c = ?
+loop-again c =
+    let next = c .before .before .before .before .before .before .before .before .before .before .before .before .before .before .before .before .before .before .before .before .before in
+    let inv = next .before .before .loop .inv in
+    record {
+      reached = again (chunk next) _ refl _ refl (inv .reached) (inv .reached .length-kept) (c .before .before .before .before .before .before .before .before .before .before .before .before .before .draw-samples .ensures);
+      z-kept = part-kept (search needs) (inv .z-kept);
+      kept = record {
+        places-kept = search needs;
+        r-kept = search needs;
+        x-kept = search needs;
+        coarse-kept = search needs;
+        fine-kept = search needs;
+      };
+    }
 
--- src/lib.rt:75:1
 same-length : tie.Need-same-length Inv-loop μ-loop
-same-length c = ?
+same-length c = c .before .loop .inv .z-kept
 
--- src/lib.rt:75:1
 same-length-2 : tie.Need-same-length-2 Inv-loop μ-loop
-same-length-2 c = ?
+same-length-2 c = c .before .loop .inv .kept .places-kept
 
--- src/lib.rt:75:1
 same-length-3 : tie.Need-same-length-3 Inv-loop μ-loop
-same-length-3 c = ?
+same-length-3 c = c .before .loop .inv .kept .r-kept
 
--- src/lib.rt:75:1
 same-length-4 : tie.Need-same-length-4 Inv-loop μ-loop
-same-length-4 c = ?
+same-length-4 c = c .before .loop .inv .kept .x-kept
 
--- src/lib.rt:75:1
 same-length-5 : tie.Need-same-length-5 Inv-loop μ-loop
-same-length-5 c = ?
+same-length-5 c = c .before .loop .inv .kept .coarse-kept
 
--- src/lib.rt:75:1
 same-length-6 : tie.Need-same-length-6 Inv-loop μ-loop
-same-length-6 c = ?
+same-length-6 c = c .before .loop .inv .kept .fine-kept
 
--- src/lib.rt:75:1
 same-length-7 : tie.Need-same-length-7 Inv-loop μ-loop
-same-length-7 c = ?
+same-length-7 c = c .before .loop .inv .reached .length-kept
 
--- src/lib.rt:75:1
 returns : tie.Need-returns Inv-loop μ-loop
-returns c = ?
+returns c =
+    let reached = c .before .loop .inv .reached in
+    ended reached (omega (arith, c .loop-test .left, reached .length-kept))
 
 pub by-chunks-spec : {M : Type 1} → statement M
-by-chunks-spec =
-    tie.close
-    (tie.spec
-    Inv-loop
-    μ-loop
-    loop-holds
-    mul-chunk-end
-    chunk-end-requires
-    sub-n
-    sub-draw-samples
-    part-draw-samples-start
-    part-draw-samples-end
-    sub-draw-samples-2
-    part-draw-samples-start-2
-    part-draw-samples-end-2
-    sub-draw-samples-3
-    part-draw-samples-start-3
-    part-draw-samples-end-3
-    sub-draw-samples-4
-    part-draw-samples-start-4
-    part-draw-samples-end-4
-    sub-draw-samples-5
-    part-draw-samples-start-5
-    part-draw-samples-end-5
-    sub-draw-samples-6
-    part-draw-samples-start-6
-    part-draw-samples-end-6
-    mul-draw-samples
-    sub-draw-samples-7
-    part-draw-samples-start-7
-    part-draw-samples-end-7
-    draw-samples-requires
-    loop-less
-    loop-again
-    same-length
-    same-length-2
-    same-length-3
-    same-length-4
-    same-length-5
-    same-length-6
-    same-length-7
-    returns)
+by-chunks-spec = tie.close
+    (tie.spec Inv-loop μ-loop loop-holds mul-chunk-end chunk-end-requires sub-n (λ c. search needs) (λ c. search needs) part-draw-samples-end
+    (λ c. search needs) (λ c. omega (arith, chunk (c .before .before .before .before .before .before) .some)) part-draw-samples-start-2 part-draw-samples-end-2 draw-samples-requires loop-less loop-again
+    same-length same-length-2 same-length-3 same-length-4 same-length-5 same-length-6 same-length-7 returns)

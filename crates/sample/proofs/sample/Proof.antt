@@ -1,71 +1,37 @@
+-- `sample` meets its contract: the two refusals, then the samples of the one z = 65536 k + v.
+use mathlib.Core.Path.{_≡_, refl}
+use mathlib.Core.List.{List, [], _∷_}
+use Prim.Native.Nat.{ℕ}
+use native.Mathlib.Omega.{arith}
 use borrow.Author.Needs.{needs}
+use lib.IntN.{ℤ}
+use Rattle.box_muller.specs.Steps.{fractionBits}
+use Rattle.box_muller.specs.Sample.{samplesOf, nineSixteenths}
+use Rattle.box_muller.specs.DataSheet.{thirtyThreeSixtyFourths}
+use Rattle.box_muller.proofs.Closeness.{room, closer-room}
+use Rattle.sample.proofs.AnswerLaws.{Answered, Near, answer-near, refused-two, refused-three, accepted}
 use Rattle.sample.proofs.sample.Statement.{statement}
 use Rattle.sample.proofs.sample.Tie as tie
-use Rattle.sample.proofs.sample.Reads as reads
-use Rattle.sample.proofs.sample.Lts as lts
-use Rattle.sample.proofs.passes.samples.Reads as samples-reads
 
--- src/lib.rt:31:9
+-- all clauses from the first two
+closely : {k v code : ℕ} {out : List ℤ} → Answered fractionBits k v code out
+    → (code ≡ samplesOf fractionBits k v .code) × ((out ≡ samplesOf fractionBits k v .first ∷ samplesOf fractionBits k v .second ∷ [])
+    × (Near nineSixteenths fractionBits k v out × Near thirtyThreeSixtyFourths fractionBits k v out))
+closely answered = (answered .0, (answered .1, (answer-near room answered, answer-near closer-room answered)))
+
 returns : tie.Need-returns
-returns c = ?
+returns c = closely (refused-two fractionBits _ _ (omega arith))
 
--- src/lib.rt:35:9
 returns-2 : tie.Need-returns-2
-returns-2 c = ?
+returns-2 c = closely (refused-three fractionBits _ _ (omega arith) (omega arith))
 
--- src/lib.rt:37:14
-mul-t11 : tie.Need-mul-t11
-mul-t11 c = search needs
-
--- src/lib.rt:37:14
-add-t13 : tie.Need-add-t13
-add-t13 c = search needs
-
--- src/lib.rt:43:13
-slice-aggregate-samples : tie.Need-slice-aggregate-samples
-slice-aggregate-samples c = search needs
-
--- src/lib.rt:43:17
-slice-aggregate-samples-2 : tie.Need-slice-aggregate-samples-2
-slice-aggregate-samples-2 c = search needs
-
--- src/lib.rt:43:30
-slice-aggregate-samples-3 : tie.Need-slice-aggregate-samples-3
-slice-aggregate-samples-3 c = search needs
-
--- src/lib.rt:43:38
-slice-aggregate-samples-4 : tie.Need-slice-aggregate-samples-4
-slice-aggregate-samples-4 c = search needs
-
--- src/lib.rt:43:46
-slice-aggregate-samples-5 : tie.Need-slice-aggregate-samples-5
-slice-aggregate-samples-5 c = search needs
-
--- src/lib.rt:43:59
-slice-aggregate-samples-6 : tie.Need-slice-aggregate-samples-6
-slice-aggregate-samples-6 c = search needs
-
--- src/lib.rt:43:5
-samples-requires : tie.Need-samples-requires
-samples-requires c κs = search needs
-
--- src/lib.rt:23:1
 returns-3 : tie.Need-returns-3
-returns-3 c = ?
+returns-3 c =
+    let called = c .before .before .before .before .before in
+    let tested = called .before .before .before .before .before .before .before .before in
+    closely (accepted fractionBits _ _ (omega arith) (omega arith) (called .samples .ensures))
 
 pub sample-spec : {M : Type 1} → statement M
-sample-spec =
-    tie.close
-    (tie.spec
-    returns
-    returns-2
-    mul-t11
-    add-t13
-    slice-aggregate-samples
-    slice-aggregate-samples-2
-    slice-aggregate-samples-3
-    slice-aggregate-samples-4
-    slice-aggregate-samples-5
-    slice-aggregate-samples-6
-    samples-requires
-    returns-3)
+sample-spec = tie.close
+    (tie.spec returns returns-2 (λ c. search needs) (λ c. search needs) (λ c. search needs) (λ c. search needs) (λ c. search needs) (λ c. search needs)
+    (λ c. search needs) (λ c. search needs) (λ c κs. search needs) returns-3)

@@ -3,13 +3,12 @@ use Prim.Native.Nat.{_-_}
 use native.Mathlib.Omega.{arith}
 use lib.ListN.{length}
 use borrow.Author.Needs.{needs}
-use Rattle.sample.proofs.PassLaws.{none-looked, one-looked, all-looked}
-use Rattle.sample.specs.Private.{Looked}
+use Rattle.sample.proofs.PassLaws.{Looking, none-looked, one-looked, all-looked}
 use Rattle.sample.proofs.passes.look_up.Statement.{statement}
 use Rattle.sample.proofs.passes.look_up.Tie as tie
 
 abbrev Inv-loop : tie.InvT-loop
-Inv-loop z places₀ r₀ x₀ coarse₀ fine₀ i₀ places r x coarse fine i = Looked z places r x coarse fine i
+Inv-loop z places₀ r₀ x₀ coarse₀ fine₀ i₀ places r x coarse fine i = Looking z places₀ r₀ x₀ coarse₀ fine₀ places r x coarse fine i
 
 abbrev μ-loop : tie.MeasureT-loop
 μ-loop z places₀ r₀ x₀ coarse₀ fine₀ i₀ places r x coarse fine i = length z - i
@@ -18,19 +17,19 @@ loop-holds : tie.Need-loop-holds Inv-loop μ-loop
 loop-holds c = none-looked (c .before .before .before .before .before .before .pre)
 
 slice-write-places : tie.Need-slice-write-places Inv-loop μ-loop
-slice-write-places c = omega (arith, c .before .before .before .before .loop-test .taken, c .before .before .before .before .before .loop .inv .as-many .places-size)
+slice-write-places c = omega (arith, c .before .before .before .before .loop-test .taken, c .before .before .before .before .before .loop .inv .looked .room .places-room)
 
 slice-write-r : tie.Need-slice-write-r Inv-loop μ-loop
-slice-write-r c = omega (arith, c .before .before .before .before .loop-test .taken, c .before .before .before .before .before .loop .inv .as-many .r-size)
+slice-write-r c = omega (arith, c .before .before .before .before .loop-test .taken, c .before .before .before .before .before .loop .inv .looked .room .r-room)
 
 slice-write-x : tie.Need-slice-write-x Inv-loop μ-loop
-slice-write-x c = omega (arith, c .before .before .before .before .loop-test .taken, c .before .before .before .before .before .loop .inv .as-many .x-size)
+slice-write-x c = omega (arith, c .before .before .before .before .loop-test .taken, c .before .before .before .before .before .loop .inv .looked .room .x-room)
 
 slice-write-coarse : tie.Need-slice-write-coarse Inv-loop μ-loop
-slice-write-coarse c = omega (arith, c .before .before .before .before .loop-test .taken, c .before .before .before .before .before .loop .inv .as-many .coarse-size)
+slice-write-coarse c = omega (arith, c .before .before .before .before .loop-test .taken, c .before .before .before .before .before .loop .inv .looked .room .coarse-room)
 
 slice-write-fine : tie.Need-slice-write-fine Inv-loop μ-loop
-slice-write-fine c = omega (arith, c .before .before .before .before .loop-test .taken, c .before .before .before .before .before .loop .inv .as-many .fine-size)
+slice-write-fine c = omega (arith, c .before .before .before .before .loop-test .taken, c .before .before .before .before .before .loop .inv .looked .room .fine-room)
 
 loop-again : tie.Need-loop-again Inv-loop μ-loop
 loop-again c =
@@ -38,22 +37,22 @@ loop-again c =
     (record { cell = c .before .before .cell-of .ensures; rotated = c .rotations-of .ensures })
 
 same-length : tie.Need-same-length Inv-loop μ-loop
-same-length c = omega (arith, c .before .loop .inv .as-many .places-size, c .before .before .before .before .before .before .before .before .pre .places-size)
+same-length c = c .before .loop .inv .kept .places-kept
 
 same-length-2 : tie.Need-same-length-2 Inv-loop μ-loop
-same-length-2 c = omega (arith, c .before .loop .inv .as-many .r-size, c .before .before .before .before .before .before .before .before .pre .r-size)
+same-length-2 c = c .before .loop .inv .kept .r-kept
 
 same-length-3 : tie.Need-same-length-3 Inv-loop μ-loop
-same-length-3 c = omega (arith, c .before .loop .inv .as-many .x-size, c .before .before .before .before .before .before .before .before .pre .x-size)
+same-length-3 c = c .before .loop .inv .kept .x-kept
 
 same-length-4 : tie.Need-same-length-4 Inv-loop μ-loop
-same-length-4 c = omega (arith, c .before .loop .inv .as-many .coarse-size, c .before .before .before .before .before .before .before .before .pre .coarse-size)
+same-length-4 c = c .before .loop .inv .kept .coarse-kept
 
 same-length-5 : tie.Need-same-length-5 Inv-loop μ-loop
-same-length-5 c = omega (arith, c .before .loop .inv .as-many .fine-size, c .before .before .before .before .before .before .before .before .pre .fine-size)
+same-length-5 c = c .before .loop .inv .kept .fine-kept
 
 returns : tie.Need-returns Inv-loop μ-loop
-returns c = all-looked (c .before .loop .inv) (c .loop-test .left)
+returns c = all-looked (c .before .loop .inv .looked) (c .loop-test .left)
 
 pub look-up-spec : {M : Type 1} → statement M
 look-up-spec = tie.close

@@ -27,16 +27,16 @@ loop-holds : tie.Need-loop-holds Inv-loop μ-loop
 loop-holds c = none-sampled
 
 shared-slice-read-root : tie.Need-shared-slice-read-root Inv-loop μ-loop
-shared-slice-read-root c = let turn = c .before in omega (arith, turn .loop-test .taken, turn .before .before .before .before .before .before .before .pre .0 .x-size)
+shared-slice-read-root c = let turn = c .before in omega (arith, turn .loop-test .taken, turn .before .before .before .before .before .before .before .pre .0 .x-room)
 
 shared-slice-read-root-2 : tie.Need-shared-slice-read-root-2 Inv-loop μ-loop
-shared-slice-read-root-2 c = let turn = c .before .before in omega (arith, turn .loop-test .taken, turn .before .before .before .before .before .before .before .pre .0 .r-size)
+shared-slice-read-root-2 c = let turn = c .before .before in omega (arith, turn .loop-test .taken, turn .before .before .before .before .before .before .before .pre .0 .r-room)
 
 shared-slice-read-pair-of-2 : tie.Need-shared-slice-read-pair-of-2 Inv-loop μ-loop
-shared-slice-read-pair-of-2 c = let turn = c .before .before .before .before .before in omega (arith, turn .loop-test .taken, turn .before .before .before .before .before .before .before .pre .0 .coarse-size)
+shared-slice-read-pair-of-2 c = let turn = c .before .before .before .before .before in omega (arith, turn .loop-test .taken, turn .before .before .before .before .before .before .before .pre .0 .coarse-room)
 
 shared-slice-read-pair-of-3 : tie.Need-shared-slice-read-pair-of-3 Inv-loop μ-loop
-shared-slice-read-pair-of-3 c = let turn = c .before .before .before .before .before .before in omega (arith, turn .loop-test .taken, turn .before .before .before .before .before .before .before .pre .0 .fine-size)
+shared-slice-read-pair-of-3 c = let turn = c .before .before .before .before .before .before in omega (arith, turn .loop-test .taken, turn .before .before .before .before .before .before .before .pre .0 .fine-room)
 
 -- the radius that is taken
 radius : (c : tie.After-root Inv-loop μ-loop) → c .root .result ≡ radiusOf (getD (c .before .before .before .before .before .before .before .before .before .before .args .z .now) (c .before .before .before .before .loop .i) 0 / 65536)
