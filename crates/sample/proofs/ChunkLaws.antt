@@ -73,7 +73,7 @@ chunk-is even₀ even some more e = record { inside = omega arith; some = omega 
 
 module _ {room most place end : ℕ} (chunk : Chunk room most place end) (z : List ℕ) (size : length z ≡ most) where
   -- its words are the first of z
-  pub words-room : (end - place) / 2 ≤ length z
+  words-room : (end - place) / 2 ≤ length z
   words-room = omega (arith, chunk .few)
 
   words-size : length (take ((end - place) / 2 - 0) z) ≡ (end - place) / 2
@@ -133,8 +133,8 @@ module _ {room most place end : ℕ} (chunk : Chunk room most place end) (z : Li
           }
 
 -- the part of z that was lent is back
-pub part-kept : {n m : ℕ} {z new : List ℕ} → length new ≡ length (take (n - 0) z) → length z ≡ m → length (putMid 0 (n - 0) z new) ≡ m
-part-kept {n} {m} {z} {new} e size = same-len-mid 0 (n - 0) z new e ∙ size
+pub part-kept : (k : ℕ) {m : ℕ} (z new : List ℕ) → length new ≡ length (take k z) → length z ≡ m → length (putMid 0 k z new) ≡ m
+part-kept k z new e size = same-len-mid 0 k z new e ∙ size
 
 -- all are written
 pub ended : {f : ℕ} {out₀ out : List ℤ} {u state : Lanes} {place : ℕ} → Reached f out₀ u out state place → length out₀ ≤ place

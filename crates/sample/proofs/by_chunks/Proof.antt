@@ -1,11 +1,11 @@
 -- `by_chunks` has written the samples before `at`.
 use mathlib.Core.Path.{refl}
-use Prim.Native.Nat.{_-_}
+use Prim.Native.Nat.{_-_, _/_}
 use native.Mathlib.Omega.{arith}
 use lib.ListN.{length}
 use borrow.Author.Needs.{needs}
 use Rattle.box_muller.specs.Steps.{fractionBits}
-use Rattle.sample.proofs.ChunkLaws.{Going, start, Chunk, chunk-is, words-room, room-kept, part-kept, asked, again, ended}
+use Rattle.sample.proofs.ChunkLaws.{Going, start, Chunk, chunk-is, room-kept, part-kept, asked, again, ended}
 use Rattle.sample.proofs.by_chunks.Statement.{statement}
 use Rattle.sample.proofs.by_chunks.Tie as tie
 
@@ -39,7 +39,7 @@ sub-n : tie.Need-sub-n Inv-loop μ-loop
 sub-n c = omega (arith, chunk c .some)
 
 part-draw-samples-end : tie.Need-part-draw-samples-end Inv-loop μ-loop
-part-draw-samples-end c = words-room (chunk c) _ refl
+part-draw-samples-end c = omega (arith, chunk c .few)
 
 part-draw-samples-start-2 : tie.Need-part-draw-samples-start-2 Inv-loop μ-loop
 part-draw-samples-start-2 c = omega (arith, chunk (c .before .before .before .before .before .before) .some)
@@ -64,7 +64,8 @@ loop-again c =
     let inv = next .before .before .loop .inv in
     record {
       reached = again (chunk next) _ refl _ refl (inv .reached) (inv .reached .length-kept) (c .before .before .before .before .before .before .before .before .before .before .before .before .before .draw-samples .ensures);
-      z-kept = part-kept (search needs) (inv .z-kept);
+      z-kept = part-kept ((next .chunk-end .result - next .before .before .loop .at) / 2 - 0) (next .before .before .loop .z) (c .before .before .before .before .before .before .before .before .before .before .before .before .before .draw-samples .last .1 .0)
+        (search needs) (inv .z-kept);
       kept = record {
         places-kept = search needs;
         r-kept = search needs;
