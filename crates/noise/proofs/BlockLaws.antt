@@ -15,7 +15,7 @@ use Rattle.streams.proofs.Theorems.{sound, pairs-accepted, after-moved}
 use Rattle.lanes.specs.declared.Lanes.{Lanes}
 use Rattle.lanes.specs.Lanes.{upper, lower}
 use Rattle.noise.specs.Noise.{samples, blockCode, blockOf, blockHolds, lookOf, lookHolds, takeOf, takeHolds}
-use Rattle.chunks.specs.Chunks.{Filled}
+use Rattle.sample.specs.Filled.{Filled}
 use Rattle.noise.specs.Private.{PairsDrawn}
 use Rattle.noise.proofs.Laws.{block-accepted, take-accepted, taken-pairs, samples-words}
 

@@ -1,4 +1,4 @@
-pub mod Drawn
+mod PairLaws
 pub mod Laws
 pub mod Notes
 mod BlockLaws

@@ -7,35 +7,37 @@ use lib.ListN.{length}
 use Rattle.streams.specs.declared.Generator.{Generator}
 use Rattle.streams.specs.declared.Uniforms.{Uniforms}
 use Rattle.streams.specs.declared.RecordAnswer.{RecordAnswer}
-use Rattle.streams.specs.Streams.{cleared, firstCause, codeOf, ifAccepted, uniformsOf, after}
+use Rattle.streams.specs.Streams.{cleared, codeOf, ifAccepted, uniformsOf, after}
 use Rattle.streams.specs.Streams.Call.{a-block, a-take}
 use Rattle.box_muller.specs.declared.Samples.{Samples}
 use Rattle.box_muller.specs.Sample.{samplesOf}
-use Rattle.noise.specs.declared.PairAnswer.{PairAnswer}
-use Rattle.noise.specs.declared.PairAnswer18.{PairAnswer18}
 
--- The samples of the call from k and v on two numbers drawn, and the next record; where they were refused, 0 0 and the record passed in.
-abbrev pub pairFrom : (code f : ℕ) → Uniforms → PairAnswer
-pairFrom code f drawn =
+-- What a pair returns: its refusal code, its two samples and the next record.
+pub record PairAnswer : Type 0 where
+  pub code : ℕ
+  pub first : ℤ
+  pub second : ℤ
+  pub next : Generator
+
+-- A pair: two numbers drawn, the samples of the call from k and v on them, which accepts them (`pair-drawn`), and the next record; where they were refused, 0 0 and
+-- the record passed in.
+unfoldable pub pairOf : ℕ → Generator → PairAnswer
+pairOf f g =
+    let drawn : Uniforms = uniformsOf g in
     let s : Samples = samplesOf f (drawn .k) (drawn .v) in
     record {
-      code = code;
+      code = drawn .code;
       first = ifAccepted (drawn .code) (s .first) (pos 0);
       second = ifAccepted (drawn .code) (s .second) (pos 0);
       next = drawn .next;
     }
 
--- Of any two numbers that are said to be drawn: the first of their refusal code and the one of the call from k and v.
-abbrev pub sampledOf : ℕ → Uniforms → PairAnswer
-sampledOf f drawn = pairFrom (firstCause (drawn .code ∷ samplesOf f (drawn .k) (drawn .v) .code ∷ [])) f drawn
+-- What the call returns beside its samples, and the samples in the caller's memory.
+abbrev pub pairReturns : ℕ → Generator → RecordAnswer
+pairReturns f g = record { code = pairOf f g .code; next = pairOf f g .next }
 
--- The same answer in the struct of the samples of 18 bits.
-abbrev pub pairAs18 : PairAnswer → PairAnswer18
-pairAs18 p = record { code = p .code; first = p .first; second = p .second; next = p .next }
-
--- A pair: two numbers drawn, and their samples; its refusal code is that of the draws, whose numbers the call from k and v accepts (`pair-sampled`).
-unfoldable pub pairOf : ℕ → Generator → PairAnswer
-pairOf f g = pairFrom (uniformsOf g .code) f (uniformsOf g)
+abbrev pub samplesIn : PairAnswer → List ℤ
+samplesIn p = p .first ∷ p .second ∷ []
 
 -- The samples of n pairs, first and second of each alternating.
 unfoldable pub samples : (f n : ℕ) → Generator → List ℤ

@@ -1,37 +1,31 @@
 // The calls whose samples have 18 bits, line for line like those of 16.
-use crate::PairAnswer18;
 use crate::onward;
 use crate::side_by_side;
 use crate::without_note;
-use chunks::chunks18;
+use sample::fill18;
 use streams::Generator;
 use streams::RecordAnswer;
-use streams::Uniforms;
 ghost use mathlib.Core.Path.{_≡_};
 ghost use lib.ListN.{length};
 ghost use Rattle.box_muller.specs.Steps.{fractionBits18};
-ghost use Rattle.noise.specs.Noise.{sampledOf, pairAs18, blockOf, blockHolds, lookOf, lookHolds, takeOf, takeHolds};
+ghost use Rattle.noise.specs.Noise.{pairOf, pairReturns, samplesIn, blockOf, blockHolds, lookOf, lookHolds, takeOf, takeHolds};
 
-// The samples of two numbers drawn, and the record after them.
-pub fn sampled18(drawn: Uniforms) -> PairAnswer18
-    ensures { λ r. ⌜ r ≡ pairAs18 (sampledOf fractionBits18 drawn) ⌝ }
+// The next pair of samples, in the caller's memory, and the record after it; refused, 0 and 0.
+pub fn pair18(g: Generator, out: &mut [i32; 2]) -> RecordAnswer
+    ensures { λ r. ⌜ r ≡ pairReturns fractionBits18 g ⌝ }
+    ensures { λ _. ⌜ now (out .exit) ≡ samplesIn (pairOf fractionBits18 g) ⌝ }
 {
+    let drawn = g.uniforms();
     let next = drawn.next;
     if drawn.code != 0 {
-        return PairAnswer18 {
+        *out = [0, 0];
+        return RecordAnswer {
             code: drawn.code,
-            first: 0,
-            second: 0,
             next,
         };
     }
-    let s = sample::sample18(drawn.k, drawn.v);
-    PairAnswer18 {
-        code: s.code,
-        first: s.first,
-        second: s.second,
-        next,
-    }
+    let code = sample::sample18(drawn.k, drawn.v, out);
+    RecordAnswer { code, next }
 }
 
 // A block of samples, first and second of each pair alternating.
@@ -45,7 +39,7 @@ pub fn block18(g: Generator, out: &mut [i32]) -> RecordAnswer
     }
     let n = (out.len() / 2) as u64;
     let streams = side_by_side(g);
-    let after = chunks18(streams, out);
+    let after = fill18(streams, out);
     let next = onward(g, after, n);
     RecordAnswer { code, next }
 }
@@ -61,7 +55,7 @@ pub fn look18(g: Generator, out: &mut [i32]) -> RecordAnswer
         return RecordAnswer { code, next: g };
     }
     let streams = side_by_side(free);
-    chunks18(streams, out);
+    fill18(streams, out);
     RecordAnswer { code, next: g }
 }
 
@@ -77,7 +71,7 @@ pub fn take18(g: Generator, out: &mut [i32]) -> RecordAnswer
     let free = without_note(g);
     let n = (out.len() / 2) as u64;
     let streams = side_by_side(free);
-    let after = chunks18(streams, out);
+    let after = fill18(streams, out);
     let next = onward(free, after, n);
     RecordAnswer { code, next }
 }

@@ -4,65 +4,38 @@ mod bits18;
 
 pub use bits18::block18;
 pub use bits18::look18;
-pub use bits18::sampled18;
+pub use bits18::pair18;
 pub use bits18::take18;
-use chunks::chunks;
-use chunks::filled;
 use lanes::Both;
 use lanes::Lanes;
+use sample::chunks;
+use sample::fill;
 use streams::Generator;
 use streams::RecordAnswer;
-use streams::Uniforms;
 ghost use mathlib.Core.Path.{_≡_};
 ghost use Prim.Native.Nat.{_+_, _≤_};
 ghost use lib.ListN.{length};
 ghost use Rattle.streams.specs.Streams.{cleared, onward, mostCount};
 ghost use Rattle.lanes.specs.Lanes.{upper, lower};
 ghost use Rattle.box_muller.specs.Steps.{fractionBits};
-ghost use Rattle.noise.specs.Noise.{sampledOf, pairOf, blockOf, blockHolds, lookOf, lookHolds, takeOf, takeHolds};
+ghost use Rattle.noise.specs.Noise.{pairOf, pairReturns, samplesIn, blockOf, blockHolds, lookOf, lookHolds, takeOf, takeHolds};
 
-pub struct PairAnswer {
-    pub code: u32,
-    pub first: i16,
-    pub second: i16,
-    pub next: Generator,
-}
-
-pub struct PairAnswer18 {
-    pub code: u32,
-    pub first: i32,
-    pub second: i32,
-    pub next: Generator,
-}
-
-// The samples of two numbers drawn, and the record after them.
-pub fn sampled(drawn: Uniforms) -> PairAnswer
-    ensures { λ r. ⌜ r ≡ sampledOf fractionBits drawn ⌝ }
+// The next pair of samples, in the caller's memory, and the record after it; refused, 0 and 0.
+pub fn pair(g: Generator, out: &mut [i16; 2]) -> RecordAnswer
+    ensures { λ r. ⌜ r ≡ pairReturns fractionBits g ⌝ }
+    ensures { λ _. ⌜ now (out .exit) ≡ samplesIn (pairOf fractionBits g) ⌝ }
 {
+    let drawn = g.uniforms();
     let next = drawn.next;
     if drawn.code != 0 {
-        return PairAnswer {
+        *out = [0, 0];
+        return RecordAnswer {
             code: drawn.code,
-            first: 0,
-            second: 0,
             next,
         };
     }
-    let s = sample::sample(drawn.k, drawn.v);
-    PairAnswer {
-        code: s.code,
-        first: s.first,
-        second: s.second,
-        next,
-    }
-}
-
-// The next pair of samples.
-pub fn pair(g: Generator) -> PairAnswer
-    ensures { λ r. ⌜ r ≡ pairOf fractionBits g ⌝ }
-{
-    let drawn = g.uniforms();
-    sampled(drawn)
+    let code = sample::sample(drawn.k, drawn.v, out);
+    RecordAnswer { code, next }
 }
 
 // The streams of a record, side by side.
@@ -111,7 +84,7 @@ pub fn block(g: Generator, out: &mut [i16]) -> RecordAnswer
     }
     let n = (out.len() / 2) as u64;
     let streams = side_by_side(g);
-    let after = filled(streams, out);
+    let after = fill(streams, out);
     let next = onward(g, after, n);
     RecordAnswer { code, next }
 }

@@ -18,7 +18,7 @@ returns-2 c =
     let free = cleared .without-note in
     let args = cleared .before .args in
     look-drawn _ (args .g) (args .out .now) (free .ensures) (tested .before .block-code .ensures) (tested .if1 .left)
-    (omega (arith, free .ok), c .before .before .before .side-by-side .ensures, c .before .chunks18 .ensures)
+    (omega (arith, free .ok), c .before .before .before .side-by-side .ensures, c .before .fill18 .ensures)
 
 pub look18-spec : {M : Type 1} → statement M
 look18-spec = tie.close

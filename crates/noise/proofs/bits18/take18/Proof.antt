@@ -20,7 +20,7 @@ returns-2 c =
     let free = cleared .without-note in
     let args = coded .before .args in
     take-drawn _ (args .g) (args .out .now) (coded .take-code .ensures) _ (cleared .before .if1 .left) (free .ensures)
-    (omega (arith, free .ok), c .before .before .before .before .side-by-side .ensures, c .before .before .chunks18 .ensures) (c .onward .ensures)
+    (omega (arith, free .ok), c .before .before .before .before .side-by-side .ensures, c .before .before .fill18 .ensures) (c .onward .ensures)
 
 pub take18-spec : {M : Type 1} → statement M
 take18-spec = tie.close
