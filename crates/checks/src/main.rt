@@ -61,11 +61,10 @@ fn show_jobs(text: &[u8]) {
 
 // The code and the samples of k and v.
 fn show_samples(k: u64, v: u32) {
-    let s = sample::sample(k, v);
-    let first = s.first;
-    let second = s.second;
-    number(s.code);
-    samples(&[first, second]);
+    let mut pair = [0i16; 2];
+    let code = sample::sample(k, v, &mut pair);
+    number(code);
+    samples(&pair);
 }
 
 // The codes of seeding and of a block of six samples, and the samples. All registers but the first are the same.

@@ -1,3 +1,2 @@
 -- What the proofs of several functions use, and the theorem of specs/Refused.antt.
-pub mod Stored
 pub mod Refused

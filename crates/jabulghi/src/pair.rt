@@ -9,9 +9,8 @@ ghost use Rattle.box_muller.specs.Steps.{fractionBits};
 ghost use Rattle.box_muller.specs.Sample.{samplesOf, nineSixteenths};
 ghost use Rattle.box_muller.specs.DataSheet.{thirtyThreeSixtyFourths};
 ghost use Rattle.exact.specs.Pair.{Close};
-ghost use Rattle.noise.specs.Noise.{pairOf};
+ghost use Rattle.noise.specs.Noise.{pairOf, samplesIn};
 ghost use Rattle.jabulghi_record.specs.Words.{wordsOf, generatorOf};
-ghost use Rattle.jabulghi.specs.Samples.{samplesIn};
 use jabulghi_record::words::packed;
 use jabulghi_record::words::unpacked;
 
@@ -23,13 +22,10 @@ pub extern "C" fn jabulghi_sample(k: u64, v: u32, samples: &mut [i16; 2]) -> u32
     ensures close { λ _. ⌜ (k < 2 ^ numberBits → v < 65536 → Close nineSixteenths fractionBits (inverse k) v (getD (now (samples .exit)) 0 (pos 0)) (getD (now (samples .exit)) 1 (pos 0))) ⌝ }
     ensures closer { λ _. ⌜ (k < 2 ^ numberBits → v < 65536 → Close thirtyThreeSixtyFourths fractionBits (inverse k) v (getD (now (samples .exit)) 0 (pos 0)) (getD (now (samples .exit)) 1 (pos 0))) ⌝ }
 {
-    let s = sample::sample(k, v);
-    *samples = [s.first, s.second];
-    s.code
+    sample::sample(k, v, samples)
 }
 
-// One pair of samples from a record. (`noise::pair` written out: its record then stays in registers, and calls one after another
-// overlap.)
+// One pair of samples from a record.
 #[no_mangle]
 pub extern "C" fn jabulghi_pair(words: &mut [u32; 10], samples: &mut [i16; 2]) -> u32
     ensures { λ r. ⌜ r ≡ pairOf fractionBits (generatorOf (now (words .entry))) .code ⌝ }
@@ -37,9 +33,7 @@ pub extern "C" fn jabulghi_pair(words: &mut [u32; 10], samples: &mut [i16; 2]) -
     ensures { λ _. ⌜ now (words .exit) ≡ wordsOf (pairOf fractionBits (generatorOf (now (words .entry))) .next) ⌝ }
 {
     let g = unpacked(*words);
-    let drawn = g.uniforms();
-    let pair = noise::sampled(drawn);
-    *samples = [pair.first, pair.second];
+    let pair = noise::pair(g, samples);
     *words = packed(pair.next);
     pair.code
 }

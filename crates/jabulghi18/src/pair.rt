@@ -8,9 +8,8 @@ ghost use Rattle.radius.specs.Steps.{numberBits, inverse};
 ghost use Rattle.box_muller.specs.Steps.{fractionBits18};
 ghost use Rattle.box_muller.specs.Sample.{samplesOf, threeQuarters};
 ghost use Rattle.exact.specs.Pair.{Close};
-ghost use Rattle.noise.specs.Noise.{pairOf};
+ghost use Rattle.noise.specs.Noise.{pairOf, samplesIn};
 ghost use Rattle.jabulghi_record.specs.Words.{wordsOf, generatorOf};
-ghost use Rattle.jabulghi.specs.Samples.{samplesIn};
 use jabulghi_record::words::packed;
 use jabulghi_record::words::unpacked;
 
@@ -21,12 +20,10 @@ pub extern "C" fn jabulghi_sample18(k: u64, v: u32, samples: &mut [i32; 2]) -> u
     ensures { λ _. ⌜ now (samples .exit) ≡ samplesOf fractionBits18 k v .first ∷ samplesOf fractionBits18 k v .second ∷ [] ⌝ }
     ensures close { λ _. ⌜ (k < 2 ^ numberBits → v < 65536 → Close threeQuarters fractionBits18 (inverse k) v (getD (now (samples .exit)) 0 (pos 0)) (getD (now (samples .exit)) 1 (pos 0))) ⌝ }
 {
-    let s = sample::sample18(k, v);
-    *samples = [s.first, s.second];
-    s.code
+    sample::sample18(k, v, samples)
 }
 
-// One pair of samples from a record, written out as in `jabulghi_pair`.
+// One pair of samples from a record.
 #[no_mangle]
 pub extern "C" fn jabulghi_pair18(words: &mut [u32; 10], samples: &mut [i32; 2]) -> u32
     ensures { λ r. ⌜ r ≡ pairOf fractionBits18 (generatorOf (now (words .entry))) .code ⌝ }
@@ -34,9 +31,7 @@ pub extern "C" fn jabulghi_pair18(words: &mut [u32; 10], samples: &mut [i32; 2])
     ensures { λ _. ⌜ now (words .exit) ≡ wordsOf (pairOf fractionBits18 (generatorOf (now (words .entry))) .next) ⌝ }
 {
     let g = unpacked(*words);
-    let drawn = g.uniforms();
-    let pair = noise::sampled18(drawn);
-    *samples = [pair.first, pair.second];
+    let pair = noise::pair18(g, samples);
     *words = packed(pair.next);
     pair.code
 }

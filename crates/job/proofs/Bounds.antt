@@ -6,16 +6,15 @@ use mathlib.Core.Path.{_≡_, refl, sym, ap}
 use mathlib.Core.Bool.{true≢false}
 use mathlib.Core.List.{List}
 use lib.IntN.{ℤ, pos, negsuc, natAbs}
-use lib.ListN.{length, take, drop, replicate}
+use lib.ListN.{length, getD, take, drop, replicate}
 use mir.Syntax.{w16}
-use mir.Val.{SFits, toZ, ofZ}
-use mir.Facts.{toZ-ofZ}
+use mir.Val.{toZ, ofZ}
 use borrow.Author.Tests.{ltb-false}
 use Rattle.streams.specs.declared.Generator.{Generator}
 use Rattle.noise.proofs.Theorems.{pair-sizes}
 use Rattle.box_muller.specs.Steps.{fractionBits}
-use Rattle.noise.specs.Noise.{pairOf}
-use Rattle.noise.specs.declared.PairAnswer.{PairAnswer}
+use Rattle.noise.specs.Noise.{PairAnswer, pairOf, samplesIn}
+use Rattle.signs.proofs.Sizes.{size-reads}
 use Rattle.job_refusals.specs.Limits.{lastLine, mostSigma, mostDistance, mostBearing}
 use Rattle.job_lines.specs.Forms.{Form, seeds, sigma, shot, noForm, shotIn, readLine}
 use Rattle.job_lines.specs.declared.Shot.{Shot as ShotFields}
@@ -113,12 +112,14 @@ pub printing : (s : State) (l : List ℕ) → Ready s → refusal (s .line) (rea
 printing s l r e = record { accepted = e; row = steps (s .line) l (s .setting) (r .steady) e .row; short = r .short }
 
 -- the row of a shot with its noise; the samples as 16 bits hold them
-pub noise-on : (line : List ℕ) (x : ShotFields) (s : Setting) (pair : PairAnswer) (mm step : ℕ) → pair ≡ pairOf fractionBits (s .generator)
-    → SFits w16 (pair .first) → mm ≡ noisyDistance (s .distance) (x .distance) (toZ w16 (ofZ w16 (pair .first)))
-    → SFits w16 (pair .second) → step ≡ noisyBearing (s .bearing) (x .bearing) (toZ w16 (ofZ w16 (pair .second)))
+pub noise-on : (line : List ℕ) (x : ShotFields) (s : Setting) (samples : List ℤ) (mm step : ℕ) → samples ≡ samplesIn (pairOf fractionBits (s .generator))
+    → mm ≡ noisyDistance (s .distance) (x .distance) (toZ w16 (ofZ w16 (getD samples 0 (pos 0))))
+    → step ≡ noisyBearing (s .bearing) (x .bearing) (toZ w16 (ofZ w16 (getD samples 1 (pos 0))))
     → rowOf line x mm step ≡ printed (shotIn line x) s
 unfolding printed noisyRow
-noise-on line x s pair mm step e first m second t = rw (m, toZ-ofZ first, t, toZ-ofZ second, e)
+noise-on line x s samples mm step e m t =
+    let sizes = pair-sizes fractionBits (s .generator) in
+    rw (m, t, e, size-reads w16 (pairOf fractionBits (s .generator) .first) (omega (arith, sizes .0)), size-reads w16 (pairOf fractionBits (s .generator) .second) (omega (arith, sizes .1)))
 
 -- the row of a shot, from its parts
 module _ (line : List ℕ) (x : ShotFields) (mm step : ℕ) (from to : List ℕ)

@@ -7,8 +7,7 @@ use lib.ListN.{length}
 use Rattle.streams.specs.declared.Generator.{Generator}
 use Rattle.streams.specs.Streams.{seedOf, after}
 use Rattle.box_muller.specs.Steps.{fractionBits}
-use Rattle.noise.specs.Noise.{pairOf}
-use Rattle.noise.specs.declared.PairAnswer.{PairAnswer}
+use Rattle.noise.specs.Noise.{PairAnswer, pairOf}
 use Rattle.text.specs.Scan.{lines}
 use Rattle.job_refusals.specs.Limits.{mostBytes, listingRoom, longestListing}
 use Rattle.job_lines.specs.Forms.{Form, seeds, sigma, shot, noForm, readLine, printLine, Printable}
