@@ -1,70 +1,41 @@
+-- `job::state::on_shot` meets its contract.
+use mathlib.Core.Path.{ap}
+use native.Mathlib.Omega.{arith}
 use borrow.Author.Needs.{needs}
+use Rattle.streams.specs.declared.RecordAnswer.{RecordAnswer}
+use Rattle.job.specs.Job.{settingAfter}
+use Rattle.job.specs.Private.{acceptedState, acceptedBuffer}
+use Rattle.job_refusals.proofs.Accepted.{line-few, shot-within}
+use Rattle.job.proofs.Bounds.{noise-on}
 use Rattle.job.proofs.state.on_shot.Statement.{statement}
 use Rattle.job.proofs.state.on_shot.Tie as tie
-use Rattle.job.proofs.state.on_shot.Reads as reads
-use Rattle.job.proofs.state.on_shot.Lts as lts
-use Rattle.job.proofs.shot.add_shot.Reads as add-shot-reads
-use Rattle.job.proofs.state.next_state.Reads as next-state-reads
-use Rattle.listing_writer.proofs.noisy_bearing.Reads as noisy-bearing-reads
-use Rattle.listing_writer.proofs.noisy_distance.Reads as noisy-distance-reads
-use Rattle.noise.proofs.pair.Reads as pair-reads
 
--- src/state.rt:52:9
-pair-requires : tie.Need-pair-requires
-pair-requires c κs = search needs
-
--- src/state.rt:53:47
 cast-noisy-distance : tie.Need-cast-noisy-distance
-cast-noisy-distance c = ?
+cast-noisy-distance c = omega (arith, shot-within _ _ _ _ _ (c .before .before .before .before .before .before .pre .accepted))
 
--- src/state.rt:53:66
-array-copy-out-noisy-distance : tie.Need-array-copy-out-noisy-distance
-array-copy-out-noisy-distance c = search needs
-
--- src/state.rt:53:9
-noisy-distance-requires : tie.Need-noisy-distance-requires
-noisy-distance-requires c κs = search needs
-
--- src/state.rt:54:47
 cast-noisy-bearing : tie.Need-cast-noisy-bearing
-cast-noisy-bearing c = ?
+cast-noisy-bearing c = omega (arith, shot-within _ _ _ _ _ (c .before .before .before .before .before .before .before .before .before .pre .accepted))
 
--- src/state.rt:54:65
-array-copy-out-noisy-bearing : tie.Need-array-copy-out-noisy-bearing
-array-copy-out-noisy-bearing c = search needs
-
--- src/state.rt:54:9
-noisy-bearing-requires : tie.Need-noisy-bearing-requires
-noisy-bearing-requires c κs = search needs
-
--- src/state.rt:55:9
 add-shot-requires : tie.Need-add-shot-requires
-add-shot-requires c κs = ?
+add-shot-requires c κs =
+    let at = c .before .before .before .before .before .before .before .before .before .before .before .before in
+    let row = noise-on (at .args .line .now) (at .args .x) (at .args .setting) _ _ _ (c .before .before .before .before .before .before .before .pair .ensures .1) (c .before .before .before .before .noisy-distance .ensures)
+    (c .before .noisy-bearing .ensures) in
+    record { short = at .pre .short; room = rw row (at .pre .row) }
 
--- src/state.rt:62:5
 next-state-requires : tie.Need-next-state-requires
-next-state-requires c κs = ?
+next-state-requires c κs = line-few _ _ (c .before .before .before .before .before .before .before .before .before .before .before .before .before .before .before .before .pre .accepted)
 
--- src/state.rt:38:1
-same-length : tie.Need-same-length
-same-length c = search needs
-
--- src/state.rt:38:1
 returns : tie.Need-returns
-returns c = ?
+unfolding acceptedState acceptedBuffer settingAfter
+returns c =
+    let at = c .before .before .before .before .before .before .before .before .before .before .before .before .before .before .before .before .before in
+    let (returned, written) = c .before .before .before .before .before .before .before .before .before .before .before .before .pair .ensures in
+    let row = noise-on (at .args .line .now) (at .args .x) (at .args .setting) _ _ _ written (c .before .before .before .before .before .before .before .before .before .noisy-distance .ensures) (c .before .before .before .before .before .before .noisy-bearing .ensures) in
+    let a = c .before .before .before .before .add-shot .ensures in
+    rw (← row, ← (ap (λ (r : RecordAnswer). r .next) returned), ← a .0) (c .next-state .ensures, a .1)
 
 pub on-shot-spec : {M : Type 1} → statement M
-on-shot-spec =
-    tie.close
-    (tie.spec
-    pair-requires
-    cast-noisy-distance
-    array-copy-out-noisy-distance
-    noisy-distance-requires
-    cast-noisy-bearing
-    array-copy-out-noisy-bearing
-    noisy-bearing-requires
-    add-shot-requires
-    next-state-requires
-    same-length
-    returns)
+on-shot-spec = tie.close
+    (tie.spec (λ c κs. tt) cast-noisy-distance (λ c. search needs) (λ c κs. tt) cast-noisy-bearing (λ c. search needs) (λ c κs. tt) add-shot-requires
+    next-state-requires (λ c. c .before .before .before .before .add-shot .kept .0) returns)
