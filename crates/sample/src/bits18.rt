@@ -21,14 +21,7 @@ ghost use Rattle.sample.specs.Filled.{LanesDrawn, Filled};
 ghost use Rattle.sample.specs.Private.{Room, Ready};
 
 // The samples of each z, from its 2Q, a near radius and its rotations.
-fn sample_each18(
-    z: &[u64],
-    x: &[u64],
-    r: &[u32],
-    coarse: &[u64],
-    fine: &[u64],
-    out: &mut [i32],
-)
+fn sample_each18(z: &[u64], x: &[u64], r: &[u32], coarse: &[u64], fine: &[u64], out: &mut [i32])
     requires { ⌜ Ready (now z) (now x) (now r) (now coarse) (now fine) × (length (now out) ≡ 2 * length (now z)) ⌝ }
     ensures { λ _. ⌜ now (out .exit) ≡ samplesAt fractionBits18 (now (z .entry)) ⌝ }
 {
@@ -153,5 +146,14 @@ pub fn fill18(streams: Lanes, out: &mut [i32]) -> Lanes
     if out.len() % 2 != 0 {
         return streams;
     }
-    by_chunks18(streams, &mut z, &mut places, &mut r, &mut x, &mut coarse, &mut fine, out)
+    by_chunks18(
+        streams,
+        &mut z,
+        &mut places,
+        &mut r,
+        &mut x,
+        &mut coarse,
+        &mut fine,
+        out,
+    )
 }

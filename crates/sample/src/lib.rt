@@ -124,7 +124,16 @@ pub fn chunks(streams: Lanes, out: &mut [i16]) -> Lanes
     if out.len() % 2 != 0 {
         return streams;
     }
-    by_chunks(streams, &mut z, &mut places, &mut r, &mut x, &mut coarse, &mut fine, out)
+    by_chunks(
+        streams,
+        &mut z,
+        &mut places,
+        &mut r,
+        &mut x,
+        &mut coarse,
+        &mut fine,
+        out,
+    )
 }
 
 // The most pairs in a short block, and the most samples.
@@ -145,7 +154,16 @@ fn short(streams: Lanes, out: &mut [i16]) -> Lanes
     if out.len() % 2 != 0 {
         return streams;
     }
-    by_chunks(streams, &mut z, &mut places, &mut r, &mut x, &mut coarse, &mut fine, out)
+    by_chunks(
+        streams,
+        &mut z,
+        &mut places,
+        &mut r,
+        &mut x,
+        &mut coarse,
+        &mut fine,
+        out,
+    )
 }
 
 // The most samples of few pairs.
@@ -164,7 +182,16 @@ fn one_by_one(streams: Lanes, out: &mut [i16]) -> Lanes
     if out.len() % 2 != 0 {
         return streams;
     }
-    by_chunks(streams, &mut z, &mut places, &mut r, &mut x, &mut coarse, &mut fine, out)
+    by_chunks(
+        streams,
+        &mut z,
+        &mut places,
+        &mut r,
+        &mut x,
+        &mut coarse,
+        &mut fine,
+        out,
+    )
 }
 
 // The same: few pairs one by one, a short block at once, and a longer one chunk by chunk.

@@ -65,7 +65,7 @@ loop-again c =
     record {
       reached = again (chunk next) _ refl _ refl (inv .reached) (inv .reached .length-kept) (c .before .before .before .before .before .before .before .before .before .before .before .before .before .draw-samples .ensures);
       z-kept = part-kept ((next .chunk-end .result - next .before .before .loop .at) / 2 - 0) (next .before .before .loop .z) (c .before .before .before .before .before .before .before .before .before .before .before .before .before .draw-samples .last .1 .0)
-        (search needs) (inv .z-kept);
+          (search needs) (inv .z-kept);
       kept = record {
         places-kept = search needs;
         r-kept = search needs;
