@@ -7,18 +7,20 @@ use Rattle.tables.proofs.Bounds.{bounds}
 use Rattle.angle.specs.Steps.{sine, cosine, sineAt, cosineAt}
 use Rattle.angle.specs.Rotations.{Rotated}
 
--- products of halves fit 64 bits, and so do two of a half and one of 31 bits
-pub halves-fit : (x y : ℕ) → x < 2 ^ 32 → y < 2 ^ 32 → x * y < 2 ^ 64
-halves-fit x y h k =
+-- products of numbers of 32 bits fit 64 bits, and so does a sum of two that have a factor of 31 bits each
+pub product-fits : (x y : ℕ) → x < 2 ^ 32 → y < 2 ^ 32 → x * y < 2 ^ 64
+product-fits x y h k =
     let p : x ≤ 2 ^ 32 - 1 = omega arith in
     let q : y ≤ 2 ^ 32 - 1 = omega arith in
     omega (arith, mul-le-mul p q)
 
-pub small-fit : (x y : ℕ) → x < 2 ^ 32 → y < 2 ^ 31 → x * y < 2 ^ 63
-small-fit x y h k =
-    let p : x ≤ 2 ^ 32 - 1 = omega arith in
-    let q : y ≤ 2 ^ 31 - 1 = omega arith in
-    omega (arith, mul-le-mul p q)
+pub sum-fits : (x y u v : ℕ) → x < 2 ^ 31 → y < 2 ^ 32 → u < 2 ^ 32 → v < 2 ^ 31 → x * y + u * v < 2 ^ 64
+sum-fits x y u v hx hy hu hv =
+    let p : x ≤ 2 ^ 31 - 1 = omega arith in
+    let q : y ≤ 2 ^ 32 - 1 = omega arith in
+    let r : u ≤ 2 ^ 32 - 1 = omega arith in
+    let s : v ≤ 2 ^ 31 - 1 = omega arith in
+    omega (arith, mul-le-mul p q, mul-le-mul r s)
 
 lower : (x e : ℕ) → x % 2 ^ 32 ≡ e → e ≤ 2 ^ 30 → x % 2 ^ 31 ≡ e
 lower x e is most = omega arith

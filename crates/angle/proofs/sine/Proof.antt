@@ -1,25 +1,18 @@
 -- `angle::sine` meets its contract: its products and their sum fit 64 bits.
 use native.Mathlib.Omega.{arith}
-use Prim.Native.Nat.{_*_, _/_, _%_, _^_, _<_}
 use borrow.Author.Needs.{needs}
-use Rattle.angle.proofs.RotationLaws.{small-fit, sine-from}
+use Rattle.angle.proofs.RotationLaws.{product-fits, sum-fits, sine-from}
 use Rattle.angle.proofs.sine.Statement.{statement}
 use Rattle.angle.proofs.sine.Tie as tie
 
-first-fits : (c : tie.Start) → c .args .fine / 2 ^ 32 * (c .args .coarse % 2 ^ 31) < 2 ^ 63
-first-fits c = small-fit _ _ (omega arith) (omega arith)
-
-second-fits : (c : tie.Start) → c .args .coarse / 2 ^ 32 * (c .args .fine % 2 ^ 31) < 2 ^ 63
-second-fits c = small-fit _ _ (omega arith) (omega arith)
-
 mul-sum : tie.Need-mul-sum
-mul-sum c = omega (arith, first-fits c)
+mul-sum c = record { fits = product-fits _ _ (omega arith) (omega arith) }
 
 mul-sum-2 : tie.Need-mul-sum-2
-mul-sum-2 c = omega (arith, second-fits c)
+mul-sum-2 c = record { fits = product-fits _ _ (omega arith) (omega arith) }
 
 add-sum : tie.Need-add-sum
-add-sum c = omega (arith, first-fits c, second-fits c)
+add-sum c = record { fits = sum-fits _ _ _ _ (omega arith) (omega arith) (omega arith) (omega arith) }
 
 returns : tie.Need-returns
 returns c w rotated = sine-from rotated
