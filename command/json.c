@@ -57,13 +57,29 @@ static void add_figures(const task *t, const tally *kept, growing *to) {
     add(to, "  \"share_beyond\": %.9g,\n  \"share_farther\": %.9g,\n", (double)kept->beyond / (double)kept->runs, (double)kept->farther / (double)kept->runs);
 }
 
+/* The survey's own names of a leg; of a survey its file and line, too. */
+static void add_origin(const task *t, size_t leg, growing *to) {
+    origin o = origin_of(&t->s, &t->shots, leg);
+    add(to, "\"from\": ");
+    add_string(to, o.from);
+    add(to, ", \"to\": ");
+    add_string(to, o.to);
+    if (t->s.about == SURVEY) {
+        add(to, ", \"file\": ");
+        add_string(to, o.file);
+        add(to, ", \"line\": %zu", o.line);
+    }
+    add(to, "}");
+}
+
 static void add_candidates(const task *t, const tally *kept, growing *to) {
     static candidate found[2 * MOST_SHOTS];
     ellipse e = ellipse_of_runs(kept);
     size_t count = is_below(kept, DOUBTFUL) ? candidates_of(t, &e, found) : 0;
     add(to, "  \"candidates\": [");
     for (size_t j = 0; j < count; j++) {
-        add(to, "%s\n    {\"leg\": %zu, \"%s\": %.3f, \"remains\": %.4f}", j == 0 ? "" : ",", found[j].leg + 1, found[j].bearing ? "bearing_degrees" : "distance_mm", found[j].correction, found[j].remains);
+        add(to, "%s\n    {\"leg\": %zu, \"%s\": %.3f, \"remains\": %.4f, ", j == 0 ? "" : ",", found[j].leg + 1, found[j].bearing ? "bearing_degrees" : "distance_mm", found[j].correction, found[j].remains);
+        add_origin(t, found[j].leg, to);
     }
     add(to, count == 0 ? "],\n" : "\n  ],\n");
 }

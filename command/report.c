@@ -53,8 +53,10 @@ static void list_candidates(const task *t, const ellipse *e, growing *to) {
     size_t count = candidates_of(t, e, found);
     add(to, "%s\n", sentence(count == 0 ? NO_CANDIDATE : CANDIDATES));
     for (size_t j = 0; j < count && j < MOST_PRINTED; j++) {
-        const shot *s = &t->shots.shots[found[j].leg];
-        add(to, "  leg %zu, %s to %s: ", found[j].leg + 1, s->from, s->to);
+        origin o = origin_of(&t->s, &t->shots, found[j].leg);
+        add(to, "  leg %zu, %s to %s", found[j].leg + 1, o.from, o.to);
+        if (t->s.about == SURVEY) add(to, " (%s:%zu)", o.file, o.line);
+        add(to, ": ");
         add(to, found[j].bearing ? "bearing %+.1f degrees" : "distance %+.0f mm", found[j].correction);
         add(to, " (%s %%%s)\n", percent(word, (uint64_t)(found[j].remains * 1e6), 1000000), is_near_limit(&found[j]) ? ", near the limit" : "");
     }

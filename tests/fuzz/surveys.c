@@ -67,7 +67,7 @@ static void hold_messages(const struct survey *s, const struct survey_message *a
 int LLVMFuzzerTestOneInput(const uint8_t *bytes, size_t length);
 int LLVMFuzzerTestOneInput(const uint8_t *bytes, size_t length) {
     given all = {bytes, length, 0};
-    struct survey *s = survey_read("cave/cave.svx", bytes, length, length % 2 == 0 ? fetch : NULL, &all);
+    struct survey *s = survey_read("cave/cave.svx", bytes, length, length % 16 == 0 ? fetch : NULL, &all);
     hold(s != NULL);
     hold(s->trouble_count > 0 || s->leg_count > 0);
     hold(s->told_count == (s->trouble_count < SURVEY_MOST_TROUBLES ? s->trouble_count : SURVEY_MOST_TROUBLES));
