@@ -71,22 +71,24 @@ static const char *decimal(const char *at, uint64_t *millionths) {
     return at == point + 1 ? NULL : at;
 }
 
-/* A decimal and its unit; the place after them, or NULL. */
-const char *read_measure(const char *at, measure *read) {
-    static const struct { const char *word; unit in; uint64_t scale; } UNITS[] = {
-        {"mm", MILLIMETRES, 1}, {"cm", MILLIMETRES, 10}, {"m", MILLIMETRES, 1000}, {"deg", DEGREES, 1}, {"steps", STEPS, 1}, {"", NO_UNIT, 1}};
+/* A decimal and its unit; the place after them, or NULL. Centimetres, metres and a blank before the unit are taken where `more` says so. */
+static const char *measure_at(const char *at, bool more, measure *read) {
+    static const struct { const char *word; unit in; uint64_t scale; bool more; } UNITS[] = {
+        {"mm", MILLIMETRES, 1, false}, {"cm", MILLIMETRES, 10, true}, {"m", MILLIMETRES, 1000, true}, {"deg", DEGREES, 1, false}, {"steps", STEPS, 1, false}, {"", NO_UNIT, 1, false}};
     at = decimal(at, &read->millionths);
     if (at == NULL) return NULL;
-    at += *at == ' ';
+    at += more && *at == ' ';
     size_t j = 0;
-    while (strncmp(at, UNITS[j].word, strlen(UNITS[j].word)) != 0) j++;
+    while ((UNITS[j].more && !more) || strncmp(at, UNITS[j].word, strlen(UNITS[j].word)) != 0) j++;
     read->in = UNITS[j].in;
     read->millionths *= UNITS[j].scale;
     return at + strlen(UNITS[j].word);
 }
 
+const char *read_measure(const char *at, measure *read) { return measure_at(at, true, read); }
+
 int sigma_of(const option *given, measure *sigma) {
-    const char *end = read_measure(given->value, sigma);
+    const char *end = measure_at(given->value, false, sigma);
     return end != NULL && *end == '\0' && sigma->in != NO_UNIT ? DONE : wrong(NO_SIGMA, given->name, given->value);
 }
 
@@ -103,8 +105,8 @@ static int steps_of(const option *given, const measure *read, uint32_t *steps) {
 
 int sigmas_of(const option *given, uint32_t sigma[2]) {
     measure distance, bearing;
-    const char *at = read_measure(given->value, &distance);
-    at = at != NULL && *at == ',' ? read_measure(at + 1, &bearing) : NULL;
+    const char *at = measure_at(given->value, false, &distance);
+    at = at != NULL && *at == ',' ? measure_at(at + 1, false, &bearing) : NULL;
     if (at == NULL || *at != '\0' || distance.in == DEGREES || distance.in == STEPS) return wrong(NO_SIGMAS, given->name, given->value);
     if (distance.millionths % 1000000 != 0 || distance.millionths / 1000000 > 1000) return wrong(NO_WHOLE_MM, given->name, given->value);
     sigma[0] = (uint32_t)(distance.millionths / 1000000);

@@ -1,7 +1,8 @@
 /* The reader of surveys on any bytes (tests/fuzz/run).
  *
- * What it gives is whole: every index is in range, every reading is where it says that it stands, a leg's vector follows from its readings, and a survey that is
- * refused has a sentence. A file that it includes is a part of the same bytes. */
+ * What it gives is whole: every index is in range, every reading is where it says that it stands, a leg's vector
+ * follows from its readings, and a survey that is refused has a sentence. A file that it includes is a part of the same
+ * bytes. */
 #include "../../survey/survey.h"
 #include <math.h>
 #include <stdlib.h>
@@ -37,7 +38,8 @@ static void hold_reading(const struct survey *s, const struct survey_reading *on
 
 static void hold_leg(const struct survey *s, const struct survey_leg *leg) {
     double *value = malloc((leg->reading_count + 1) * sizeof *value), vector[3];
-    hold(value != NULL && leg->from < s->station_count && leg->to < s->station_count && leg->from != leg->to && leg->trip < s->trip_count);
+    hold(value != NULL && leg->from < s->station_count && leg->to < s->station_count && leg->from != leg->to &&
+         leg->trip < s->trip_count);
     hold(leg->shots > 0 && leg->reading_count % leg->shots == 0);
     for (size_t j = 0; j < leg->reading_count; j++) {
         hold_reading(s, &leg->readings[j]);
@@ -45,7 +47,8 @@ static void hold_leg(const struct survey *s, const struct survey_leg *leg) {
     }
     survey_vector_of(leg, value, vector);
     double size = 1e-9 * (1 + fabs(leg->length) + fabs(leg->up));
-    hold(!(fabs(vector[0] - leg->east) > size) && !(fabs(vector[1] - leg->north) > size) && !(fabs(vector[2] - leg->up) > size));
+    hold(!(fabs(vector[0] - leg->east) > size) && !(fabs(vector[1] - leg->north) > size) &&
+         !(fabs(vector[2] - leg->up) > size));
     hold(leg->bearing >= 0 && leg->bearing < 360);
     free(value);
 }
@@ -56,12 +59,16 @@ static void hold_stations(const struct survey *s) {
         hold(one->name != NULL && one->name[0] != '\0' && one->same <= j && s->stations[one->same].same == one->same);
         hold(one->file < s->file_count && (one->fix == SURVEY_NONE || one->fix < s->fix_count));
     }
-    for (size_t j = 0; j < s->equate_count; j++) hold(s->stations[s->equates[j].one].same == s->stations[s->equates[j].other].same);
-    for (size_t j = 0; j < s->sight_count; j++) hold(s->sights[j].from < s->station_count && s->sights[j].to < s->station_count);
+    for (size_t j = 0; j < s->equate_count; j++)
+        hold(s->stations[s->equates[j].one].same == s->stations[s->equates[j].other].same);
+    for (size_t j = 0; j < s->sight_count; j++)
+        hold(s->sights[j].from < s->station_count && s->sights[j].to < s->station_count);
 }
 
 static void hold_messages(const struct survey *s, const struct survey_message *all, size_t count) {
-    for (size_t j = 0; j < count; j++) hold(all[j].file < s->file_count && all[j].text != NULL && all[j].text[0] != '\0' && strchr(all[j].text, '\n') == NULL);
+    for (size_t j = 0; j < count; j++)
+        hold(all[j].file < s->file_count && all[j].text != NULL && all[j].text[0] != '\0' &&
+             strchr(all[j].text, '\n') == NULL);
 }
 
 int LLVMFuzzerTestOneInput(const uint8_t *bytes, size_t length);

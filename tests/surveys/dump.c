@@ -44,9 +44,11 @@ static void put_messages(const struct survey *s, const char *kind, const struct 
 }
 
 static void put_stations(const struct survey *s) {
-    for (size_t j = 0; j < s->station_count; j++)
-        printf("station\t%s\t%s%s\n", s->stations[j].name, s->stations[s->stations[j].same].name,
+    for (size_t j = 0; j < s->station_count; j++) {
+        const struct survey_station *same = &s->stations[s->stations[j].same];
+        printf("station\t%s\t%s\t%s%s\n", s->stations[j].name, same->name, same->fix == SURVEY_NONE ? "free" : "fixed",
                s->stations[j].entrance ? "\tentrance" : "");
+    }
     for (size_t j = 0; j < s->equate_count; j++) {
         printf("equate\t%s:%zu\t%s\t%s\n", s->files[s->equates[j].file].name, s->equates[j].line,
                s->stations[s->equates[j].one].name, s->stations[s->equates[j].other].name);

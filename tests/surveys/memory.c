@@ -1,5 +1,5 @@
-/* memory FILE..: reads each survey again and again, the first, second, third .. request for memory being refused, until none is: no survey and no leak, or all of it.
- * Linked with --wrap for malloc, calloc and realloc. */
+/* memory FILE..: reads each survey again and again, the first, second, third .. request for memory being refused, until
+ * none is: no survey and no leak, or all of it. Linked with --wrap for malloc, calloc and realloc. */
 #include "../../survey/survey.h"
 #include <stdio.h>
 #include <stdlib.h>
