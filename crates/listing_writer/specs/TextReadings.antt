@@ -25,7 +25,7 @@ rowReadings =
     ∷ prints (refusedRow 6 3) "REFUSED 6 3\n"
     ∷ prints (refusedRow 5 0) "REFUSED 5 0\n"
     ∷ prints (refusedRow 12 1) "REFUSED 12 1\n"
-    -- sigmas 4 mm and 10 steps, samples one deviation up and two down: "First sample to distance, second to bearing"
+    -- sigmas 4 mm and 10 steps, samples one deviation up and two down: "First sample to distance .., second to bearing"
     ∷ prints (noisyRow 4 10 (ascii "A") (ascii "B") 1000 5 (pos 2048) (negℤ (pos 4096))) "A B 1004 65521\n"
     ∷ prints (noisyRow 4 10 (ascii "A") (ascii "B") 1 65530 (negℤ (pos 4096)) (pos 2048)) "A B 0 4\n"
     ∷ []
