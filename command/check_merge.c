@@ -10,7 +10,7 @@ typedef struct {
     char *bytes;
     const char *played;
     uint64_t first, plays;
-    double statistic;
+    double statistic, hold;
     uint32_t seeds[6];
 } part;
 
@@ -28,9 +28,12 @@ static const char *member(const part *p, const char *name) {
 static bool read_members(part *p) {
     const char *statistic = member(p, "\n  \"statistic\": "), *seeds = member(p, "\n  \"seeds\": ["),
                *first = member(p, "\n  \"first\": "), *plays = member(p, "\n  \"plays\": ");
+    const char *hold = member(p, "\n  \"hold\": ");
     p->played = member(p, "\n  \"played\": [\n");
-    if (statistic == NULL || seeds == NULL || first == NULL || plays == NULL || p->played == NULL) return false;
+    if (statistic == NULL || seeds == NULL || first == NULL || plays == NULL || p->played == NULL || hold == NULL)
+        return false;
     p->statistic = strtod(statistic, NULL);
+    p->hold = strtod(hold, NULL);
     p->first = strtoull(first, NULL, 10);
     p->plays = strtoull(plays, NULL, 10);
     for (int j = 0; j < 6; j++) {
@@ -71,7 +74,8 @@ static bool read_plays(const part *p, struct judge_played *played) {
 /* Whether a part is of this cave, and goes on where the one before it ends. */
 static int follows(const part *parts, size_t j, const struct judge_cave *cave) {
     const part *p = &parts[j];
-    bool same = p->statistic == cave->statistic && memcmp(p->seeds, parts[0].seeds, sizeof p->seeds) == 0;
+    bool same = p->statistic == cave->statistic && p->hold == judge_hold(cave) &&
+                memcmp(p->seeds, parts[0].seeds, sizeof p->seeds) == 0;
     if (!same) return wrong(OTHER_PLAYS, p->name);
     if (j == 0) return DONE;
     uint64_t end = p[-1].first + p[-1].plays;

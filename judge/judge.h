@@ -171,6 +171,9 @@ bool judge_verdict_of(struct judge_cave *cave, uint64_t first, struct judge_play
                       struct judge_verdict *verdict);
 void judge_verdict_free(struct judge_verdict *verdict);
 
+/* The sum of the diagonals of H over all passages: it tells errors apart, where the statistic alone would not. */
+double judge_hold(const struct judge_cave *cave);
+
 /* The smallest blunders of a leg that would have shown in 80 % of cases: metres, and degrees or 0 for none. */
 struct judge_vector judge_smallest(const struct judge_cave *cave, const struct judge_verdict *v,
                                    const struct judge_edge *edge);

@@ -69,3 +69,9 @@ struct judge_vector judge_smallest(const struct judge_cave *cave, const struct j
     return (struct judge_vector){v->shows / sqrt(judge_form(hold, along)),
                                  chord > 1 ? 0 : 2 * asin(chord) * (360 / TURN)};
 }
+
+double judge_hold(const struct judge_cave *cave) {
+    double sum = 0;
+    for (size_t j = 0; j < cave->passage_count; j++) sum += cave->passages[j].hold.east + cave->passages[j].hold.north;
+    return sum;
+}

@@ -76,8 +76,8 @@ static void add_error(const struct judge_cave *cave, enum judge_error error, gro
     } NAMES[] = {{"tape", "mm", 1000}, {"compass", "degrees", 1}, {"clino", "degrees", 1}, {"stations", "mm", 1000}};
     struct judge_range range = judge_range_of(cave, error);
     double low = range.low * NAMES[error].scale, high = range.high * NAMES[error].scale;
-    add(to, "%s %.3g", NAMES[error].name, low);
-    if (high > low * 1.0005) add(to, " to %.3g", high);
+    add(to, low < 1000 ? "%s %.3g" : "%s %.0f", NAMES[error].name, low);
+    if (high > low * 1.0005) add(to, high < 1000 ? " to %.3g" : " to %.0f", high);
     add(to, " %s", NAMES[error].scale == 1 && fabs(high - 1) < 5e-4 ? "degree" : NAMES[error].unit);
 }
 

@@ -194,6 +194,7 @@ void judge_json(const struct judge_cave *cave, const struct judge_verdict *v, co
     add_verdict(cave, v, to);
     add(to, "  \"statistic\": %.17g,\n  \"misfit\": %.9g,\n  \"limit\": %.9g,\n  \"shows\": %.9g,\n", cave->statistic,
         cave->misfit, v->limit, v->shows);
+    add(to, "  \"hold\": %.17g,\n", judge_hold(cave));
     add(to, "  \"passages\": %zu,\n  \"trips\": %zu,\n  \"pairs_per_play\": %zu,\n", cave->passage_count,
         cave->trip_count, cave->samples / 2);
     add_sigma(cave, to);
