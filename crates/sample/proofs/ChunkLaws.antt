@@ -14,11 +14,10 @@ use Rattle.streams.specs.Streams.{advance}
 use Rattle.lanes.specs.declared.Lanes.{Lanes}
 use Rattle.lanes.specs.Lanes.{upper, lower, words, LanesAfter}
 use Rattle.lanes.proofs.Theorems.{words-add, length-words}
-use Rattle.sample.specs.Samples.{samplesAt}
+use Rattle.passes.specs.Samples.{samplesAt, Room}
 use Rattle.sample.specs.Filled.{LanesDrawn, Filled}
-use Rattle.sample.specs.Private.{Room}
-use Rattle.sample.proofs.SamplesLaws.{samples-append, samples-length}
-use Rattle.sample.proofs.PassLaws.{Kept}
+use Rattle.passes.proofs.SamplesLaws.{samples-append, samples-length}
+use Rattle.passes.proofs.PassLaws.{Kept}
 
 -- two samples for each word
 drawn-length : (f n : ℕ) (a b : Stream) → length (samplesAt f (words n a b)) ≡ 2 * n

@@ -2,7 +2,7 @@
 use mathlib.Core.Path.{ap, _∙_}
 use borrow.Author.Needs.{needs}
 use Rattle.box_muller.specs.Steps.{fractionBits}
-use Rattle.sample.specs.Samples.{samplesAt}
+use Rattle.passes.specs.Samples.{samplesAt}
 use Rattle.sample.proofs.draw_samples.Statement.{statement}
 use Rattle.sample.proofs.draw_samples.Tie as tie
 
@@ -10,7 +10,7 @@ returns : tie.Need-returns
 returns c =
     let called = c .before .before .before .before .before .before .before .before .before .before .before in
     let (after, drawn) = called .before .before .before .before .before .before .before .before .before .before .draw-pairs .ensures in
-    record { now-at = after; written = called .samples .ensures ∙ ap (samplesAt fractionBits) drawn }
+    record { now-at = after; written = called .samples .ensures (search needs) (search needs) ∙ ap (samplesAt fractionBits) drawn }
 
 pub draw-samples-spec : {M : Type 1} → statement M
 draw-samples-spec = tie.close
