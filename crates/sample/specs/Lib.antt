@@ -1,4 +1,2 @@
--- The samples of many pairs, and what two streams leave in the caller's memory.
-pub mod Samples
+-- What two streams leave in the caller's memory.
 pub mod Filled
-pub mod Private

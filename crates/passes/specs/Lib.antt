@@ -1,0 +1,3 @@
+-- The samples of many pairs.
+pub mod Samples
+pub mod Private
