@@ -5,7 +5,8 @@
 
 #define TURN 6.283185307179586476925286766559
 
-/* Below 5 % of sound surveys what remains of the miss is no noise. Other seeds make that share a little other: what is near the limit is kept and marked. */
+/* Below 5 % of sound surveys what remains of the miss is no noise. Other seeds make that share a little other: what is
+ * near the limit is kept and marked. */
 #define LEAST_SHARE 0.04
 #define NEAR_SHARE 0.0625
 
@@ -17,7 +18,8 @@ static double share_of(double remains) { return erfc(sqrt(remains / 2)); }
 /* Where the miss goes once a leg is turned. */
 static vector turned(vector miss, const shot *s, double by) {
     double angle = s->bearing * (TURN / 65536);
-    return (vector){miss.east + s->distance * (sin(angle + by) - sin(angle)), miss.north + s->distance * (cos(angle + by) - cos(angle))};
+    return (vector){miss.east + s->distance * (sin(angle + by) - sin(angle)),
+                    miss.north + s->distance * (cos(angle + by) - cos(angle))};
 }
 
 /* The turn that leaves least: the best of half degrees, then ever smaller steps around it. */
@@ -37,11 +39,14 @@ static double best_turn(vector miss, const shot *s, const ellipse *e, double *le
     return best;
 }
 
-/* The change of distance that leaves least: the reach is a square in it, with its least where the slope is 0. No distance falls below 0. */
+/* The change of distance that leaves least: the reach is a square in it, with its least where the slope is 0. No
+ * distance falls below 0. */
 static double best_change(vector miss, const shot *s, const ellipse *e, double *left) {
     double angle = s->bearing * (TURN / 65536), east = miss.east - e->centre.east, north = miss.north - e->centre.north;
-    double along = sin(angle) * e->cosine + cos(angle) * e->sine, across = cos(angle) * e->cosine - sin(angle) * e->sine;
-    double slope = along * (east * e->cosine + north * e->sine) / e->longer + across * (north * e->cosine - east * e->sine) / e->shorter;
+    double along = sin(angle) * e->cosine + cos(angle) * e->sine,
+           across = cos(angle) * e->cosine - sin(angle) * e->sine;
+    double slope = along * (east * e->cosine + north * e->sine) / e->longer +
+                   across * (north * e->cosine - east * e->sine) / e->shorter;
     double change = fmax(-slope / (along * along / e->longer + across * across / e->shorter), -(double)s->distance);
     *left = reach(e, (vector){miss.east + change * sin(angle), miss.north + change * cos(angle)});
     return change;

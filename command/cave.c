@@ -40,8 +40,10 @@ int read_cave(const text *source, struct survey **read) {
     return accept(*read, source->name);
 }
 
-/* Millimetres and steps, of which a turn has 65536, as units of their own; lines before the first shot are not those of the text that it came from. */
-static const char HEAD[] = "*case preserve\n*units tape 0.001 metres\n*units compass 0.0054931640625 degrees\n*data normal from to tape compass\n";
+/* Millimetres and steps, of which a turn has 65536, as units of their own; lines before the first shot are not those of
+ * the text that it came from. */
+static const char HEAD[] = "*case preserve\n*units tape 0.001 metres\n*units compass 0.0054931640625 degrees\n*data "
+                           "normal from to tape compass\n";
 enum { HEAD_LINES = 4 };
 
 int cave_of_shots(const survey *from, struct survey **read) {
@@ -50,7 +52,9 @@ int cave_of_shots(const survey *from, struct survey **read) {
     size_t before = from->about == JOB ? 2 : 1;
     read_shots(from->shots, from->length, false, &shots);
     add(&written, "%s", HEAD);
-    for (size_t j = 0; j < shots.count; j++) add(&written, "%s %s %" PRIu32 " %" PRIu32 "\n", shots.shots[j].from, shots.shots[j].to, shots.shots[j].distance, shots.shots[j].bearing);
+    for (size_t j = 0; j < shots.count; j++)
+        add(&written, "%s %s %" PRIu32 " %" PRIu32 "\n", shots.shots[j].from, shots.shots[j].to,
+            shots.shots[j].distance, shots.shots[j].bearing);
     if (written.failed) return trouble(from->source.name, strerror(ENOMEM));
     *read = survey_read(from->source.name, (const uint8_t *)written.bytes, written.length, NULL, NULL);
     free(written.bytes);

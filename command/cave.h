@@ -6,8 +6,8 @@
 
 #include "../survey/survey.h"
 
-/* cave.c: reads a survey and the files that it includes; what is worth a note, and why it is refused, goes to standard error. TROUBLE where it is
- * refused. The shots of a job or a listing as a survey. */
+/* cave.c: reads a survey and the files that it includes; what is worth a note, and why it is refused, goes to standard
+ * error. TROUBLE where it is refused. The shots of a job or a listing as a survey. */
 int read_cave(const text *source, struct survey **read);
 int cave_of_shots(const survey *from, struct survey **read);
 

@@ -11,7 +11,8 @@
 int errors_of(const option *given, struct judge_sigmas *sigmas);
 int trip_of(const option *given, struct judge_sigmas *sigmas);
 
-/* The same of a loop's shots, tape in whole millimetres and compass in steps; for a survey or a listing both are needed. */
+/* The same of a loop's shots, tape in whole millimetres and compass in steps; for a survey or a listing both are
+ * needed. */
 int shot_errors_of(const option *given, survey *s);
 
 /* check_merge.c: the plays of parts that --json wrote of one cave with the same seeds. */

@@ -9,7 +9,8 @@ const unsigned THOUSANDTHS[QUANTILES] = {500, 900, 950, 990, 999};
 /* A noise is rounded to whole millimetres or steps, which adds a twelfth to its variance; no noise has none. */
 static double variance_of(uint32_t sigma) { return sigma == 0 ? 0 : (double)sigma * sigma + 1.0 / 12; }
 
-/* The covariance of one leg's end, exact for Gaussian errors: with h = exp(-variance of the bearing), E sin^2 (b + error) = (1 - h^2 cos 2b) / 2, and so on. */
+/* The covariance of one leg's end, exact for Gaussian errors: with h = exp(-variance of the bearing), E sin^2 (b +
+ * error) = (1 - h^2 cos 2b) / 2, and so on. */
 static covariance of_leg(const shot *s, double distance, double bearing) {
     double d = s->distance, angle = s->bearing * (TURN / 65536), sine = sin(angle), cosine = cos(angle);
     double h = exp(-bearing), rest = -expm1(-bearing); /* rest = 1 - h */
@@ -23,7 +24,8 @@ static covariance of_leg(const shot *s, double distance, double bearing) {
 
 /* The sum over the legs, and the rounding of east and north to whole millimetres. */
 static covariance spread_of(const task *t) {
-    double step = TURN / 65536, distance = variance_of(t->s.sigma[0]), bearing = variance_of(t->s.sigma[1]) * step * step;
+    double step = TURN / 65536, distance = variance_of(t->s.sigma[0]),
+           bearing = variance_of(t->s.sigma[1]) * step * step;
     covariance sum = t->more;
     for (size_t j = 0; j < t->shots.count; j++) {
         covariance leg = of_leg(&t->shots.shots[j], distance, bearing);
@@ -36,7 +38,8 @@ static covariance spread_of(const task *t) {
     return sum;
 }
 
-/* The probability that a Gaussian vector with these variances along its axes is no longer than a radius: an average over directions. */
+/* The probability that a Gaussian vector with these variances along its axes is no longer than a radius: an average
+ * over directions. */
 static double within_radius(double longer, double shorter, double radius) {
     enum { DIRECTIONS = 1024 };
     double sum = 0;
@@ -47,12 +50,14 @@ static double within_radius(double longer, double shorter, double radius) {
     return sum / DIRECTIONS;
 }
 
-/* The radius that so many thousandths of the vectors lie within, by halving; along one axis alone where shorter is 0. */
+/* The radius that so many thousandths of the vectors lie within, by halving; along one axis alone where shorter is 0.
+ */
 static double quantile(double longer, double shorter, unsigned thousandths) {
     double low = 0, high = 10 * sqrt(longer + shorter);
     if (!(longer > 0)) return 0;
     for (int j = 0; j < 60; j++) {
-        double middle = (low + high) / 2, share = shorter > 0 ? within_radius(longer, shorter, middle) : erf(middle / sqrt(2 * longer));
+        double middle = (low + high) / 2,
+               share = shorter > 0 ? within_radius(longer, shorter, middle) : erf(middle / sqrt(2 * longer));
         if (share * 1000 < thousandths) low = middle;
         else high = middle;
     }
@@ -75,7 +80,8 @@ closed_form closed_form_of(const task *t) {
     return closed;
 }
 
-/* Steps of a millimetre, or of ten, a hundred and so on where there would be more than ten thousand of them in the distance's root mean square. */
+/* Steps of a millimetre, or of ten, a hundred and so on where there would be more than ten thousand of them in the
+ * distance's root mean square. */
 uint64_t width_for(const closed_form *closed) {
     uint64_t width = 1;
     while (closed->rms[DISTANCE] > 1e4 * (double)width) width *= 10;

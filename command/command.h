@@ -1,4 +1,5 @@
-/* What the parts of the command `jabulghi` share. The command is plain C over the proved library: nothing in this folder is proved. */
+/* What the parts of the command `jabulghi` share. The command is plain C over the proved library: nothing in this
+ * folder is proved. */
 #ifndef COMMAND_H
 #define COMMAND_H
 
@@ -9,8 +10,9 @@
 #include <stdbool.h>
 #include <sys/types.h>
 
-/* Exit statuses: all went well; the library refused what it was given; wrong usage, or a read or write that failed. ENOUGH is no exit status: nobody
- * reads the output any more, and the command ends as if it were done. UNSOUND is none either: all went well, and the exit status is 1. */
+/* Exit statuses: all went well; the library refused what it was given; wrong usage, or a read or write that failed.
+ * ENOUGH is no exit status: nobody reads the output any more, and the command ends as if it were done. UNSOUND is none
+ * either: all went well, and the exit status is 1. */
 enum { DONE = 0, REFUSED = 1, TROUBLE = 2, ENOUGH = 3, UNSOUND = 4 };
 
 /* The shots that a job takes, and room for a name of it, its end included. */
@@ -20,29 +22,89 @@ enum { MOST_SHOTS = 500, NAME_ROOM = 13 };
 #define ANY_LOOP UINT64_MAX
 
 /* A text as it was read, under the name that messages give it. */
-typedef struct { const char *name; uint8_t *bytes; size_t length; } text;
+typedef struct {
+    const char *name;
+    uint8_t *bytes;
+    size_t length;
+} text;
 
 /* What a refusal is about: each has sentences of its own. */
 typedef enum { JOB, SURVEY, LISTING, RECORD } subject;
 
-/* A line that was refused, its line feed included, and the text that it stands in; a line that is missing has no bytes. */
-typedef struct { const uint8_t *text, *bytes; size_t length, number; } bad_line;
+/* A line that was refused, its line feed included, and the text that it stands in; a line that is missing has no bytes.
+ */
+typedef struct {
+    const uint8_t *text, *bytes;
+    size_t length, number;
+} bad_line;
 
 /* What a user is told besides refusals; sentences.c has the words. */
 typedef enum {
-    NO_COMMAND, NO_SUCH_COMMAND, NO_SUCH_OPTION, LACKS_VALUE, TAKES_NO_VALUE, GIVEN_TWICE, ONE_FILE, NO_FILE, NEEDS, EITHER,
-    NO_NUMBER, NUMBER_ABOVE, NO_BITS, NO_SEEDS, NO_SIGMA, NO_SIGMAS, NO_WHOLE_MM, NO_STEPS, TOO_FEW_STEPS, TOO_MUCH, READING, SEEDS_DRAWN,
-    NO_SHOT, STARTS_ELSEWHERE, NO_LOOP, PART_CLOSES, NO_RUN, NO_JOBS, NO_MISS, NO_PART, OTHER_PART, SAME_RUNS, MISSING_RUNS, NOT_MERGED, LACKS_FILE,
-    NO_ERRORS, NO_TRIP, FEW_PLAYS, OTHER_PLAYS,
-    MODELLED, MODELLED_MORE, ALL_ALIKE, ON_A_LINE, VERDICT, NO_BLUNDER, BLUNDER_POSSIBLE, BLUNDER_LIKELY, CANDIDATES, NO_CANDIDATE,
+    NO_COMMAND,
+    NO_SUCH_COMMAND,
+    NO_SUCH_OPTION,
+    LACKS_VALUE,
+    TAKES_NO_VALUE,
+    GIVEN_TWICE,
+    ONE_FILE,
+    NO_FILE,
+    NEEDS,
+    EITHER,
+    NO_NUMBER,
+    NUMBER_ABOVE,
+    NO_BITS,
+    NO_SEEDS,
+    NO_SIGMA,
+    NO_SIGMAS,
+    NO_WHOLE_MM,
+    NO_STEPS,
+    TOO_FEW_STEPS,
+    TOO_MUCH,
+    READING,
+    SEEDS_DRAWN,
+    NO_SHOT,
+    STARTS_ELSEWHERE,
+    NO_LOOP,
+    PART_CLOSES,
+    NO_RUN,
+    NO_JOBS,
+    NO_MISS,
+    NO_PART,
+    OTHER_PART,
+    SAME_RUNS,
+    MISSING_RUNS,
+    NOT_MERGED,
+    LACKS_FILE,
+    NO_ERRORS,
+    NO_TRIP,
+    FEW_PLAYS,
+    OTHER_PLAYS,
+    MODELLED,
+    MODELLED_MORE,
+    ALL_ALIKE,
+    ON_A_LINE,
+    VERDICT,
+    NO_BLUNDER,
+    BLUNDER_POSSIBLE,
+    BLUNDER_LIKELY,
+    CANDIDATES,
+    NO_CANDIDATE,
 } saying;
 
-/* An option: its name, "--seeds" or "-n", whether it stands alone, and what was given: NULL for nothing, its own name where it stands alone. */
-typedef struct { const char *name; bool alone; const char *value; } option;
+/* An option: its name, "--seeds" or "-n", whether it stands alone, and what was given: NULL for nothing, its own name
+ * where it stands alone. */
+typedef struct {
+    const char *name;
+    bool alone;
+    const char *value;
+} option;
 
 /* A sigma among the words: in millionths of its unit. */
 typedef enum { NO_UNIT, MILLIMETRES, DEGREES, STEPS } unit;
-typedef struct { uint64_t millionths; unit in; } measure;
+typedef struct {
+    uint64_t millionths;
+    unit in;
+} measure;
 
 /* The commands: each takes the words after its own name and returns an exit status. */
 int list(int count, char **words);
@@ -73,8 +135,8 @@ const char *read_measure(const char *at, measure *read);
 int draw_seeds(uint32_t numbers[6]);
 #define SEEDS_LINE "(seeds (a %" PRIu32 " %" PRIu32 " %" PRIu32 ") (b %" PRIu32 " %" PRIu32 " %" PRIu32 "))"
 
-/* sentences.c: says on standard error why a text was refused, and where; "FILE:LINE: sentence (NUMBER)", without a line where the whole text is meant.
- * Says what went wrong with the words of the command line, or what is worth a note. */
+/* sentences.c: says on standard error why a text was refused, and where; "FILE:LINE: sentence (NUMBER)", without a line
+ * where the whole text is meant. Says what went wrong with the words of the command line, or what is worth a note. */
 int refuse(const text *refused, subject about, size_t line, uint32_t number);
 int refuse_option(const char *name, uint32_t number);
 const char *sentence(saying what);
@@ -93,12 +155,13 @@ bool has_bad_tape(const bad_line *line);
 bool has_long_tape(const bad_line *line);
 bool has_large_compass(const bad_line *line);
 
-/* reading.c: reads a whole file, or standard input where the name is "-"; or the one file that the words name, none being standard input. */
+/* reading.c: reads a whole file, or standard input where the name is "-"; or the one file that the words name, none
+ * being standard input. */
 int read_text(const char *name, text *read);
 int read_named(int count, char **words, text *read);
 
-/* writing.c: writes to standard output, or to the file that was named; says on standard error what went wrong. A text that grew is written to a file
- * of that name, or to the output for NULL, and emptied. */
+/* writing.c: writes to standard output, or to the file that was named; says on standard error what went wrong. A text
+ * that grew is written to a file of that name, or to the output for NULL, and emptied. */
 void write_to(const option *given);
 int put(const void *bytes, size_t length);
 int put_words(const char *format, ...);
@@ -107,13 +170,18 @@ int put_grown(const char *name, growing *written);
 int finish(int status);
 int trouble(const char *what, const char *why);
 
-/* progress.c: a line on standard error, where that is a terminal and what is counted goes elsewhere, once a run takes longer than a second. */
+/* progress.c: a line on standard error, where that is a terminal and what is counted goes elsewhere, once a run takes
+ * longer than a second. */
 void progress_start(const char *counted, bool elsewhere);
 void progress_show(uint64_t done, uint64_t all);
 void progress_end(uint64_t done, uint64_t all);
 
 /* threads.c: pieces of work, so many at a time, by so many threads; the number of the first that failed. */
-typedef struct { uint32_t (*run)(void *context, uint64_t start, size_t count); void *context; uint64_t pieces, stretch, threads; } labour;
+typedef struct {
+    uint32_t (*run)(void *context, uint64_t start, size_t count);
+    void *context;
+    uint64_t pieces, stretch, threads;
+} labour;
 uint32_t by_threads(const labour *work, const char *counted);
 
 /* system.c: what Linux and Windows do in different ways. Names are UTF-8. */

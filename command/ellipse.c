@@ -2,12 +2,13 @@
 #include "tolerance.h"
 #include <math.h>
 
-/* Runs are in whole millimetres: a variance below this is none. It stands in for it, so that what lies off the runs' line, or off their only point, is
- * beyond them all. */
+/* Runs are in whole millimetres: a variance below this is none. It stands in for it, so that what lies off the runs'
+ * line, or off their only point, is beyond them all. */
 #define NO_VARIANCE 1e-6
 
 ellipse ellipse_of(covariance spread, vector centre) {
-    double half = (spread.east - spread.north) / 2, middle = (spread.east + spread.north) / 2, longer = middle + hypot(half, spread.both);
+    double half = (spread.east - spread.north) / 2, middle = (spread.east + spread.north) / 2,
+           longer = middle + hypot(half, spread.both);
     double shorter = longer > NO_VARIANCE ? (spread.east * spread.north - spread.both * spread.both) / longer : 0;
     double angle = atan2(spread.both, half) / 2;
     return (ellipse){centre, fmax(longer, NO_VARIANCE), fmax(shorter, NO_VARIANCE), cos(angle), sin(angle)};

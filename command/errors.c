@@ -85,7 +85,8 @@ int trip_of(const option *given, struct judge_sigmas *sigmas) {
 /* Whole millimetres, and the nearest steps, as a job has them. */
 static int whole_errors(const option *given, const struct judge_sigmas *read, survey *s) {
     double tape = read->of[JUDGE_TAPE] * 1000, steps = read->of[JUDGE_COMPASS] * 65536 / 360;
-    if (read->given[JUDGE_TAPE] && (fabs(tape - round(tape)) > 1e-9 || tape > 1000)) return wrong(NO_WHOLE_MM, given->name, given->value);
+    if (read->given[JUDGE_TAPE] && (fabs(tape - round(tape)) > 1e-9 || tape > 1000))
+        return wrong(NO_WHOLE_MM, given->name, given->value);
     if (read->given[JUDGE_COMPASS] && steps >= 1000.5) return wrong(NO_STEPS, given->name, given->value);
     if (read->given[JUDGE_COMPASS] && steps > 0 && steps < 0.5) return wrong(TOO_FEW_STEPS, given->name, given->value);
     if (read->given[JUDGE_TAPE]) s->sigma[0] = (uint32_t)round(tape);
@@ -99,6 +100,7 @@ int shot_errors_of(const option *given, survey *s) {
     struct judge_sigmas read = {{0}, {false}, NULL};
     if (strchr(given->value, '=') == NULL) return sigmas_of(given, s->sigma);
     if (!read_list(given->value, &read) || read.given[JUDGE_POINT]) return wrong(NO_ERRORS, given->name, given->value);
-    if (s->about != JOB && (!read.given[JUDGE_TAPE] || !read.given[JUDGE_COMPASS])) return wrong(NEEDS, given->name, "tape and compass");
+    if (s->about != JOB && (!read.given[JUDGE_TAPE] || !read.given[JUDGE_COMPASS]))
+        return wrong(NEEDS, given->name, "tape and compass");
     return whole_errors(given, &read, s);
 }

@@ -3,7 +3,8 @@
 #include <inttypes.h>
 #include <string.h>
 
-/* Reads digits up to the first byte that is none, without a leading zero but 0 itself; the place after them, or NULL. A number above most is large. */
+/* Reads digits up to the first byte that is none, without a leading zero but 0 itself; the place after them, or NULL. A
+ * number above most is large. */
 static const char *digits(const char *at, uint64_t most, uint64_t *number, bool *large) {
     const char *start = at;
     *number = 0;
@@ -28,7 +29,8 @@ int number_of(const option *given, uint64_t most, uint64_t *number) {
     return DONE;
 }
 
-/* Reads six numbers where the form has #; all else stands as in the form. Where one is too large, its digits are named. */
+/* Reads six numbers where the form has #; all else stands as in the form. Where one is too large, its digits are named.
+ */
 static bool read_form(const char *form, const char *word, uint32_t numbers[6], const char **large, int *length) {
     size_t read = 0;
     for (*large = NULL; *form != '\0'; form++) {
@@ -53,7 +55,8 @@ static bool read_form(const char *form, const char *word, uint32_t numbers[6], c
 int seeds_of(const option *given, uint32_t numbers[6]) {
     const char *large;
     int length;
-    if (!read_form("(seeds (a # # #) (b # # #))", given->value, numbers, &large, &length) && !read_form("#,#,#,#,#,#", given->value, numbers, &large, &length))
+    if (!read_form("(seeds (a # # #) (b # # #))", given->value, numbers, &large, &length) &&
+        !read_form("#,#,#,#,#,#", given->value, numbers, &large, &length))
         return wrong(NO_SEEDS, given->name, given->value);
     return large == NULL ? DONE : wrong(NUMBER_ABOVE, given->name, length, large, (uint64_t)UINT32_MAX);
 }
@@ -71,10 +74,16 @@ static const char *decimal(const char *at, uint64_t *millionths) {
     return at == point + 1 ? NULL : at;
 }
 
-/* A decimal and its unit; the place after them, or NULL. Centimetres, metres and a blank before the unit are taken where `more` says so. */
+/* A decimal and its unit; the place after them, or NULL. Centimetres, metres and a blank before the unit are taken
+ * where `more` says so. */
 static const char *measure_at(const char *at, bool more, measure *read) {
-    static const struct { const char *word; unit in; uint64_t scale; bool more; } UNITS[] = {
-        {"mm", MILLIMETRES, 1, false}, {"cm", MILLIMETRES, 10, true}, {"m", MILLIMETRES, 1000, true}, {"deg", DEGREES, 1, false}, {"steps", STEPS, 1, false}, {"", NO_UNIT, 1, false}};
+    static const struct {
+        const char *word;
+        unit in;
+        uint64_t scale;
+        bool more;
+    } UNITS[] = {{"mm", MILLIMETRES, 1, false}, {"cm", MILLIMETRES, 10, true}, {"m", MILLIMETRES, 1000, true},
+                 {"deg", DEGREES, 1, false},    {"steps", STEPS, 1, false},    {"", NO_UNIT, 1, false}};
     at = decimal(at, &read->millionths);
     if (at == NULL) return NULL;
     at += more && *at == ' ';
@@ -94,7 +103,8 @@ int sigma_of(const option *given, measure *sigma) {
 
 /* A sigma of bearing in steps, of which a turn has 65536; degrees to the nearest. */
 static int steps_of(const option *given, const measure *read, uint32_t *steps) {
-    uint64_t whole = read->in == DEGREES ? (read->millionths * 65536 + 180000000) / 360000000 : read->millionths / 1000000;
+    uint64_t whole =
+        read->in == DEGREES ? (read->millionths * 65536 + 180000000) / 360000000 : read->millionths / 1000000;
     bool exact = read->in == DEGREES || read->millionths % 1000000 == 0;
     if (read->in == MILLIMETRES) return wrong(NO_SIGMAS, given->name, given->value);
     if (!exact || whole > 1000) return wrong(NO_STEPS, given->name, given->value);
@@ -107,8 +117,10 @@ int sigmas_of(const option *given, uint32_t sigma[2]) {
     measure distance, bearing;
     const char *at = measure_at(given->value, false, &distance);
     at = at != NULL && *at == ',' ? measure_at(at + 1, false, &bearing) : NULL;
-    if (at == NULL || *at != '\0' || distance.in == DEGREES || distance.in == STEPS) return wrong(NO_SIGMAS, given->name, given->value);
-    if (distance.millionths % 1000000 != 0 || distance.millionths / 1000000 > 1000) return wrong(NO_WHOLE_MM, given->name, given->value);
+    if (at == NULL || *at != '\0' || distance.in == DEGREES || distance.in == STEPS)
+        return wrong(NO_SIGMAS, given->name, given->value);
+    if (distance.millionths % 1000000 != 0 || distance.millionths / 1000000 > 1000)
+        return wrong(NO_WHOLE_MM, given->name, given->value);
     sigma[0] = (uint32_t)(distance.millionths / 1000000);
     return steps_of(given, &bearing, &sigma[1]);
 }

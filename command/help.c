@@ -21,21 +21,27 @@ static const char OVERVIEW[] =
     "Exit status: 0 done; 1 refused, with the reason on standard error; 2 wrong usage, or a read or write failed.\n"
     "check: 0 sound, or no loop; 1 not sound; 2 wrong usage, or the survey cannot be read.\n";
 
-static const struct { const char *command, *text; } HELP[] = {
-    {"list", "usage: jabulghi list [FILE] [-o FILE]\n\nPrints the listing of a job: each shot with its noise, and the count of shots.\n"},
+static const struct {
+    const char *command, *text;
+} HELP[] = {
+    {"list", "usage: jabulghi list [FILE] [-o FILE]\n\nPrints the listing of a job: each shot with its noise, and the "
+             "count of shots.\n"},
     {"legs", "usage: jabulghi legs [FILE] [-o FILE]\n\nPrints the shot lines of a Survex survey's level legs.\n"},
-    {"level",
-     "usage: jabulghi level [FILE] [--loop N] [-o FILE]\n"
-     "\n"
-     "Writes the legs of an ordinary Survex survey's loop as the strict text that legs takes, whole or not at all. It is not proved.\n"
-     "It reads what cavern reads, included files among it. Standard error says what was done, and the new names of stations; or, of a survey\n"
-     "that is refused, its troubles with file and line, the first 20 of them.\n"
-     "  --loop N  the loop that is written, where the survey has several; not given, they are listed\n"},
-    {"misses", "usage: jabulghi misses [FILE] [-o FILE]\n\nPrints how far the loop of a listing misses, east and north in whole millimetres.\n"},
+    {"level", "usage: jabulghi level [FILE] [--loop N] [-o FILE]\n"
+              "\n"
+              "Writes the legs of an ordinary Survex survey's loop as the strict text that legs takes, whole or not at "
+              "all. It is not proved.\n"
+              "It reads what cavern reads, included files among it. Standard error says what was done, and the new "
+              "names of stations; or, of a survey\n"
+              "that is refused, its troubles with file and line, the first 20 of them.\n"
+              "  --loop N  the loop that is written, where the survey has several; not given, they are listed\n"},
+    {"misses", "usage: jabulghi misses [FILE] [-o FILE]\n\nPrints how far the loop of a listing misses, east and north "
+               "in whole millimetres.\n"},
     {"job",
      "usage: jabulghi job [FILE] --sigma SIGMAS [--seeds SEEDS] [--loop N] [-o FILE]\n"
      "\n"
-     "Prints a job with the legs of a Survex survey, the rows of a listing or the shots of another job, whole or not at all. A survey that legs\n"
+     "Prints a job with the legs of a Survex survey, the rows of a listing or the shots of another job, whole or not "
+     "at all. A survey that legs\n"
      "does not take is read as by level.\n"
      "  --sigma SIGMAS  of distance and bearing: 4mm,0.5deg or 4,91 (millimetres, steps of which a turn has 65536);\n"
      "                  for a job its own, where not given\n"
@@ -43,16 +49,21 @@ static const struct { const char *command, *text; } HELP[] = {
      "                  for a job its own, where not given; else some are drawn\n"
      "  --loop N        the loop that is taken, where an ordinary survey has several\n"},
     {"tolerance",
-     "usage: jabulghi tolerance [FILE] --sigma SIGMAS [--seeds SEEDS] [--loop N] [--runs N] [--first N] [--miss E,N] [--jobs N] [--csv|--json]\n"
+     "usage: jabulghi tolerance [FILE] --sigma SIGMAS [--seeds SEEDS] [--loop N] [--runs N] [--first N] [--miss E,N] "
+     "[--jobs N] [--csv|--json]\n"
      "                          [--svg FILE] [-o FILE]\n"
      "       jabulghi tolerance [FILE] --sigma SIGMAS --seeds SEEDS --run N [-o FILE]\n"
      "       jabulghi tolerance --merge FILE.. [--json] [--svg FILE] [-o FILE]\n"
      "\n"
-     "Plays the loop of a Survex survey, a job or a listing many times with noise, and says how far the runs miss and in how many of them a\n"
+     "Plays the loop of a Survex survey, a job or a listing many times with noise, and says how far the runs miss and "
+     "in how many of them a\n"
      "sound survey misses by as much as this one. The same seeds give the same runs, by any number of threads.\n"
-     "  --sigma SIGMAS  of distance and bearing: 4mm,0.5deg or 4,91 (millimetres, steps); or by name, tape=4mm,compass=0.5deg, and besides\n"
-     "                  clino=0.5deg and station=50mm, each coordinate of either end of a leg; for a job its own, where not given\n"
-     "  --seeds SEEDS   as `jabulghi seeds` prints them, or six numbers with commas between; for a job its own, where not given;\n"
+     "  --sigma SIGMAS  of distance and bearing: 4mm,0.5deg or 4,91 (millimetres, steps); or by name, "
+     "tape=4mm,compass=0.5deg, and besides\n"
+     "                  clino=0.5deg and station=50mm, each coordinate of either end of a leg; for a job its own, "
+     "where not given\n"
+     "  --seeds SEEDS   as `jabulghi seeds` prints them, or six numbers with commas between; for a job its own, where "
+     "not given;\n"
      "                  else some are drawn, and printed\n"
      "  --loop N        the loop that is played, where an ordinary survey has several; not given, they are listed\n"
      "  --runs N        how many, 1 to 10000000; 10000, where not given\n"
@@ -64,26 +75,31 @@ static const struct { const char *command, *text; } HELP[] = {
      "  --svg FILE      a picture besides\n"
      "  --run N         print the job of run N, for `jabulghi list`\n"
      "  --merge FILE..  add up parts that --json wrote of one job, whose runs follow each other\n"},
-    {"check",
-     "usage: jabulghi check [FILE] [--sigma SIGMAS] [--trip ANGLE] [--plays N] [--seeds SEEDS] [--first N] [--jobs N] [--loops|--json] [--svg FILE] [-o FILE]\n"
-     "       jabulghi check FILE --merge PART.. [--sigma SIGMAS] [--trip ANGLE] [--loops|--json] [--svg FILE] [-o FILE]\n"
-     "\n"
-     "Judges all loops of a Survex survey, a job or a listing together, in plan: in how many sound caves like this the worst leg looks as bad.\n"
-     "Below 5 % it names the legs to look at first, and what would explain each. Not proved but for its noise. docs/check.md has the formulas.\n"
-     "Exit status: 0 sound, or no loop; 1 not sound; 2 wrong usage, or the survey cannot be read.\n"
-     "  --sigma SIGMAS  standard deviations, one or several: tape=10mm,compass=1deg,clino=1deg,station=50mm,fix=1m; or tape and compass: 4mm,0.5deg;\n"
-     "                  station: each coordinate of either end of a leg; fix: a fixed point without its own.\n"
-     "                  Not given, those of *sd, of the job, or Survex's defaults\n"
-     "  --trip ANGLE    besides, each trip's compass is off by one angle, of this standard deviation: 0.5deg\n"
-     "  --plays N       sound caves that are played, 100 to 10000000; 1000, where not given\n"
-     "  --seeds SEEDS   as `jabulghi seeds` prints them, or six numbers with commas between; for a job its own, where not given;\n"
-     "                  else some are drawn, and printed\n"
-     "  --first N       the number of the first play; 0, where not given\n"
-     "  --jobs N        how many threads; as many as there are processors, where not given\n"
-     "  --loops         list all loops\n"
-     "  --json          the verdict for a program, and what --merge needs\n"
-     "  --svg FILE      a plan besides, the legs to look at in red\n"
-     "  --merge PART..  take the plays of parts that --json wrote of this cave, which follow each other\n"},
+    {"check", "usage: jabulghi check [FILE] [--sigma SIGMAS] [--trip ANGLE] [--plays N] [--seeds SEEDS] [--first N] "
+              "[--jobs N] [--loops|--json] [--svg FILE] [-o FILE]\n"
+              "       jabulghi check FILE --merge PART.. [--sigma SIGMAS] [--trip ANGLE] [--loops|--json] [--svg FILE] "
+              "[-o FILE]\n"
+              "\n"
+              "Judges all loops of a Survex survey, a job or a listing together, in plan: in how many sound caves like "
+              "this the worst leg looks as bad.\n"
+              "Below 5 % it names the legs to look at first, and what would explain each. Not proved but for its "
+              "noise. docs/check.md has the formulas.\n"
+              "Exit status: 0 sound, or no loop; 1 not sound; 2 wrong usage, or the survey cannot be read.\n"
+              "  --sigma SIGMAS  standard deviations, one or several: "
+              "tape=10mm,compass=1deg,clino=1deg,station=50mm,fix=1m; or tape and compass: 4mm,0.5deg;\n"
+              "                  station: each coordinate of either end of a leg; fix: a fixed point without its own.\n"
+              "                  Not given, those of *sd, of the job, or Survex's defaults\n"
+              "  --trip ANGLE    besides, each trip's compass is off by one angle, of this standard deviation: 0.5deg\n"
+              "  --plays N       sound caves that are played, 100 to 10000000; 1000, where not given\n"
+              "  --seeds SEEDS   as `jabulghi seeds` prints them, or six numbers with commas between; for a job its "
+              "own, where not given;\n"
+              "                  else some are drawn, and printed\n"
+              "  --first N       the number of the first play; 0, where not given\n"
+              "  --jobs N        how many threads; as many as there are processors, where not given\n"
+              "  --loops         list all loops\n"
+              "  --json          the verdict for a program, and what --merge needs\n"
+              "  --svg FILE      a plan besides, the legs to look at in red\n"
+              "  --merge PART..  take the plays of parts that --json wrote of this cave, which follow each other\n"},
     {"noise",
      "usage: jabulghi noise -n N [--seeds SEEDS] [--skip M] [--bits 16|18] [--sigma SIGMA] [--text|--raw] [-o FILE]\n"
      "\n"

@@ -1,12 +1,19 @@
-/* jabulghi: jobs, listings, legs, misses, tolerances, noise and seeds from the command line. It finds the command and calls it. */
+/* jabulghi: jobs, listings, legs, misses, tolerances, noise and seeds from the command line. It finds the command and
+ * calls it. */
 #include "command.h"
 #include <string.h>
 
-static const struct { const char *name; int (*run)(int count, char **words); } COMMANDS[] = {
-    {"list", list}, {"legs", legs}, {"misses", misses}, {"noise", noise}, {"seeds", seeds}, {"level", level}, {"job", job}, {"tolerance", tolerance}, {"check", check},
+static const struct {
+    const char *name;
+    int (*run)(int count, char **words);
+} COMMANDS[] = {
+    {"list", list},   {"legs", legs}, {"misses", misses},       {"noise", noise}, {"seeds", seeds},
+    {"level", level}, {"job", job},   {"tolerance", tolerance}, {"check", check},
 };
 
-static bool is(const char *word, const char *name, const char *letter) { return strcmp(word, name) == 0 || strcmp(word, letter) == 0; }
+static bool is(const char *word, const char *name, const char *letter) {
+    return strcmp(word, name) == 0 || strcmp(word, letter) == 0;
+}
 
 /* Whether help is asked for among the options of a command. */
 static bool asks_for_help(int count, char **words) {

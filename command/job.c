@@ -33,7 +33,8 @@ uint8_t *job_text(const survey *s, const uint32_t sigma[2], size_t *length) {
     size_t room = 160 + s->length;
     char *job = malloc(room);
     if (job == NULL) return NULL;
-    *length = (size_t)snprintf(job, room, SEEDS_LINE "\n(sigma %" PRIu32 " %" PRIu32 ")\n", n[0], n[1], n[2], n[3], n[4], n[5], sigma[0], sigma[1]);
+    *length = (size_t)snprintf(job, room, SEEDS_LINE "\n(sigma %" PRIu32 " %" PRIu32 ")\n", n[0], n[1], n[2], n[3],
+                               n[4], n[5], sigma[0], sigma[1]);
     memcpy(job + *length, s->shots, s->length);
     *length += s->length;
     return (uint8_t *)job;
@@ -55,7 +56,8 @@ static int write_job(const survey *s) {
 }
 
 int job(int count, char **words) {
-    option options[] = {{"--sigma", false, NULL}, {"--seeds", false, NULL}, {"-o", false, NULL}, {"--loop", false, NULL}};
+    option options[] = {
+        {"--sigma", false, NULL}, {"--seeds", false, NULL}, {"-o", false, NULL}, {"--loop", false, NULL}};
     wanted_loop wanted = {ANY_LOOP, false, true};
     text source;
     survey s;

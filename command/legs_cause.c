@@ -1,9 +1,13 @@
-/* What is wrong with the line of a survey that the library refused: tests for the table of sentences, in the order in which they are asked. */
+/* What is wrong with the line of a survey that the library refused: tests for the table of sentences, in the order in
+ * which they are asked. */
 #include "command.h"
 #include <string.h>
 
 /* A field of the line, without bytes where there is none. */
-typedef struct { const uint8_t *bytes; size_t length; } field;
+typedef struct {
+    const uint8_t *bytes;
+    size_t length;
+} field;
 
 static bool is_blank(uint8_t byte) { return byte == ' ' || byte == '\t'; }
 static bool is_digit(uint8_t byte) { return byte >= '0' && byte <= '9'; }
@@ -77,7 +81,8 @@ bool has_bad_tape(const bad_line *line) {
     field tape = field_after(line, 2);
     size_t whole = digits_from(tape, 0), decimals = digits_from(tape, whole + 1);
     if (whole < 1 || whole > 4) return true;
-    return tape.length > whole && (tape.bytes[whole] != '.' || decimals < 1 || decimals > 3 || tape.length > whole + 1 + decimals);
+    return tape.length > whole &&
+           (tape.bytes[whole] != '.' || decimals < 1 || decimals > 3 || tape.length > whole + 1 + decimals);
 }
 
 /* Whether a number, which has its form, is above a whole one. */

@@ -1,4 +1,5 @@
-/* Adds up parts that --json wrote: parts of one job and one miss, whose runs follow each other without a gap, in any order of the files. */
+/* Adds up parts that --json wrote: parts of one job and one miss, whose runs follow each other without a gap, in any
+ * order of the files. */
 #include "tolerance.h"
 #include <errno.h>
 #include <stdlib.h>
@@ -26,9 +27,12 @@ static int read_file(const char *name, part *read) {
 
 /* Whether a part goes on where the one before it ends, with the same job. */
 static int follows(const part *before, const part *next) {
-    bool same = before->job.length == next->job.length && memcmp(before->job.bytes, next->job.bytes, next->job.length) == 0;
-    same = same && before->miss.east == next->miss.east && before->miss.north == next->miss.north && before->runs.width == next->runs.width;
-    same = same && before->station == next->station && before->clino == next->clino && memcmp(&before->more, &next->more, sizeof next->more) == 0;
+    bool same =
+        before->job.length == next->job.length && memcmp(before->job.bytes, next->job.bytes, next->job.length) == 0;
+    same = same && before->miss.east == next->miss.east && before->miss.north == next->miss.north &&
+           before->runs.width == next->runs.width;
+    same = same && before->station == next->station && before->clino == next->clino &&
+           memcmp(&before->more, &next->more, sizeof next->more) == 0;
     uint64_t end = before->runs.first + before->runs.runs;
     if (!same) return wrong(OTHER_PART, next->job.name, before->job.name), REFUSED;
     if (end > next->runs.first) return wrong(SAME_RUNS, next->job.name, before->job.name), REFUSED;

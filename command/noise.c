@@ -9,13 +9,22 @@
 enum { SEEDS, SAMPLES, SKIP, BITS, SIGMA, INTO, RAW, TEXT, ASKED };
 
 /* A run: the record, how many samples are asked for, and how they are written: with a sigma, in its unit. */
-typedef struct { jabulghi_record record; uint64_t samples; measure sigma; bool wide, raw, scaled; } run;
+typedef struct {
+    jabulghi_record record;
+    uint64_t samples;
+    measure sigma;
+    bool wide, raw, scaled;
+} run;
 
 /* One block of either width. */
-typedef union { int16_t narrow[BLOCK]; int32_t wide[BLOCK]; } block;
+typedef union {
+    int16_t narrow[BLOCK];
+    int32_t wide[BLOCK];
+} block;
 
-/* Seeds and skips; that the count has room for the whole run is tested by a skip of a copy, so that nothing is written before a refusal. Half of any
- * number of samples has room after a skip of 0: where there is none, it is the skip that is too large. */
+/* Seeds and skips; that the count has room for the whole run is tested by a skip of a copy, so that nothing is written
+ * before a refusal. Half of any number of samples has room after a skip of 0: where there is none, it is the skip that
+ * is too large. */
 static int start(const uint32_t n[6], uint64_t skip, run *r) {
     uint32_t number = jabulghi_seed(n[0], n[1], n[2], n[3], n[4], n[5], &r->record);
     if (number != JABULGHI_OK) return refuse_option("--seeds", number);
@@ -73,10 +82,12 @@ static char *decimal(char *at, bool negative, uint64_t size, size_t after) {
     return at;
 }
 
-/* A sample times sigma, rounded to thousandths of a millimetre or a step or to millionths of a degree, halves away from zero. */
+/* A sample times sigma, rounded to thousandths of a millimetre or a step or to millionths of a degree, halves away from
+ * zero. */
 static char *scaled(char *at, const run *r, int32_t sample) {
     size_t after = r->sigma.in == DEGREES ? 6 : 3;
-    uint64_t size = (uint64_t)(sample < 0 ? -sample : sample), whole = (r->wide ? 8192u : 2048u) * (after == 3 ? 1000u : 1u);
+    uint64_t size = (uint64_t)(sample < 0 ? -sample : sample),
+             whole = (r->wide ? 8192u : 2048u) * (after == 3 ? 1000u : 1u);
     size = (r->sigma.millionths * size + whole / 2) / whole;
     return decimal(at, sample < 0 && size > 0, size, after);
 }
@@ -103,7 +114,8 @@ static int write_samples(run *r) {
     progress_start("samples", false);
     while (status == DONE && done < r->samples) {
         size_t length = r->samples - done < BLOCK ? (size_t)(r->samples - done) : BLOCK;
-        uint32_t number = r->wide ? jabulghi_block18(&r->record, b.wide, length) : jabulghi_block(&r->record, b.narrow, length);
+        uint32_t number =
+            r->wide ? jabulghi_block18(&r->record, b.wide, length) : jabulghi_block(&r->record, b.narrow, length);
         status = number == JABULGHI_OK ? put_block(&b, r, length) : refuse_option("noise", number);
         done += length;
         progress_show(done, r->samples);
@@ -113,7 +125,9 @@ static int write_samples(run *r) {
 }
 
 int noise(int count, char **words) {
-    option asked[ASKED] = {{"--seeds", false, NULL}, {"-n", false, NULL}, {"--skip", false, NULL}, {"--bits", false, NULL}, {"--sigma", false, NULL}, {"-o", false, NULL}, {"--raw", true, NULL}, {"--text", true, NULL}};
+    option asked[ASKED] = {{"--seeds", false, NULL}, {"-n", false, NULL},      {"--skip", false, NULL},
+                           {"--bits", false, NULL},  {"--sigma", false, NULL}, {"-o", false, NULL},
+                           {"--raw", true, NULL},    {"--text", true, NULL}};
     run r;
     int status = read_options(&count, words, asked, ASKED);
     if (status == DONE && count > 0) status = wrong(NO_FILE, words[0], "noise");

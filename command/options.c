@@ -2,7 +2,8 @@
 #include "command.h"
 #include <string.h>
 
-/* The option that a word names, or NULL; inside is the value that stands in the same word: after an equals sign, or after a letter. */
+/* The option that a word names, or NULL; inside is the value that stands in the same word: after an equals sign, or
+ * after a letter. */
 static option *named(const char *word, option *options, size_t size, const char **inside) {
     for (size_t j = 0; j < size; j++) {
         size_t length = strlen(options[j].name);

@@ -5,7 +5,10 @@
 #include <string.h>
 
 /* A place in a part's text, which a NUL ends; good until something else stands there than must. */
-typedef struct { const char *at; bool good; } place;
+typedef struct {
+    const char *at;
+    bool good;
+} place;
 
 static void pass(place *p, const char *word) {
     p->good = p->good && strncmp(p->at, word, strlen(word)) == 0;
@@ -70,7 +73,8 @@ static void read_bar(place *p, histogram *h, uint64_t left) {
     pass(p, ", ");
     b->count = whole(p);
     pass(p, "]");
-    p->good = p->good && (h->size == 1 || b->at > b[-1].at) && b->count > 0 && b->count <= left && b->at < (uint64_t)1 << 40;
+    p->good =
+        p->good && (h->size == 1 || b->at > b[-1].at) && b->count > 0 && b->count <= left && b->at < (uint64_t)1 << 40;
 }
 
 /* The steps in rising order; together they have all the runs. */
@@ -134,5 +138,6 @@ bool read_part(const char *bytes, size_t length, part *read) {
     runs->squares = (vector){sums[2], sums[3]};
     runs->product = sums[4];
     bool possible = runs->beyond <= runs->runs && runs->farther <= runs->runs && sums[2] >= 0 && sums[3] >= 0;
-    return possible && runs->runs > 0 && runs->runs <= UINT64_MAX - runs->first && runs->width > 0 && runs->width <= 1000000;
+    return possible && runs->runs > 0 && runs->runs <= UINT64_MAX - runs->first && runs->width > 0 &&
+           runs->width <= 1000000;
 }

@@ -20,7 +20,8 @@ static int miss_without_noise(task *t) {
 static int room_for_runs(const task *t, const char *option) {
     int64_t last[1][2];
     uint32_t line, number = JABULGHI_COUNT_FULL;
-    if (t->first <= UINT64_MAX - (t->runs - 1)) number = jabulghi_play(t->job, t->length, t->first + (t->runs - 1), last, 1, &line);
+    if (t->first <= UINT64_MAX - (t->runs - 1))
+        number = jabulghi_play(t->job, t->length, t->first + (t->runs - 1), last, 1, &line);
     return number == JABULGHI_OK ? DONE : refuse_option(option, number);
 }
 
@@ -40,7 +41,8 @@ int put_run(const task *t) {
     survey s = t->s;
     size_t length;
     const uint32_t *n = s.seeds;
-    if (jabulghi_seed(n[0], n[1], n[2], n[3], n[4], n[5], &record) != JABULGHI_OK) return refuse_option("--seeds", JABULGHI_UNFIT_STREAM_A);
+    if (jabulghi_seed(n[0], n[1], n[2], n[3], n[4], n[5], &record) != JABULGHI_OK)
+        return refuse_option("--seeds", JABULGHI_UNFIT_STREAM_A);
     uint32_t number = jabulghi_skip(&record, t->first * t->shots.count);
     if (number != JABULGHI_OK) return refuse_option("--run", number);
     memcpy(s.seeds, record.a, sizeof record.a);

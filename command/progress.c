@@ -16,7 +16,8 @@ void progress_start(const char *counted, bool elsewhere) {
 }
 
 static void show(uint64_t done, uint64_t all) {
-    fprintf(stderr, "\rjabulghi: %" PRIu64 " of %" PRIu64 " %s (%.0f %%)", done, all, what, 100.0 * (double)done / (double)all);
+    fprintf(stderr, "\rjabulghi: %" PRIu64 " of %" PRIu64 " %s (%.0f %%)", done, all, what,
+            100.0 * (double)done / (double)all);
     shown = true;
 }
 

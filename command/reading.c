@@ -6,14 +6,16 @@
 #include <string.h>
 #include <unistd.h>
 
-/* More is not read, so that endless input ends; every text that the library accepts as a job or a listing is far shorter. */
+/* More is not read, so that endless input ends; every text that the library accepts as a job or a listing is far
+ * shorter. */
 #define MOST_BYTES ((size_t)64 << 20)
 
 /* Reads to the end. */
 static int read_all(int from, text *all) {
     size_t room = 0;
     for (;;) {
-        if (all->length == room && !room_for(65536, &all->bytes, all->length, &room, 1)) return trouble(all->name, strerror(ENOMEM));
+        if (all->length == room && !room_for(65536, &all->bytes, all->length, &room, 1))
+            return trouble(all->name, strerror(ENOMEM));
         ssize_t got = read(from, all->bytes + all->length, room - all->length);
         if (got < 0 && errno == EINTR) continue;
         if (got < 0) return trouble(all->name, strerror(errno));
@@ -37,4 +39,6 @@ int read_text(const char *name, text *all) {
     return status;
 }
 
-int read_named(int count, char **words, text *all) { return count > 1 ? wrong(ONE_FILE, words[1]) : read_text(count == 0 ? "-" : words[0], all); }
+int read_named(int count, char **words, text *all) {
+    return count > 1 ? wrong(ONE_FILE, words[1]) : read_text(count == 0 ? "-" : words[0], all);
+}

@@ -11,7 +11,9 @@ static bool is_first(const bad_line *line) { return line->number == 1; }
 static bool is_second(const bad_line *line) { return line->number == 2; }
 static bool is_line_502(const bad_line *line) { return line->number == 502; }
 static bool lacks_line_feed(const bad_line *line) { return line->length > 0 && line->bytes[line->length - 1] != '\n'; }
-static bool ends_in_crlf(const bad_line *line) { return line->length > 1 && memcmp(line->bytes + line->length - 2, "\r\n", 2) == 0; }
+static bool ends_in_crlf(const bad_line *line) {
+    return line->length > 1 && memcmp(line->bytes + line->length - 2, "\r\n", 2) == 0;
+}
 static bool above(const bad_line *line, size_t blanks, uint64_t most);
 static bool is_large_sigma(const bad_line *line) { return line->number == 2 && above(line, 1, 1000); }
 static bool has_large_distance(const bad_line *line) { return above(line, 3, 1000000); }
@@ -24,7 +26,12 @@ static bool has_large_high(const bad_line *line) { return above(line, 3, 1008242
 #define UNFIT(stream) "seed of stream " stream " below its minimum of 2, 8 or 16"
 
 /* For a subject and number the first row whose test holds of the bad line, or that has none. */
-static const struct { subject about; uint32_t number; bool (*holds)(const bad_line *line); const char *sentence; } SENTENCES[] = {
+static const struct {
+    subject about;
+    uint32_t number;
+    bool (*holds)(const bad_line *line);
+    const char *sentence;
+} SENTENCES[] = {
     {JOB, JABULGHI_JOB_TOO_LONG, NULL, "job over 60,000 bytes"},
     {JOB, JABULGHI_NO_FORM, ends_in_crlf, CRLF},
     {JOB, JABULGHI_NO_FORM, lacks_line_feed, NO_LINE_FEED},
@@ -46,19 +53,22 @@ static const struct { subject about; uint32_t number; bool (*holds)(const bad_li
     {SURVEY, JABULGHI_NO_LEG, is_missing, "no data line"},
     {SURVEY, JABULGHI_NO_LEG, ends_in_crlf, CRLF},
     {SURVEY, JABULGHI_NO_LEG, lacks_line_feed, NO_LINE_FEED},
-    {SURVEY, JABULGHI_NO_LEG, is_other_data_line, "data line is not '*data normal from to tape compass clino'; jabulghi level takes other orders"},
+    {SURVEY, JABULGHI_NO_LEG, is_other_data_line,
+     "data line is not '*data normal from to tape compass clino'; jabulghi level takes other orders"},
     {SURVEY, JABULGHI_NO_LEG, is_command, "commands are not taken here; jabulghi level takes ordinary Survex"},
     {SURVEY, JABULGHI_NO_LEG, lacks_data_line, "leg before the data line"},
     {SURVEY, JABULGHI_NO_LEG, has_few_fields, "leg has fewer than five fields"},
     {SURVEY, JABULGHI_NO_LEG, has_many_fields, "leg has more than five fields"},
-    {SURVEY, JABULGHI_NO_LEG, has_bad_from, "from is no name of 1 to 12 letters or digits; jabulghi level gives new names"},
+    {SURVEY, JABULGHI_NO_LEG, has_bad_from,
+     "from is no name of 1 to 12 letters or digits; jabulghi level gives new names"},
     {SURVEY, JABULGHI_NO_LEG, has_bad_to, "to is no name of 1 to 12 letters or digits; jabulghi level gives new names"},
     {SURVEY, JABULGHI_NO_LEG, has_bad_tape, "tape is not 1 to 4 digits, then perhaps a point and 1 to 3 decimals"},
     {SURVEY, JABULGHI_NO_LEG, NULL, "compass is not 1 to 4 digits, then perhaps a point and 1 or 2 decimals"},
     {SURVEY, JABULGHI_LEG_OUT_OF_RANGE, ends_in_crlf, CRLF},
     {SURVEY, JABULGHI_LEG_OUT_OF_RANGE, has_long_tape, "tape above 1000"},
     {SURVEY, JABULGHI_LEG_OUT_OF_RANGE, has_large_compass, "compass above 360"},
-    {SURVEY, JABULGHI_LEG_OUT_OF_RANGE, NULL, "clino is not the single digit 0; jabulghi level takes other forms, and steep legs as their plan"},
+    {SURVEY, JABULGHI_LEG_OUT_OF_RANGE, NULL,
+     "clino is not the single digit 0; jabulghi level takes other forms, and steep legs as their plan"},
 
     {LISTING, JABULGHI_NO_FORM, is_missing, "line is missing"},
     {LISTING, JABULGHI_NO_FORM, ends_in_crlf, CRLF},
@@ -117,19 +127,25 @@ static const char *const SAYINGS[] = {
     [MISSING_RUNS] = "--merge: no part has the runs %" PRIu64 " to %" PRIu64,
     [NOT_MERGED] = "%s: not with --merge",
     [LACKS_FILE] = "%s: names no FILE" HELP,
-    [NO_ERRORS] = "%s: '%s' is neither a list such as tape=10mm,compass=1deg,clino=1deg,station=50mm,fix=1m, each once, nor two such as 4mm,0.5deg",
+    [NO_ERRORS] = "%s: '%s' is neither a list such as tape=10mm,compass=1deg,clino=1deg,station=50mm,fix=1m, each "
+                  "once, nor two such as 4mm,0.5deg",
     [NO_TRIP] = "%s: '%s' is no angle such as 0.5deg, at most 90 degrees",
     [FEW_PLAYS] = "%s: at least %d plays",
     [OTHER_PLAYS] = "%s: plays of another cave, or with other seeds or errors",
-    [MODELLED] = "modelled: independent Gaussian errors of each leg's distance and bearing; not modelled: calibration, stations, blunders",
-    [MODELLED_MORE] = "modelled: independent Gaussian errors of each leg's distance, bearing, slope and stations; not modelled: calibration, blunders",
+    [MODELLED] = "modelled: independent Gaussian errors of each leg's distance and bearing; not modelled: calibration, "
+                 "stations, blunders",
+    [MODELLED_MORE] = "modelled: independent Gaussian errors of each leg's distance, bearing, slope and stations; not "
+                      "modelled: calibration, blunders",
     [ALL_ALIKE] = "All runs miss alike: there is no noise to judge a miss by.",
     [ON_A_LINE] = "All runs miss along one line: a miss beside it is beyond them all.",
-    [VERDICT] = "A sound survey of this kind misses by as much or more in %s %% of runs (by the ellipse of the runs; %s %% by distance alone).",
+    [VERDICT] = "A sound survey of this kind misses by as much or more in %s %% of runs (by the ellipse of the runs; "
+                "%s %% by distance alone).",
     [NO_BLUNDER] = "That is no sign of a blunder.",
-    [BLUNDER_POSSIBLE] = "That is below 5 %: a blunder is possible. One sound loop in 20 gets this, too; or your sigmas are too small.",
+    [BLUNDER_POSSIBLE] =
+        "That is below 5 %: a blunder is possible. One sound loop in 20 gets this, too; or your sigmas are too small.",
     [BLUNDER_LIKELY] = "That is below 0.1 %: a blunder is likely. Or your sigmas are too small.",
-    [CANDIDATES] = "One leg alone, so corrected, would bring the miss within the noise (in brackets: sound surveys that miss by as much as then remains). What could be, not what is:",
+    [CANDIDATES] = "One leg alone, so corrected, would bring the miss within the noise (in brackets: sound surveys "
+                   "that miss by as much as then remains). What could be, not what is:",
     [NO_CANDIDATE] = "No correction of one leg alone would bring the miss within the noise.",
 };
 
@@ -138,7 +154,8 @@ static bool above(const bad_line *line, size_t blanks, uint64_t most) {
     uint64_t number = 0;
     size_t at = 0, passed = 0;
     while (at < line->length && passed < blanks) passed += line->bytes[at++] == ' ';
-    for (; at < line->length && number <= most && line->bytes[at] >= '0' && line->bytes[at] <= '9'; at++) number = number * 10 + (uint64_t)(line->bytes[at] - '0');
+    for (; at < line->length && number <= most && line->bytes[at] >= '0' && line->bytes[at] <= '9'; at++)
+        number = number * 10 + (uint64_t)(line->bytes[at] - '0');
     return number > most;
 }
 

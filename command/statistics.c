@@ -5,11 +5,14 @@
 #include <stdlib.h>
 #include <string.h>
 
-vector noise_of(const task *t, uint64_t run) { return (vector){(double)(t->misses[run][0] - t->own[0]), (double)(t->misses[run][1] - t->own[1])}; }
+vector noise_of(const task *t, uint64_t run) {
+    return (vector){(double)(t->misses[run][0] - t->own[0]), (double)(t->misses[run][1] - t->own[1])};
+}
 
 /* The step that a measure of a run falls into: the smallest whose end it does not pass. */
 static uint64_t step_of(vector noise, int which, uint64_t width) {
-    uint64_t east = (uint64_t)fabs(noise.east), north = (uint64_t)fabs(noise.north), square = east * east + north * north;
+    uint64_t east = (uint64_t)fabs(noise.east), north = (uint64_t)fabs(noise.north),
+             square = east * east + north * north;
     if (which != DISTANCE) return ((which == EAST ? east : north) + width - 1) / width;
     uint64_t step = (uint64_t)(sqrt((double)square) / (double)width);
     while (step > 0 && (step - 1) * width * (step - 1) * width >= square) step--;
@@ -51,10 +54,12 @@ static void add_up(const task *t, tally *kept) {
     }
 }
 
-/* Runs that lie on or beyond the ellipse of all runs through the miss, or as far out as it. A part in 10^12 is left to rounding. */
+/* Runs that lie on or beyond the ellipse of all runs through the miss, or as far out as it. A part in 10^12 is left to
+ * rounding. */
 static void count_beyond(const task *t, tally *kept) {
     ellipse e = ellipse_of_runs(kept);
-    double limit = reach(&e, t->miss) * (1 - 1e-12), distance = (t->miss.east * t->miss.east + t->miss.north * t->miss.north) * (1 - 1e-12);
+    double limit = reach(&e, t->miss) * (1 - 1e-12),
+           distance = (t->miss.east * t->miss.east + t->miss.north * t->miss.north) * (1 - 1e-12);
     for (uint64_t run = 0; run < t->runs; run++) {
         vector noise = noise_of(t, run);
         kept->beyond += reach(&e, noise) >= limit;
@@ -72,7 +77,9 @@ int tally_of(const task *t, uint64_t width, tally *kept) {
     return DONE;
 }
 
-vector mean_of(const tally *kept) { return (vector){kept->sum.east / (double)kept->runs, kept->sum.north / (double)kept->runs}; }
+vector mean_of(const tally *kept) {
+    return (vector){kept->sum.east / (double)kept->runs, kept->sum.north / (double)kept->runs};
+}
 
 covariance covariance_of(const tally *kept) {
     vector mean = mean_of(kept);
@@ -85,7 +92,9 @@ covariance covariance_of(const tally *kept) {
 }
 
 double rms_of(const tally *kept, int which) {
-    double squares = which == EAST ? kept->squares.east : which == NORTH ? kept->squares.north : kept->squares.east + kept->squares.north;
+    double squares = which == EAST    ? kept->squares.east
+                     : which == NORTH ? kept->squares.north
+                                      : kept->squares.east + kept->squares.north;
     return sqrt(squares / (double)kept->runs);
 }
 

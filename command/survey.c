@@ -7,9 +7,13 @@
 #include <stdlib.h>
 #include <string.h>
 
-static bool starts_with(const text *t, const char *start) { return t->length >= strlen(start) && memcmp(t->bytes, start, strlen(start)) == 0; }
+static bool starts_with(const text *t, const char *start) {
+    return t->length >= strlen(start) && memcmp(t->bytes, start, strlen(start)) == 0;
+}
 
-static bool ends_with(const char *name, const char *end) { return strlen(name) >= strlen(end) && strcmp(name + strlen(name) - strlen(end), end) == 0; }
+static bool ends_with(const char *name, const char *end) {
+    return strlen(name) >= strlen(end) && strcmp(name + strlen(name) - strlen(end), end) == 0;
+}
 
 /* What a text is: as its name says, or else its first line. */
 subject kind_of(const text *t) {
@@ -29,7 +33,8 @@ static int take_job(survey *s) {
     const char *bytes = (const char *)s->source.bytes;
     char lines[160] = "";
     memcpy(lines, bytes, s->source.length < sizeof lines - 1 ? s->source.length : sizeof lines - 1);
-    sscanf(lines, "(seeds (a %" SCNu32 " %" SCNu32 " %" SCNu32 ") (b %" SCNu32 " %" SCNu32 " %" SCNu32 "))", &n[0], &n[1], &n[2], &n[3], &n[4], &n[5]);
+    sscanf(lines, "(seeds (a %" SCNu32 " %" SCNu32 " %" SCNu32 ") (b %" SCNu32 " %" SCNu32 " %" SCNu32 "))", &n[0],
+           &n[1], &n[2], &n[3], &n[4], &n[5]);
     const char *second = strchr(lines, '\n') + 1;
     sscanf(second, "(sigma %" SCNu32 " %" SCNu32 ")", &s->sigma[0], &s->sigma[1]);
     size_t head = (size_t)(strchr(second, '\n') + 1 - lines);
@@ -40,7 +45,9 @@ static int take_job(survey *s) {
 
 /* The shot lines of a strict survey, in room from malloc; the number of the refusal. */
 static uint32_t strict_shots(const text *from, uint8_t **shots, size_t *length, size_t *line) {
-    size_t room = 3 * from->length + 1; /* a leg of 10 bytes gives a shot line of at most 21, and a longer one at most as many bytes more */
+    size_t room =
+        3 * from->length +
+        1; /* a leg of 10 bytes gives a shot line of at most 21, and a longer one at most as many bytes more */
     *shots = malloc(room);
     return *shots == NULL ? JABULGHI_OK : jabulghi_legs(from->bytes, from->length, *shots, room, line, length);
 }
@@ -60,8 +67,9 @@ static bool keep_origins(const levelling *l, survey *s) {
     for (size_t j = 0; s->origins != NULL && j < s->origin_count; j++) {
         const struct survey_leg *leg = &l->s->legs[l->walked.steps[j].leg];
         bool backwards = l->walked.steps[j].backwards;
-        s->origins[j] = (origin){l->s->stations[backwards ? leg->to : leg->from].name, l->s->stations[backwards ? leg->from : leg->to].name,
-                                 l->s->files[leg->file].name, leg->line, leg->up};
+        s->origins[j] = (origin){l->s->stations[backwards ? leg->to : leg->from].name,
+                                 l->s->stations[backwards ? leg->from : leg->to].name, l->s->files[leg->file].name,
+                                 leg->line, leg->up};
     }
     return s->origins != NULL;
 }
@@ -92,7 +100,8 @@ static int refuse_loop(levelling *l, const char *name) {
 /* The survey that was read stays, for its names. */
 static int take_ordinary(survey *s, wanted_loop wanted) {
     levelling l;
-    const struct survey *cave = survey_read(s->source.name, s->source.bytes, s->source.length, fetch_of(&s->source), NULL);
+    const struct survey *cave =
+        survey_read(s->source.name, s->source.bytes, s->source.length, fetch_of(&s->source), NULL);
     if (cave == NULL) return trouble(s->source.name, strerror(ENOMEM));
     bool taken = cave->trouble_count == 0, found = taken && level_survey(cave, wanted.number, wanted.needed, &l);
     if (!taken || found) tell_messages(cave);
@@ -137,14 +146,18 @@ static int take_listing(survey *s) {
     if (s->shots == NULL) return trouble(s->source.name, strerror(ENOMEM));
     for (size_t j = 0; j < rows.count; j++) {
         const shot *r = &rows.shots[j];
-        s->length += (size_t)snprintf((char *)s->shots + s->length, room - s->length, "(shot %s %s %" PRIu32 " %" PRIu32 ")\n", r->from, r->to, r->distance, r->bearing);
+        s->length +=
+            (size_t)snprintf((char *)s->shots + s->length, room - s->length, "(shot %s %s %" PRIu32 " %" PRIu32 ")\n",
+                             r->from, r->to, r->distance, r->bearing);
     }
     return DONE;
 }
 
 int take_survey(text source, wanted_loop wanted, survey *taken) {
     *taken = (survey){.source = source, .about = kind_of(&source)};
-    return taken->about == JOB ? take_job(taken) : taken->about == LISTING ? take_listing(taken) : take_legs(taken, wanted);
+    return taken->about == JOB       ? take_job(taken)
+           : taken->about == LISTING ? take_listing(taken)
+                                     : take_legs(taken, wanted);
 }
 
 /* Whether a line of a Survex text has something besides blanks and a comment. */
@@ -177,7 +190,8 @@ origin origin_of(const survey *s, const traverse *t, size_t leg) {
 }
 
 int refuse_shot(const survey *s, size_t line, uint32_t number) {
-    if (s->origins == NULL || line < 3 || line - 3 >= s->origin_count) return refuse(&s->source, s->about, line_in_source(s, line), number);
+    if (s->origins == NULL || line < 3 || line - 3 >= s->origin_count)
+        return refuse(&s->source, s->about, line_in_source(s, line), number);
     text from = s->source;
     from.name = s->origins[line - 3].file;
     return refuse(&from, s->about, s->origins[line - 3].line, number);

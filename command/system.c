@@ -1,4 +1,5 @@
-/* What Linux and Windows do in different ways: writes that fail, bytes as they are, files' names, the time, processors and randomness. */
+/* What Linux and Windows do in different ways: writes that fail, bytes as they are, files' names, the time, processors
+ * and randomness. */
 #ifdef _WIN32
 #define _CRT_RAND_S
 #endif
@@ -40,7 +41,8 @@ static const wchar_t *wide(const char *name) {
     return units[turn];
 }
 
-/* Bytes go through as they are: else a line feed is written as two bytes, and Ctrl-Z ends a text. Typed lines alone are read as text. */
+/* Bytes go through as they are: else a line feed is written as two bytes, and Ctrl-Z ends a text. Typed lines alone are
+ * read as text. */
 void system_start(void) {
     if (!system_terminal(0)) _setmode(0, _O_BINARY);
     _setmode(1, _O_BINARY);

@@ -41,7 +41,8 @@ int legs(int count, char **words) {
     return status == DONE ? put(shots, length) : status;
 }
 
-/* A listing's header decides what is worked out, one miss, or the lowest and the highest; a header that is none is refused by the call. */
+/* A listing's header decides what is worked out, one miss, or the lowest and the highest; a header that is none is
+ * refused by the call. */
 int misses(int count, char **words) {
     static const char BETWEEN[] = "FROM TO LOW HIGH STEP\n";
     text listing;
@@ -50,9 +51,11 @@ int misses(int count, char **words) {
     int status = named_text(count, words, &listing);
     if (status != DONE) return status;
     bool between = listing.length >= strlen(BETWEEN) && memcmp(listing.bytes, BETWEEN, strlen(BETWEEN)) == 0;
-    uint32_t number = (between ? jabulghi_intervals : jabulghi_misclosure)(listing.bytes, listing.length, sums, mm, &line);
+    uint32_t number =
+        (between ? jabulghi_intervals : jabulghi_misclosure)(listing.bytes, listing.length, sums, mm, &line);
     if (number != JABULGHI_OK) return refuse(&listing, LISTING, line, number);
     note_loop(&listing, true);
-    if (between) return put_words("EAST %" PRId64 " %" PRId64 "\nNORTH %" PRId64 " %" PRId64 "\n", mm[0], mm[1], mm[2], mm[3]);
+    if (between)
+        return put_words("EAST %" PRId64 " %" PRId64 "\nNORTH %" PRId64 " %" PRId64 "\n", mm[0], mm[1], mm[2], mm[3]);
     return put_words("EAST %" PRId64 "\nNORTH %" PRId64 "\n", mm[0], mm[1]);
 }

@@ -67,7 +67,8 @@ static int run_merged(int count, char **words, const option asked[ASKED]) {
 /* Rows of runs do not say what seeds they came from. */
 static void tell_seeds(const option asked[ASKED], const task *t) {
     const uint32_t *n = t->s.seeds;
-    if (asked[CSV].value != NULL && asked[SEEDS].value == NULL && t->s.about != JOB) note(SEEDS_DRAWN, n[0], n[1], n[2], n[3], n[4], n[5]);
+    if (asked[CSV].value != NULL && asked[SEEDS].value == NULL && t->s.about != JOB)
+        note(SEEDS_DRAWN, n[0], n[1], n[2], n[3], n[4], n[5]);
 }
 
 static int run(int count, char **words, const option asked[ASKED]) {
@@ -84,7 +85,8 @@ static int run(int count, char **words, const option asked[ASKED]) {
     if (status == DONE) status = settings_of(&asked[SEEDS], &asked[SIGMA], "tolerance", &t.s);
     if (status == DONE) status = prepare(&t, asked[RUN].value == NULL ? "--first" : "--run");
     t.more = more_of(&t);
-    if (status == DONE && asked[RUN].value != NULL && t.more.east + t.more.north > 0) status = wrong(EITHER, asked[RUN].name, "errors of stations and clino");
+    if (status == DONE && asked[RUN].value != NULL && t.more.east + t.more.north > 0)
+        status = wrong(EITHER, asked[RUN].name, "errors of stations and clino");
     if (status != DONE) return status;
     if (asked[RUN].value != NULL) return put_run(&t);
     tell_seeds(asked, &t);
@@ -95,9 +97,11 @@ static int run(int count, char **words, const option asked[ASKED]) {
 }
 
 int tolerance(int count, char **words) {
-    option asked[ASKED] = {{"--sigma", false, NULL}, {"--seeds", false, NULL}, {"--runs", false, NULL}, {"--first", false, NULL}, {"--run", false, NULL},
-                           {"--miss", false, NULL}, {"--jobs", false, NULL}, {"--loop", false, NULL}, {"--csv", true, NULL}, {"--json", true, NULL}, {"--svg", false, NULL},
-                           {"--merge", true, NULL}, {"-o", false, NULL}};
+    option asked[ASKED] = {{"--sigma", false, NULL}, {"--seeds", false, NULL}, {"--runs", false, NULL},
+                           {"--first", false, NULL}, {"--run", false, NULL},   {"--miss", false, NULL},
+                           {"--jobs", false, NULL},  {"--loop", false, NULL},  {"--csv", true, NULL},
+                           {"--json", true, NULL},   {"--svg", false, NULL},   {"--merge", true, NULL},
+                           {"-o", false, NULL}};
     int status = read_options(&count, words, asked, ASKED);
     if (status == DONE) status = either(asked);
     if (status != DONE) return status;

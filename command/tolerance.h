@@ -11,18 +11,32 @@
 #define QUANTILES 5
 extern const unsigned THOUSANDTHS[QUANTILES];
 
-typedef struct { double east, north; } vector;
-typedef struct { double east, north, both; } covariance;
+typedef struct {
+    double east, north;
+} vector;
+typedef struct {
+    double east, north, both;
+} covariance;
 
-/* The ellipses of a covariance: their centre, the variances along the longer and the shorter axis, and the direction of the longer one. */
-typedef struct { vector centre; double longer, shorter, cosine, sine; } ellipse;
+/* The ellipses of a covariance: their centre, the variances along the longer and the shorter axis, and the direction of
+ * the longer one. */
+typedef struct {
+    vector centre;
+    double longer, shorter, cosine, sine;
+} ellipse;
 
 /* How many runs lie in each step of a measure: above (at - 1) and up to at times the width; in rising order. */
-typedef struct { uint64_t at, count; } bar;
-typedef struct { size_t size; bar *bars; } histogram;
+typedef struct {
+    uint64_t at, count;
+} bar;
+typedef struct {
+    size_t size;
+    bar *bars;
+} histogram;
 
-/* What is kept of the noise of many runs, each run's miss less the miss without noise: its sums, three histograms, and how many runs are as far
- * out as the miss that is judged, by the ellipse and by distance. Two of them add up to that of all their runs. */
+/* What is kept of the noise of many runs, each run's miss less the miss without noise: its sums, three histograms, and
+ * how many runs are as far out as the miss that is judged, by the ellipse and by distance. Two of them add up to that
+ * of all their runs. */
 enum { EAST, NORTH, DISTANCE, MEASURES };
 typedef struct {
     uint64_t first, runs, width, beyond, farther;
@@ -31,8 +45,8 @@ typedef struct {
     histogram of[MEASURES];
 } tally;
 
-/* A loop, the job that is played and what is asked of it: misses is NULL where the runs were merged. More is what the errors of stations and of the
- * clino add to the noise of each run. */
+/* A loop, the job that is played and what is asked of it: misses is NULL where the runs were merged. More is what the
+ * errors of stations and of the clino add to the noise of each run. */
 typedef struct {
     survey s;
     traverse shots;
@@ -46,23 +60,32 @@ typedef struct {
 } task;
 
 /* The closed form: errors of legs that are independent, added up. */
-typedef struct { covariance spread; double rms[MEASURES], within[MEASURES][QUANTILES]; } closed_form;
+typedef struct {
+    covariance spread;
+    double rms[MEASURES], within[MEASURES][QUANTILES];
+} closed_form;
 
-/* One leg whose correction would bring the miss within the noise; remains is the share of sound surveys that would then miss by as much. */
-typedef struct { size_t leg; bool bearing; double correction, remains; } candidate;
+/* One leg whose correction would bring the miss within the noise; remains is the share of sound surveys that would then
+ * miss by as much. */
+typedef struct {
+    size_t leg;
+    bool bearing;
+    double correction, remains;
+} candidate;
 
-/* prepare.c: makes the job that is played and its miss without noise; whatever is refused is refused here, too large a number of a run by the name of
- * the option that gave it. Prints the job of one run. */
+/* prepare.c: makes the job that is played and its miss without noise; whatever is refused is refused here, too large a
+ * number of a run by the name of the option that gave it. Prints the job of one run. */
 int prepare(task *t, const char *option);
 int put_run(const task *t);
 
-/* plays.c: plays all runs, by as many threads as are asked for. stations.c: what the errors of stations and of the clino add, and that noise for some
- * runs; the number of a refusal. */
+/* plays.c: plays all runs, by as many threads as are asked for. stations.c: what the errors of stations and of the
+ * clino add, and that noise for some runs; the number of a refusal. */
 int play_all(task *t);
 covariance more_of(const task *t);
 uint32_t add_more(const task *t, uint64_t start, size_t runs);
 
-/* statistics.c: the noise of a run, its miss less the miss without noise; what is kept of all runs, and figures of it. */
+/* statistics.c: the noise of a run, its miss less the miss without noise; what is kept of all runs, and figures of it.
+ */
 vector noise_of(const task *t, uint64_t run);
 int tally_of(const task *t, uint64_t width, tally *kept);
 vector mean_of(const tally *kept);
@@ -88,7 +111,8 @@ size_t candidates_of(const task *t, const ellipse *e, candidate found[2 * MOST_S
 /* Below 5 % of sound surveys a miss is worth a look, below 0.1 % it is likely a blunder. */
 enum { DOUBTFUL = 50, UNLIKELY = 1 };
 
-/* report.c: for a person; and whether a share of the runs is below a limit in thousandths, the judged miss being counted as one run more. */
+/* report.c: for a person; and whether a share of the runs is below a limit in thousandths, the judged miss being
+ * counted as one run more. */
 void report(const task *t, const tally *kept, growing *to);
 bool is_below(const tally *kept, unsigned thousandths);
 
@@ -98,7 +122,13 @@ int put_csv(const task *t);
 void draw(const task *t, const tally *kept, growing *to);
 
 /* parts.c: reads a part that report_json wrote, which a NUL ends. merge.c: adds parts up; the loop that they play. */
-typedef struct { text job; vector miss; double station, clino; covariance more; tally runs; } part;
+typedef struct {
+    text job;
+    vector miss;
+    double station, clino;
+    covariance more;
+    tally runs;
+} part;
 bool read_part(const char *bytes, size_t length, part *read);
 int merge(int count, char **names, task *t, tally *all);
 

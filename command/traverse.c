@@ -16,7 +16,8 @@ void read_shots(const uint8_t *bytes, size_t length, bool listed, traverse *read
         const uint8_t *feed = memchr(bytes + at, '\n', length - at);
         size_t size = (feed == NULL ? length : (size_t)(feed - bytes)) - at;
         char line[128];
-        snprintf(line, sizeof line, "%.*s", size < sizeof line ? (int)size : (int)sizeof line - 1, (const char *)bytes + at);
+        snprintf(line, sizeof line, "%.*s", size < sizeof line ? (int)size : (int)sizeof line - 1,
+                 (const char *)bytes + at);
         if (read_shot(line, listed, &read->shots[read->count])) read->count++;
         at += size + 1;
     }

@@ -9,9 +9,14 @@
 #include <sys/stat.h>
 #include <unistd.h>
 
-/* Standard output, or a file that was named: it is written beside, as NAME.part, and takes its name once it is whole; a device or a pipe is written as
- * it stands. A descriptor below 0 is not open yet. */
-typedef struct { const char *name; char *beside; int descriptor; bool wrote; } destination;
+/* Standard output, or a file that was named: it is written beside, as NAME.part, and takes its name once it is whole; a
+ * device or a pipe is written as it stands. A descriptor below 0 is not open yet. */
+typedef struct {
+    const char *name;
+    char *beside;
+    int descriptor;
+    bool wrote;
+} destination;
 static destination output = {"standard output", NULL, STDOUT_FILENO, false};
 
 /* Says what went wrong, one line on standard error. */
@@ -71,14 +76,16 @@ int put_words(const char *format, ...) {
     return put(line, (size_t)length);
 }
 
-/* Closes the output where something was written, since some devices tell a failed write only then, and gives a file its name; what is not whole goes. */
+/* Closes the output where something was written, since some devices tell a failed write only then, and gives a file its
+ * name; what is not whole goes. */
 int finish(int status) {
     bool named = strcmp(output.name, "standard output") != 0, unsound = status == UNSOUND;
     if (unsound) status = DONE;
     if (status == DONE && named && !output.wrote) status = open_output();
     if (status == ENOUGH) status = DONE;
     if (output.wrote && status == DONE && close(output.descriptor) != 0) status = trouble(output.name, strerror(errno));
-    if (output.beside != NULL && status == DONE && system_rename(output.beside, output.name) != 0) status = trouble(output.name, strerror(errno));
+    if (output.beside != NULL && status == DONE && system_rename(output.beside, output.name) != 0)
+        status = trouble(output.name, strerror(errno));
     if (output.beside != NULL && status != DONE) system_remove(output.beside);
     return status == DONE && unsound ? REFUSED : status;
 }

@@ -8,7 +8,8 @@ static growing strict, said;
 void level_begin(void) { free_all(); }
 void *level_room(size_t size) { return malloc(size); }
 
-/* One loop of the text, by its number, or its only one for 0, and whether there has to be one; the exit status of the command. */
+/* One loop of the text, by its number, or its only one for 0, and whether there has to be one; the exit status of the
+ * command. */
 int level_run(const char *name, uint8_t *bytes, size_t length, uint32_t loop, uint32_t needed) {
     text from = {name, bytes, length};
     strict = said = (growing){NULL, 0, 0, false};

@@ -1,4 +1,5 @@
-/* What the command's sources call of C's library, for WebAssembly. Memory is handed out once and taken back all at once. */
+/* What the command's sources call of C's library, for WebAssembly. Memory is handed out once and taken back all at
+ * once. */
 #include "c.h"
 
 /* WebAssembly's memory grows by pages of so many bytes. */
@@ -12,7 +13,8 @@ void free_all(void) { used = ((size_t)&__heap_base + 15) & ~(size_t)15; }
 void *malloc(size_t size) {
     size_t need = ((size + 15) & ~(size_t)15) + 16, have = __builtin_wasm_memory_size(0) * (size_t)PAGE;
     if (need < size || used + need < used) return NULL;
-    if (used + need > have && __builtin_wasm_memory_grow(0, (used + need - have + PAGE - 1) / PAGE) == SIZE_MAX) return NULL;
+    if (used + need > have && __builtin_wasm_memory_grow(0, (used + need - have + PAGE - 1) / PAGE) == SIZE_MAX)
+        return NULL;
     uint8_t *at = (uint8_t *)used;
     used += need;
     memcpy(at, &size, sizeof size);
@@ -77,7 +79,10 @@ char *strerror(int number) { return (void)number, (char *)""; }
 
 /* ---- Printing: %s and %-12s, and %u, %zu, %llu, %lld with zeros in front, which is all that level prints. */
 
-typedef struct { char *to; size_t room, length; } printed;
+typedef struct {
+    char *to;
+    size_t room, length;
+} printed;
 
 static void print_byte(printed *p, char byte) {
     if (p->length + 1 < p->room) p->to[p->length] = byte;

@@ -1,4 +1,5 @@
-/* What the command's sources take of C's headers, for a compiler that has none; c.c has the functions. What writes is declared and not linked. */
+/* What the command's sources take of C's headers, for a compiler that has none; c.c has the functions. What writes is
+ * declared and not linked. */
 #pragma once
 #define NULL ((void *)0)
 #define bool _Bool

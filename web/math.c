@@ -46,7 +46,8 @@ double cos(double x) { return turned_sine(x, 1); }
 /* Halved twice, so that the series is short: the angle is twice that of x / (1 + sqrt(1 + x^2)). */
 double atan(double x) {
     if (fabs(x) > 1) return (x > 0 ? RIGHT : -RIGHT) - atan(1 / x);
-    double half = x / (1 + sqrt(1 + x * x)), quarter = half / (1 + sqrt(1 + half * half)), square = quarter * quarter, sum = 0;
+    double half = x / (1 + sqrt(1 + x * x)), quarter = half / (1 + sqrt(1 + half * half)), square = quarter * quarter,
+           sum = 0;
     for (int n = 27; n > 0; n -= 2) sum = 1.0 / n - sum * square;
     return 4 * quarter * sum;
 }

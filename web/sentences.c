@@ -1,4 +1,5 @@
-/* The sentences of refusals in jabulghi.wasm: the command's own table, with its tests of the bad line. jabulghi.js calls this function. */
+/* The sentences of refusals in jabulghi.wasm: the command's own table, with its tests of the bad line. jabulghi.js
+ * calls this function. */
 #include "../command/sentences.c"
 #include "../command/legs_cause.c"
 

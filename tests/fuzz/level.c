@@ -1,6 +1,7 @@
 /* `jabulghi level` on any bytes (tests/fuzz/run).
  *
- * Each text is read without a choice of its loop and with one. What is written is a text that the library's call takes; a refusal writes nothing and says at least a line. */
+ * Each text is read without a choice of its loop and with one. What is written is a text that the library's call takes;
+ * a refusal writes nothing and says at least a line. */
 #include "level.h"
 #include <stdlib.h>
 #include <string.h>
