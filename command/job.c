@@ -46,13 +46,13 @@ static int write_job(const survey *s) {
     size_t length, listed;
     uint32_t line;
     traverse t;
-    uint8_t *text = job_text(s, s->sigma, &length);
-    if (text == NULL) return trouble(s->source.name, strerror(ENOMEM));
-    uint32_t number = jabulghi_list(text, length, listing, sizeof listing, &line, &listed);
+    uint8_t *made = job_text(s, s->sigma, &length);
+    if (made == NULL) return trouble(s->source.name, strerror(ENOMEM));
+    uint32_t number = jabulghi_list(made, length, listing, sizeof listing, &line, &listed);
     if (number != JABULGHI_OK) return refuse_shot(s, line, number);
-    read_shots(text, length, false, &t);
+    read_shots(made, length, false, &t);
     is_loop(s->source.name, &t);
-    return put(text, length);
+    return put(made, length);
 }
 
 int job(int count, char **words) {

@@ -10,7 +10,7 @@ static bool is_letter_or_digit(char sign) {
 
 /* The letters and digits from one place to another put before a name; false where they do not fit. */
 static bool put_before(char *new_name, const char *from, const char *to) {
-    char kept[NAME_ROOM];
+    char kept[NAME_ROOM] = "";
     size_t count = 0, length = strlen(new_name);
     for (; from < to; from++) {
         if (!is_letter_or_digit(*from)) continue;

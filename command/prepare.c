@@ -17,22 +17,22 @@ static int miss_without_noise(task *t) {
 }
 
 /* Where the last run has room, all have. */
-static int room_for_runs(const task *t, const char *option) {
+static int room_for_runs(const task *t, const char *given) {
     int64_t last[1][2];
     uint32_t line, number = JABULGHI_COUNT_FULL;
     if (t->first <= UINT64_MAX - (t->runs - 1))
         number = jabulghi_play(t->job, t->length, t->first + (t->runs - 1), last, 1, &line);
-    return number == JABULGHI_OK ? DONE : refuse_option(option, number);
+    return number == JABULGHI_OK ? DONE : refuse_option(given, number);
 }
 
-int prepare(task *t, const char *option) {
+int prepare(task *t, const char *given) {
     int status = miss_without_noise(t);
     if (status != DONE) return status;
     read_shots(t->s.shots, t->s.length, false, &t->shots);
     if (!is_loop(t->s.source.name, &t->shots)) return REFUSED;
     if (!t->given) t->miss = (vector){(double)t->own[0], (double)t->own[1]};
     t->job = job_text(&t->s, t->s.sigma, &t->length);
-    return t->job == NULL ? trouble(t->s.source.name, strerror(ENOMEM)) : room_for_runs(t, option);
+    return t->job == NULL ? trouble(t->s.source.name, strerror(ENOMEM)) : room_for_runs(t, given);
 }
 
 /* The job of the first run: the shots, and as seeds the registers of its record. */
@@ -47,6 +47,6 @@ int put_run(const task *t) {
     if (number != JABULGHI_OK) return refuse_option("--run", number);
     memcpy(s.seeds, record.a, sizeof record.a);
     memcpy(s.seeds + 3, record.b, sizeof record.b);
-    uint8_t *text = job_text(&s, s.sigma, &length);
-    return text == NULL ? trouble(s.source.name, strerror(ENOMEM)) : put(text, length);
+    uint8_t *made = job_text(&s, s.sigma, &length);
+    return made == NULL ? trouble(s.source.name, strerror(ENOMEM)) : put(made, length);
 }

@@ -13,9 +13,9 @@ bool is_below(const tally *kept, unsigned thousandths) {
 
 /* Two digits of a percentage that is small, whole percents of one that is not; of none, that it is less than one of
  * all. */
-static const char *percent(char word[32], uint64_t part, uint64_t all) {
-    double share = 100.0 * (double)(part == 0 ? 1 : part) / (double)all;
-    snprintf(word, 32, share < 10 ? "%s%.2g" : "%s%.0f", part == 0 ? "less than " : "", share);
+static const char *percent(char word[32], uint64_t some, uint64_t all) {
+    double share = 100.0 * (double)(some == 0 ? 1 : some) / (double)all;
+    snprintf(word, 32, share < 10 ? "%s%.2g" : "%s%.0f", some == 0 ? "less than " : "", share);
     return word;
 }
 

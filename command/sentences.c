@@ -190,8 +190,8 @@ int refuse(const text *refused, subject about, size_t line, uint32_t number) {
 
 int refuse_option(const char *name, uint32_t number) {
     static uint8_t nothing;
-    text option = {name, &nothing, 0};
-    return refuse(&option, RECORD, 0, number);
+    text named = {name, &nothing, 0};
+    return refuse(&named, RECORD, 0, number);
 }
 
 const char *sentence(saying what) { return SAYINGS[what]; }

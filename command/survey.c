@@ -75,9 +75,9 @@ static bool keep_origins(const levelling *l, survey *s) {
 }
 
 /* The shots of a loop that was found, by the strict text that `level` writes of it. */
-static int take_walk(const levelling *l, bool renamed, survey *s) {
+static int take_walk(const levelling *l, bool new_names, survey *s) {
     growing strict = {NULL, 0, 0, false}, said = {NULL, 0, 0, false};
-    if (renamed) say_notes(l, &said);
+    if (new_names) say_notes(l, &said);
     else add(&said, "jabulghi: level, which reads the survey, is not proved\n");
     put_legs(l, &strict);
     if (strict.failed || said.failed || !keep_origins(l, s)) return trouble(s->source.name, strerror(ENOMEM));

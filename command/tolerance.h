@@ -75,7 +75,7 @@ typedef struct {
 
 /* prepare.c: makes the job that is played and its miss without noise; whatever is refused is refused here, too large a
  * number of a run by the name of the option that gave it. Prints the job of one run. */
-int prepare(task *t, const char *option);
+int prepare(task *t, const char *given);
 int put_run(const task *t);
 
 /* plays.c: plays all runs, by as many threads as are asked for. stations.c: what the errors of stations and of the

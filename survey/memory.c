@@ -30,7 +30,8 @@ static struct chunk *new_chunk(struct kept *k, size_t size) {
     struct chunk *made = malloc(sizeof *made + room);
     if (made == NULL) return NULL;
     *made = (struct chunk){.next = k->chunks, .room = room};
-    return k->chunks = made;
+    k->chunks = made;
+    return made;
 }
 
 void *allot(reader *r, size_t size) {
@@ -46,12 +47,13 @@ void *allot(reader *r, size_t size) {
 
 /* `array` is the place of a pointer to elements of that size; its room doubles at least. */
 bool room_for_one(reader *r, void *array, size_t count, size_t *room, size_t size) {
-    void *bytes;
+    void *bytes, *moved;
     if (count < *room) return true;
     size_t wanted = 2 * *room + 16;
     memcpy(&bytes, array, sizeof bytes);
-    bytes = realloc(bytes, wanted * size);
-    if (bytes == NULL) return r->no_memory = true, false;
+    moved = realloc(bytes, wanted * size);
+    if (moved == NULL) return r->no_memory = true, false;
+    bytes = moved;
     memcpy(array, &bytes, sizeof bytes);
     *room = wanted;
     return true;

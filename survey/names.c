@@ -153,8 +153,9 @@ void make_same(reader *r, size_t one, size_t other) {
 /* The labels from the root on, with points between. */
 char *full_name(reader *r, size_t named) {
     size_t length = r->names[named].length;
-    char *made = allot(r, length + 1), *at = made + length;
+    char *made = allot(r, length + 1);
     if (made == NULL) return NULL;
+    char *at = made + length;
     for (*at = '\0'; named != 0; named = r->names[named].above) {
         if (*at != '\0') *--at = '.';
         at -= r->names[named].label.length;

@@ -44,7 +44,7 @@ static void as_loop(const uint8_t *bytes, size_t length, const char *name) {
     memset(&t, 0, sizeof t);
     t.runs = 20;
     t.jobs = 1;
-    if (take_survey((text){name, copy, length}, &t.s) == DONE) {
+    if (take_survey((text){name, copy, length}, (wanted_loop){0}, &t.s) == DONE) {
         if (t.s.about != JOB)
             t.s.seeds[0] = t.s.seeds[1] = t.s.seeds[2] = t.s.seeds[3] = t.s.seeds[4] = t.s.seeds[5] = 2901327257,
             t.s.sigma[0] = 4, t.s.sigma[1] = 91;
