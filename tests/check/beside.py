@@ -20,7 +20,9 @@ class Differs(Exception):
 
 def tell(command: str, text: str, *words: str, status: tuple[int, ...] = (0, 1)) -> Any:
     """What the command tells of a text, as JSON gives it."""
-    done = subprocess.run([command, "check", "-", "--json", *words], input=text, capture_output=True, text=True)
+    done = subprocess.run(
+        [command, "check", "-", "--json", *words], input=text, capture_output=True, text=True, timeout=60
+    )
     if done.returncode not in status:
         raise Differs(f"{words}: status {done.returncode}: {done.stderr}")
     told = json.loads(done.stdout)

@@ -127,7 +127,14 @@ def other_errors() -> Iterator[Case]:
     yield "by trip, one trip", book(6).text(), {"trip": 2.0, "words": ("--trip", "2deg")}
 
 
+def one_of_many(loops: int, seed: int, number: int) -> str:
+    """The sound cave of that number among those made from a seed."""
+    rng = numpy.random.default_rng(seed)
+    return [caves.survey(rng, caves.made(rng, loops)).text() for _ in range(number + 1)][number]
+
+
 def many_loops() -> Iterator[Case]:
+    yield '30 loops, whose loops share many passages', one_of_many(30, 3001, 101), {}
     yield "200 loops, 20 degrees", book(200, "20deg").text(), {"plays": 200}
 
 
@@ -157,7 +164,7 @@ def cave_of(text: str, plays: int) -> other.Cave:
 
 
 def beyond_at(text: str) -> int:
-    cave = cave_of(text, 139)
+    cave = cave_of(text, 999)
     return int((cave.plays_t >= cave.t).sum())
 
 
@@ -170,26 +177,26 @@ def crossing(wanted: Callable[[float], bool], low: float, high: float) -> tuple[
 
 
 def at_five_percent() -> str:
-    """139 plays: 6 of them make p 0.05 just, which is sound; 5 are too few."""
-    b = next(b for b in iter(lambda: book(2, decimals=(4, 2, 2)), None) if cave_of(b.text(), 139).p > 0.2)
+    """999 plays: 49 of them make p 0.05 just, which is sound; 48 are too few."""
+    b = next(b for b in iter(lambda: book(2, decimals=(4, 2, 2)), None) if cave_of(b.text(), 999).p > 0.2)
     own = b.tape[0]
 
     def text(x: float) -> str:
         b.tape[0] = own + x
         return b.text()
 
-    start = next(x for x in numpy.arange(0, 50, 0.5) if cave_of(text(x), 139).p < 0.04)
-    for beyond, sound in ((6, True), (5, False)):
+    start = next(x for x in numpy.arange(0, 50, 0.5) if cave_of(text(x), 999).p < 0.04)
+    for beyond, sound in ((49, True), (48, False)):
         low, _ = crossing(lambda x: beyond_at(text(x)) >= beyond, 0.0, start)
-        told = tell(COMMAND, text(low), "--seeds", SEEDS, "--plays", "139")
+        told = tell(COMMAND, text(low), "--seeds", SEEDS, "--plays", "999")
         same(f"plays beyond at {low}", told["beyond"], beyond)
-        same(f"{beyond} of 139 plays", told["sound"], sound)
+        same(f"{beyond} of 999 plays", told["sound"], sound)
         said = subprocess.run(
-            [COMMAND, "check", "-", "--seeds", SEEDS, "--plays", "139"], input=text(low), capture_output=True, text=True
+            [COMMAND, "check", "-", "--seeds", SEEDS, "--plays", "999"], input=text(low), capture_output=True, text=True
         )
-        same(f"status with {beyond} of 139 plays", said.returncode, 0 if sound else 1)
+        same(f"status with {beyond} of 999 plays", said.returncode, 0 if sound else 1)
         for words, there in (("no sign of a blunder", sound), ("Look at", not sound), ("below 5 %", not sound)):
-            same(f"'{words}' with {beyond} of 139 plays", words in said.stdout, there)
+            same(f"'{words}' with {beyond} of 999 plays", words in said.stdout, there)
     return "5 % has both its sides"
 
 
