@@ -19,7 +19,7 @@ use Rattle.bit_matrix.specs.Matrices.{repeat}
 use Rattle.lanes.specs.Lanes.{words}
 use Rattle.lanes.proofs.Theorems.{word-is-pair}
 use Rattle.box_muller.specs.Sample.{firstOf, secondOf}
-use Rattle.passes.specs.Samples.{samplesAt}
+use Rattle.sample.specs.Samples.{samplesAt}
 use Rattle.box_muller.proofs.Closeness.{accepts}
 use Rattle.noise.specs.Noise.{pairOf, samples, blockCode}
 

@@ -11,7 +11,7 @@ use Rattle.exact.specs.Pair.{Close}
 use Rattle.radius.specs.Steps.{numberBits, inverse}
 use Rattle.box_muller.specs.Sample.{firstOf, secondOf, samplesOf}
 use Rattle.box_muller.proofs.Closeness.{Room, answer-close}
-use Rattle.passes.specs.Samples.{samplesAt}
+use Rattle.sample.specs.Samples.{samplesAt}
 
 -- code and memory are those of the answer
 abbrev pub Answered : (f k v code : ℕ) → List ℤ → Type 0

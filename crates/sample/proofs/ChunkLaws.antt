@@ -14,22 +14,15 @@ use Rattle.streams.specs.Streams.{advance}
 use Rattle.lanes.specs.declared.Lanes.{Lanes}
 use Rattle.lanes.specs.Lanes.{upper, lower, words, LanesAfter}
 use Rattle.lanes.proofs.Theorems.{words-add, length-words}
-use Rattle.passes.specs.Samples.{samplesAt, Room}
+use Rattle.sample.specs.Samples.{samplesAt}
 use Rattle.sample.specs.Filled.{LanesDrawn, Filled}
-use Rattle.passes.proofs.SamplesLaws.{samples-append, samples-length}
-use Rattle.passes.proofs.PassLaws.{Kept}
+use Rattle.sample.specs.Private.{Room}
+use Rattle.sample.proofs.SamplesLaws.{samples-append, samples-length}
+use Rattle.sample.proofs.PassLaws.{Kept}
 
 -- two samples for each word
 drawn-length : (f n : ℕ) (a b : Stream) → length (samplesAt f (words n a b)) ≡ 2 * n
 drawn-length f n a b = samples-length f (words n a b) ∙ ap (λ (m : ℕ). 2 * m) (length-words n a b)
-
--- a list of n words has room and memory as n numbers have
-module _ (n : ℕ) (a b : Stream) {z : List ℕ} (is : z ≡ words n a b) where
-  pub words-in-room : {p r x c fi : List ℕ} → Room n p r x c fi → Room (length z) p r x c fi
-  words-in-room room = rw (is, length-words n a b) room
-
-  pub samples-in-room : {m : ℕ} → m ≡ 2 * n → m ≡ 2 * length z
-  samples-in-room e = rw (is, length-words n a b) e
 
 -- the first `place` samples are written
 pub record Reached (f : ℕ) (out₀ : List ℤ) (u : Lanes) (out : List ℤ) (state : Lanes) (place : ℕ) : Type 0 where

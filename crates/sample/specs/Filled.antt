@@ -6,7 +6,7 @@ use lib.IntN.{ℤ}
 use lib.ListN.{length}
 use Rattle.lanes.specs.declared.Lanes.{Lanes}
 use Rattle.lanes.specs.Lanes.{upper, lower, words, LanesAfter}
-use Rattle.passes.specs.Samples.{samplesAt}
+use Rattle.sample.specs.Samples.{samplesAt}
 
 -- n pairs are drawn: both streams are n steps on, and the memory holds the samples of the pairs' words at f fraction bits.
 pub record LanesDrawn (f n : ℕ) (u next : Lanes) (out : List ℤ) : Type 0 where

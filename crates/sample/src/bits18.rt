@@ -1,9 +1,12 @@
 // Samples of 18 bits, 13 of them fraction bits (document 02, Job 8), line for line like those of 16.
 use crate::CHUNK;
 use crate::chunk_end;
+use crate::passes::look_up;
+use crate::passes::nears;
+use crate::passes::pair_of;
+use crate::passes::under_roots;
 use lanes::Lanes;
 use lanes::draw_pairs;
-use passes::samples18;
 ghost use mathlib.Core.Path.{_≡_};
 ghost use mathlib.Core.List.{[], _∷_};
 ghost use Prim.Native.Nat.{_*_, _/_, _%_, _^_, _≤_, _<_};
@@ -13,8 +16,45 @@ ghost use Rattle.exact.specs.Pair.{Close};
 ghost use Rattle.radius.specs.Steps.{numberBits, inverse};
 ghost use Rattle.box_muller.specs.Steps.{fractionBits18};
 ghost use Rattle.box_muller.specs.Sample.{samplesOf, threeQuarters};
-ghost use Rattle.passes.specs.Samples.{Room};
+ghost use Rattle.sample.specs.Samples.{samplesAt};
 ghost use Rattle.sample.specs.Filled.{LanesDrawn, Filled};
+ghost use Rattle.sample.specs.Private.{Room, Ready};
+
+// The samples of each z, from its 2Q, a near radius and its rotations.
+fn sample_each18(z: &[u64], x: &[u64], r: &[u32], coarse: &[u64], fine: &[u64], out: &mut [i32])
+    requires { ⌜ Ready (now z) (now x) (now r) (now coarse) (now fine) × (length (now out) ≡ 2 * length (now z)) ⌝ }
+    ensures { λ _. ⌜ now (out .exit) ≡ samplesAt fractionBits18 (now (z .entry)) ⌝ }
+{
+    let mut i = 0;
+    while i < z.len() {
+        let f = radius::root(x[i], r[i]);
+        let pair = pair_of(true, f, (z[i] % 65536) as u32, coarse[i], fine[i]);
+        let first = pair.first as i32;
+        let second = pair.second as i32;
+        out[2 * i] = first;
+        out[2 * i + 1] = second;
+        i += 1;
+    }
+}
+
+// The samples of each z. What the other slices hold does not matter.
+fn samples18(
+    z: &[u64],
+    places: &mut [u64],
+    r: &mut [u32],
+    x: &mut [u64],
+    coarse: &mut [u64],
+    fine: &mut [u64],
+    out: &mut [i32],
+)
+    requires { ⌜ Room (length (now z)) (now places) (now r) (now x) (now coarse) (now fine) × (length (now out) ≡ 2 * length (now z)) ⌝ }
+    ensures { λ _. ⌜ now (out .exit) ≡ samplesAt fractionBits18 (now (z .entry)) ⌝ }
+{
+    look_up(z, places, r, x, coarse, fine);
+    under_roots(z.len(), places, r, x);
+    nears(z.len(), x, r);
+    sample_each18(z, x, r, coarse, fine, out)
+}
 
 // The two samples of k and v in 18 bits, each less than three quarters of a unit of 2^-13 from its member of the exact pair; or 0 and 0 with the refusal code.
 pub fn sample18(k: u64, v: u32, out: &mut [i32; 2]) -> u32

@@ -1,6 +1,7 @@
 // Samples of 16 bits, 11 of them fraction bits (document 01, 'Angle and sample'), or of 18 bits and 13 (document 02, Job 8): of two numbers k and v, and of the
 // pairs that two streams draw.
 mod bits18;
+mod passes;
 
 pub use bits18::fill18;
 pub use bits18::sample18;
@@ -17,8 +18,8 @@ ghost use Rattle.radius.specs.Steps.{numberBits, inverse};
 ghost use Rattle.box_muller.specs.Steps.{fractionBits};
 ghost use Rattle.box_muller.specs.Sample.{samplesOf, nineSixteenths};
 ghost use Rattle.box_muller.specs.DataSheet.{thirtyThreeSixtyFourths};
-ghost use Rattle.passes.specs.Samples.{Room};
 ghost use Rattle.sample.specs.Filled.{LanesDrawn, Filled};
+ghost use Rattle.sample.specs.Private.{Room};
 
 // The two samples of k and v: document 01's steps with the half step (demand 2), and so each less than nine sixteenths of a unit of 2^-11 from its member of the
 // exact pair of (2k + 1) over 2^49, k from 0, and v over 65536 (demand 3), and less than 33/64 (document 02, Job 10); or 0 and 0 with the refusal code.

@@ -29,7 +29,7 @@ returns-3 : tie.Need-returns-3
 returns-3 c =
     let called = c .before .before .before .before .before in
     let tested = called .before .before .before .before .before .before .before .before in
-    closely (accepted fractionBits _ _ (omega arith) (omega arith) (called .samples .ensures (search needs) (search needs)))
+    closely (accepted fractionBits _ _ (omega arith) (omega arith) (called .samples .ensures))
 
 pub sample-spec : {M : Type 1} → statement M
 sample-spec = tie.close

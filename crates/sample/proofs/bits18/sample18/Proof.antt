@@ -28,7 +28,7 @@ returns-3 : tie.Need-returns-3
 returns-3 c =
     let called = c .before .before .before .before .before in
     let tested = called .before .before .before .before .before .before .before .before in
-    closely (accepted fractionBits18 _ _ (omega arith) (omega arith) (called .samples18 .ensures (search needs) (search needs)))
+    closely (accepted fractionBits18 _ _ (omega arith) (omega arith) (called .samples18 .ensures))
 
 pub sample18-spec : {M : Type 1} → statement M
 sample18-spec = tie.close

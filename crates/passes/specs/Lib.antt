@@ -1,3 +1,0 @@
--- The samples of many pairs.
-pub mod Samples
-pub mod Private
