@@ -25,13 +25,10 @@ static bool has_large_high(const bad_line *line) { return above(line, 3, 1008242
 #define OTHER_STATION "shot does not start at the last station"
 #define UNFIT(stream) "seed of stream " stream " below its minimum of 2, 8 or 16"
 
-/* For a subject and number the first row whose test holds of the bad line, or that has none. */
-static const struct {
-    subject about;
-    uint32_t number;
-    bool (*holds)(const bad_line *line);
-    const char *sentence;
-} SENTENCES[] = {
+/* For a subject and number the first row whose test holds of the bad line, or that has none. Scripts read a row a line.
+ */
+/* clang-format off */
+static const struct { subject about; uint32_t number; bool (*holds)(const bad_line *line); const char *sentence; } SENTENCES[] = {
     {JOB, JABULGHI_JOB_TOO_LONG, NULL, "job over 60,000 bytes"},
     {JOB, JABULGHI_NO_FORM, ends_in_crlf, CRLF},
     {JOB, JABULGHI_NO_FORM, lacks_line_feed, NO_LINE_FEED},
@@ -53,22 +50,19 @@ static const struct {
     {SURVEY, JABULGHI_NO_LEG, is_missing, "no data line"},
     {SURVEY, JABULGHI_NO_LEG, ends_in_crlf, CRLF},
     {SURVEY, JABULGHI_NO_LEG, lacks_line_feed, NO_LINE_FEED},
-    {SURVEY, JABULGHI_NO_LEG, is_other_data_line,
-     "data line is not '*data normal from to tape compass clino'; jabulghi level takes other orders"},
+    {SURVEY, JABULGHI_NO_LEG, is_other_data_line, "data line is not '*data normal from to tape compass clino'; jabulghi level takes other orders"},
     {SURVEY, JABULGHI_NO_LEG, is_command, "commands are not taken here; jabulghi level takes ordinary Survex"},
     {SURVEY, JABULGHI_NO_LEG, lacks_data_line, "leg before the data line"},
     {SURVEY, JABULGHI_NO_LEG, has_few_fields, "leg has fewer than five fields"},
     {SURVEY, JABULGHI_NO_LEG, has_many_fields, "leg has more than five fields"},
-    {SURVEY, JABULGHI_NO_LEG, has_bad_from,
-     "from is no name of 1 to 12 letters or digits; jabulghi level gives new names"},
+    {SURVEY, JABULGHI_NO_LEG, has_bad_from, "from is no name of 1 to 12 letters or digits; jabulghi level gives new names"},
     {SURVEY, JABULGHI_NO_LEG, has_bad_to, "to is no name of 1 to 12 letters or digits; jabulghi level gives new names"},
     {SURVEY, JABULGHI_NO_LEG, has_bad_tape, "tape is not 1 to 4 digits, then perhaps a point and 1 to 3 decimals"},
     {SURVEY, JABULGHI_NO_LEG, NULL, "compass is not 1 to 4 digits, then perhaps a point and 1 or 2 decimals"},
     {SURVEY, JABULGHI_LEG_OUT_OF_RANGE, ends_in_crlf, CRLF},
     {SURVEY, JABULGHI_LEG_OUT_OF_RANGE, has_long_tape, "tape above 1000"},
     {SURVEY, JABULGHI_LEG_OUT_OF_RANGE, has_large_compass, "compass above 360"},
-    {SURVEY, JABULGHI_LEG_OUT_OF_RANGE, NULL,
-     "clino is not the single digit 0; jabulghi level takes other forms, and steep legs as their plan"},
+    {SURVEY, JABULGHI_LEG_OUT_OF_RANGE, NULL, "clino is not the single digit 0; jabulghi level takes other forms, and steep legs as their plan"},
 
     {LISTING, JABULGHI_NO_FORM, is_missing, "line is missing"},
     {LISTING, JABULGHI_NO_FORM, ends_in_crlf, CRLF},
@@ -87,10 +81,12 @@ static const struct {
     {RECORD, JABULGHI_ODD_LENGTH, NULL, "must be even"},
     {RECORD, JABULGHI_COUNT_FULL, NULL, "the count would pass 2^64 - 1"},
 };
+/* clang-format on */
 
 #define HELP "; see jabulghi --help"
 
 /* What is said besides refusals; a name or a number stands where a % is. */
+/* clang-format off */
 static const char *const SAYINGS[] = {
     [NO_COMMAND] = "no command" HELP,
     [NO_SUCH_COMMAND] = "%s: no such command" HELP,
@@ -127,27 +123,22 @@ static const char *const SAYINGS[] = {
     [MISSING_RUNS] = "--merge: no part has the runs %" PRIu64 " to %" PRIu64,
     [NOT_MERGED] = "%s: not with --merge",
     [LACKS_FILE] = "%s: names no FILE" HELP,
-    [NO_ERRORS] = "%s: '%s' is neither a list such as tape=10mm,compass=1deg,clino=1deg,station=50mm,fix=1m, each "
-                  "once, nor two such as 4mm,0.5deg",
+    [NO_ERRORS] = "%s: '%s' is neither a list such as tape=10mm,compass=1deg,clino=1deg,station=50mm,fix=1m, each once, nor two such as 4mm,0.5deg",
     [NO_TRIP] = "%s: '%s' is no angle such as 0.5deg, at most 90 degrees",
     [FEW_PLAYS] = "%s: at least %d plays",
     [OTHER_PLAYS] = "%s: plays of another cave, or with other seeds or errors",
-    [MODELLED] = "modelled: independent Gaussian errors of each leg's distance and bearing; not modelled: calibration, "
-                 "stations, blunders",
-    [MODELLED_MORE] = "modelled: independent Gaussian errors of each leg's distance, bearing, slope and stations; not "
-                      "modelled: calibration, blunders",
+    [MODELLED] = "modelled: independent Gaussian errors of each leg's distance and bearing; not modelled: calibration, stations, blunders",
+    [MODELLED_MORE] = "modelled: independent Gaussian errors of each leg's distance, bearing, slope and stations; not modelled: calibration, blunders",
     [ALL_ALIKE] = "All runs miss alike: there is no noise to judge a miss by.",
     [ON_A_LINE] = "All runs miss along one line: a miss beside it is beyond them all.",
-    [VERDICT] = "A sound survey of this kind misses by as much or more in %s %% of runs (by the ellipse of the runs; "
-                "%s %% by distance alone).",
+    [VERDICT] = "A sound survey of this kind misses by as much or more in %s %% of runs (by the ellipse of the runs; %s %% by distance alone).",
     [NO_BLUNDER] = "That is no sign of a blunder.",
-    [BLUNDER_POSSIBLE] =
-        "That is below 5 %: a blunder is possible. One sound loop in 20 gets this, too; or your sigmas are too small.",
+    [BLUNDER_POSSIBLE] = "That is below 5 %: a blunder is possible. One sound loop in 20 gets this, too; or your sigmas are too small.",
     [BLUNDER_LIKELY] = "That is below 0.1 %: a blunder is likely. Or your sigmas are too small.",
-    [CANDIDATES] = "One leg alone, so corrected, would bring the miss within the noise (in brackets: sound surveys "
-                   "that miss by as much as then remains). What could be, not what is:",
+    [CANDIDATES] = "One leg alone, so corrected, would bring the miss within the noise (in brackets: sound surveys that miss by as much as then remains). What could be, not what is:",
     [NO_CANDIDATE] = "No correction of one leg alone would bring the miss within the noise.",
 };
+/* clang-format on */
 
 /* Whether the number that follows so many blanks is above a limit. */
 static bool above(const bad_line *line, size_t blanks, uint64_t most) {

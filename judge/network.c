@@ -14,7 +14,7 @@ struct flows {
 
 /* Distinct numbers that look random (the finalizer of splitmix64). */
 static uint64_t scattered(uint64_t n) {
-    n = (n + 1) * 0x9e3779b97f4a7c15;
+    n = (n + 0x6a09e667f3bcc909) * 0x9e3779b97f4a7c15;
     n = (n ^ n >> 30) * 0xbf58476d1ce4e5b9;
     n = (n ^ n >> 27) * 0x94d049bb133111eb;
     return n ^ n >> 31;

@@ -105,7 +105,13 @@ COARSE_ROWS = [a << 32 | reciprocal for a, reciprocal in zip(ENTRIES["LOG_COARSE
 MATCHES = [
     ("log_coarse_lookup", "nth", 256, row("Row", 2, 8, 8), COARSE),
     ("log_fine_lookup", "nth", 0, "0x{0[0]:08x}".format, [(b,) for b in ENTRIES["LOG_FINE"]]),
-    ("rotation_lookup", "nth_coarse", 0, row("Rotation", 8, 8), list(zip(ENTRIES["COS_COARSE"], ENTRIES["SIN_COARSE"]))),
+    (
+        "rotation_lookup",
+        "nth_coarse",
+        0,
+        row("Rotation", 8, 8),
+        list(zip(ENTRIES["COS_COARSE"], ENTRIES["SIN_COARSE"])),
+    ),
     ("rotation_lookup", "nth_fine", 0, row("Rotation", 8, 8), list(zip(ENTRIES["COS_FINE"], ENTRIES["SIN_FINE"]))),
     ("root_lookup", "cell_at", 0, row("Cell", 8, 8, 8), [(0, 0, 0)] * 32 + [root_cell(n) for n in range(32, 128)]),
 ]
@@ -137,7 +143,11 @@ def write_arms(crate, function, first, written, entries):
 
 def read_arms(crate, function, first):
     found = re.findall(r"(\d+) => (.*),\n", arms(crate, function)[1])
-    return [tuple(int(x, 16) for x in re.findall(r"0x\w+", entry)) for n, (key, entry) in enumerate(found, first) if int(key) == n]
+    return [
+        tuple(int(x, 16) for x in re.findall(r"0x\w+", entry))
+        for n, (key, entry) in enumerate(found, first)
+        if int(key) == n
+    ]
 
 
 def private():

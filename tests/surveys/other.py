@@ -3,24 +3,99 @@
 read(path) gives legs, stations, equates, fixes, sights and the lines that are refused. Files are read as bytes and taken for Latin-1, which keeps every byte."""
 import copy, math, os, re
 
-QUANTITIES = {word: name for name, words in {
-    'tape': 'tape length', 'compass': 'compass bearing', 'clino': 'clino gradient', 'backtape': 'backtape backlength', 'backcompass': 'backcompass backbearing',
-    'backclino': 'backclino backgradient', 'depth': 'depth', 'count': 'count counter', 'dx': 'dx easting', 'dy': 'dy northing', 'dz': 'dz altitude',
-    'declination': 'declination', 'walls': 'left right up ceiling down floor', 'level': 'level', 'plumb': 'plumb', 'position': 'position'}.items() for word in words.split()}
+QUANTITIES = {
+    word: name
+    for name, words in {
+        'tape': 'tape length',
+        'compass': 'compass bearing',
+        'clino': 'clino gradient',
+        'backtape': 'backtape backlength',
+        'backcompass': 'backcompass backbearing',
+        'backclino': 'backclino backgradient',
+        'depth': 'depth',
+        'count': 'count counter',
+        'dx': 'dx easting',
+        'dy': 'dy northing',
+        'dz': 'dz altitude',
+        'declination': 'declination',
+        'walls': 'left right up ceiling down floor',
+        'level': 'level',
+        'plumb': 'plumb',
+        'position': 'position',
+    }.items()
+    for word in words.split()
+}
 ANGLES = {'compass', 'clino', 'backcompass', 'backclino', 'declination', 'level', 'plumb'}
-UNITS = {'metres': 1, 'meters': 1, 'metric': 1, 'feet': 0.3048, 'yards': 0.9144, 'degrees': 1, 'degs': 1, 'grads': 0.9, 'mils': 0.9, 'minutes': 1 / 60, 'quads': 1, 'quadrants': 1,
-         'percent': 0.01, 'percentage': 0.01}
+UNITS = {
+    'metres': 1,
+    'meters': 1,
+    'metric': 1,
+    'feet': 0.3048,
+    'yards': 0.9144,
+    'degrees': 1,
+    'degs': 1,
+    'grads': 0.9,
+    'mils': 0.9,
+    'minutes': 1 / 60,
+    'quads': 1,
+    'quadrants': 1,
+    'percent': 0.01,
+    'percentage': 0.01,
+}
 LENGTHS = {'metres', 'meters', 'metric', 'feet', 'yards'}
-FIELDS = {word: name for name, words in {
-    'from': 'from', 'to': 'to', 'station': 'station', 'direction': 'direction', 'tape': 'tape length', 'compass': 'compass bearing', 'clino': 'clino gradient',
-    'backtape': 'backtape backlength', 'backcompass': 'backcompass backbearing', 'backclino': 'backclino backgradient', 'fromdepth': 'fromdepth', 'todepth': 'todepth', 'depth': 'depth',
-    'depthchange': 'depthchange', 'fromcount': 'fromcount', 'tocount': 'tocount', 'count': 'count counter', 'dx': 'dx easting', 'dy': 'dy northing', 'dz': 'dz altitude',
-    'newline': 'newline', 'ignore': 'ignore', 'ignoreall': 'ignoreall'}.items() for word in words.split()}
+FIELDS = {
+    word: name
+    for name, words in {
+        'from': 'from',
+        'to': 'to',
+        'station': 'station',
+        'direction': 'direction',
+        'tape': 'tape length',
+        'compass': 'compass bearing',
+        'clino': 'clino gradient',
+        'backtape': 'backtape backlength',
+        'backcompass': 'backcompass backbearing',
+        'backclino': 'backclino backgradient',
+        'fromdepth': 'fromdepth',
+        'todepth': 'todepth',
+        'depth': 'depth',
+        'depthchange': 'depthchange',
+        'fromcount': 'fromcount',
+        'tocount': 'tocount',
+        'count': 'count counter',
+        'dx': 'dx easting',
+        'dy': 'dy northing',
+        'dz': 'dz altitude',
+        'newline': 'newline',
+        'ignore': 'ignore',
+        'ignoreall': 'ignoreall',
+    }.items()
+    for word in words.split()
+}
 COMMON = {'from', 'to', 'station', 'direction', 'newline', 'ignore', 'ignoreall'}
 NORMAL = COMMON | {'tape', 'backtape', 'fromcount', 'tocount', 'count', 'compass', 'backcompass', 'clino', 'backclino'}
 DEPTH = {'fromdepth', 'todepth', 'depth', 'depthchange'}
-STYLES = {'normal': NORMAL, 'topofil': NORMAL, 'diving': NORMAL | DEPTH, 'cylpolar': NORMAL | DEPTH, 'cartesian': COMMON | {'dx', 'dy', 'dz'}, 'nosurvey': COMMON}
-SIGNS = {'blank': ' \t,\x1a', 'comment': ';', 'decimal': '.', 'eol': '\n\r', 'keyword': '*', 'minus': '-', 'names': '_-', 'omit': '-', 'plus': '+', 'root': '\\', 'separator': '.'}
+STYLES = {
+    'normal': NORMAL,
+    'topofil': NORMAL,
+    'diving': NORMAL | DEPTH,
+    'cylpolar': NORMAL | DEPTH,
+    'cartesian': COMMON | {'dx', 'dy', 'dz'},
+    'nosurvey': COMMON,
+}
+SIGNS = {
+    'blank': ' \t,\x1a',
+    'comment': ';',
+    'decimal': '.',
+    'eol': '\n\r',
+    'keyword': '*',
+    'minus': '-',
+    'names': '_-',
+    'omit': '-',
+    'plus': '+',
+    'root': '\\',
+    'separator': '.',
+}
 
 
 class Refused(Exception):
@@ -34,7 +109,12 @@ class Settings:
         self.unit = {q: (1, 'number') for q in QUANTITIES.values()}
         self.calibration = {q: (0, 1) for q in QUANTITIES.values()}
         self.sd = {q: 0.25 if q in ('level', 'plumb') else 0.5 if q in ANGLES else 0.05 for q in QUANTITIES.values()}
-        self.declination, self.style, self.order, self.system = 0.0, 'normal', ['from', 'to', 'tape', 'compass', 'clino'], ''
+        self.declination, self.style, self.order, self.system = (
+            0.0,
+            'normal',
+            ['from', 'to', 'tape', 'compass', 'clino'],
+            '',
+        )
 
 
 def turn(degrees):
@@ -88,10 +168,12 @@ class Reader:
             prefix, word = self.root, word[1:]
             if word and self.has(word[0], 'separator'):
                 word = word[1:]
-        for label in re.split('[' + re.escape(self.now.signs['separator']) + ']' if self.now.signs['separator'] else '(?!)', word):
+        for label in re.split(
+            '[' + re.escape(self.now.signs['separator']) + ']' if self.now.signs['separator'] else '(?!)', word
+        ):
             if not label or not all(s.isascii() and s.isalnum() or s > '\x7f' or self.has(s, 'names') for s in label):
                 raise Refused
-            label = label[:self.now.truncate]
+            label = label[: self.now.truncate]
             key = {'tolower': lower, 'toupper': upper, 'preserve': str}[self.now.case](label)
             prefix += (key,)
             self.names.setdefault(prefix, label)
@@ -110,7 +192,7 @@ class Reader:
         return name
 
     def full(self, name):
-        return '.'.join(self.names[name[:j + 1]] for j in range(len(name)))
+        return '.'.join(self.names[name[: j + 1]] for j in range(len(name)))
 
     # ---- files
     def read(self, path, text):
@@ -121,8 +203,8 @@ class Reader:
             text = text[3:]
         while text:
             at = next((j for j, sign in enumerate(text) if self.has(sign, 'eol')), len(text))
-            line, end = text[:at], text[at:at + 1]
-            text = text[at + 1:]
+            line, end = text[:at], text[at : at + 1]
+            text = text[at + 1 :]
             if end and text and text[0] != end and self.has(text[0], 'eol'):
                 text = text[1:]
             number += 1
@@ -163,7 +245,9 @@ class Reader:
     # ---- commands
     def do_begin(self, words, line):
         inside = copy.copy(self.now)
-        inside.signs, inside.flags, inside.unit, inside.calibration, inside.sd = (type(x)(x) for x in (self.now.signs, self.now.flags, self.now.unit, self.now.calibration, self.now.sd))
+        inside.signs, inside.flags, inside.unit, inside.calibration, inside.sd = (
+            type(x)(x) for x in (self.now.signs, self.now.flags, self.now.unit, self.now.calibration, self.now.sd)
+        )
         self.scopes.append((self.now, words[0] if words else '', self.line))
         outside, self.now = self.now, inside
         if words:
@@ -237,10 +321,14 @@ class Reader:
     def do_set(self, words, line):
         if not words or lower(words[0]) not in SIGNS:
             raise Refused
-        rest = line[line.lower().index('set') + 3:]
-        rest = rest[rest.lower().index(lower(words[0])) + len(words[0]):]
+        rest = line[line.lower().index('set') + 3 :]
+        rest = rest[rest.lower().index(lower(words[0])) + len(words[0]) :]
         rest = rest.lstrip(self.now.signs['blank'])
-        word = re.match('[^' + re.escape(self.now.signs['blank']) + ']*', rest).group() if self.now.signs['blank'] else rest
+        word = (
+            re.match('[^' + re.escape(self.now.signs['blank']) + ']*', rest).group()
+            if self.now.signs['blank']
+            else rest
+        )
         signs = re.sub(r'[xX]([0-9a-fA-F]{2})', lambda found: chr(int(found[1], 16)), word)
         if any(s.isascii() and s.isalnum() for s in signs):
             raise Refused
@@ -260,7 +348,13 @@ class Reader:
             raise Refused
         for q in quantities:
             allowed = LENGTHS if q not in ANGLES else {'degrees', 'degs', 'grads', 'mils', 'minutes'}
-            allowed = allowed | ({'percent', 'percentage'} if q in ('clino', 'backclino') else {'quads', 'quadrants'} if q in ('compass', 'backcompass', 'declination') else set())
+            allowed = allowed | (
+                {'percent', 'percentage'}
+                if q in ('clino', 'backclino')
+                else {'quads', 'quadrants'}
+                if q in ('compass', 'backcompass', 'declination')
+                else set()
+            )
             if unit not in allowed:
                 raise Refused
         return unit
@@ -281,7 +375,10 @@ class Reader:
         if words:
             raise Refused
         for q in quantities:
-            self.now.unit[q] = factor * UNITS[unit], 'percent' if unit.startswith('percent') else 'quadrant' if unit.startswith('quad') else 'number'
+            self.now.unit[q] = (
+                factor * UNITS[unit],
+                'percent' if unit.startswith('percent') else 'quadrant' if unit.startswith('quad') else 'number',
+            )
 
     def do_calibrate(self, words, line):
         if words and lower(words[0]) == 'default':
@@ -303,7 +400,9 @@ class Reader:
             raise Refused
         for q in quantities:
             size, form = self.now.unit[q]
-            self.now.calibration[q] = (zero * UNITS[unit] / scale if unit else zero * size * (math.degrees(1) if form == 'percent' else 1)), scale
+            self.now.calibration[q] = (
+                zero * UNITS[unit] / scale if unit else zero * size * (math.degrees(1) if form == 'percent' else 1)
+            ), scale
             if q == 'declination':
                 self.now.declination = -self.now.calibration[q][0]
 
@@ -358,7 +457,12 @@ class Reader:
             for word in words[1:]:
                 field = FIELDS.get(lower(word))
                 twice = field in fields and field not in ('ignore', 'ignoreall')
-                if field not in STYLES[style] or twice or (fields and fields[-1] == 'ignoreall' and field != 'newline') or len(fields) == 32:
+                if (
+                    field not in STYLES[style]
+                    or twice
+                    or (fields and fields[-1] == 'ignoreall' and field != 'newline')
+                    or len(fields) == 32
+                ):
                     raise Refused
                 fields.append(field)
             self.check(style, fields)
@@ -369,11 +473,15 @@ class Reader:
         ends = seen & {'from', 'to'}
         whole = not ends and ('newline' in seen or style == 'nosurvey') if 'station' in seen else len(ends) == 2
         if 'newline' in fields:
-            whole = whole and not {'station', 'depth', 'count'} & set(fields[fields.index('newline'):])
+            whole = whole and not {'station', 'depth', 'count'} & set(fields[fields.index('newline') :])
         if style == 'cartesian':
             whole = whole and {'dx', 'dy', 'dz'} <= seen
         elif style != 'nosurvey':
-            whole = whole and (seen & {'tape', 'backtape', 'count'} or {'fromcount', 'tocount'} <= seen) and seen & {'compass', 'backcompass'}
+            whole = (
+                whole
+                and (seen & {'tape', 'backtape', 'count'} or {'fromcount', 'tocount'} <= seen)
+                and seen & {'compass', 'backcompass'}
+            )
             if style in ('diving', 'cylpolar'):
                 whole = whole and (seen & {'depth', 'depthchange'} or {'fromdepth', 'todepth'} <= seen)
         if not whole:
@@ -460,7 +568,7 @@ class Reader:
                 if os.path.isfile(path):
                     if path in self.open:
                         raise Refused
-                    if (words[1:] if not found else self.words(found[2])):
+                    if words[1:] if not found else self.words(found[2]):
                         raise Refused
                     here = self.file, self.line, self.path
                     self.depths.append(len(self.scopes))
@@ -485,7 +593,7 @@ class Reader:
         run = self.run
         if cut < len(order) and run and 'to' in run and not run.get('leg'):
             run.update(leg=True, line=self.line, readings={}, back=False, bad=True)
-            self.fields(line, words, order[cut + 1:], run)
+            self.fields(line, words, order[cut + 1 :], run)
             run['bad'] = False
             if not shared:
                 self.run = None
@@ -533,7 +641,9 @@ class Reader:
             raise Refused
 
     def comma(self, line):
-        text = re.split('[' + re.escape(self.now.signs['comment']) + ']', line)[0] if self.now.signs['comment'] else line
+        text = (
+            re.split('[' + re.escape(self.now.signs['comment']) + ']', line)[0] if self.now.signs['comment'] else line
+        )
         return self.has(',', 'blank') and re.search(r'(?:^|[ \t])[+-]?[0-9]+,[0-9]+(?=[ \t]|$)', text)
 
     def field(self, field, word, run):
@@ -560,8 +670,12 @@ class Reader:
 
     def reading(self, field, word):
         q = field if field in QUANTITIES else 'depth' if 'depth' in field else 'count'
-        (size, form), (zero, scale), variance = self.now.unit[q], self.now.calibration[q], self.now.sd[q]**2
-        if q in ('tape', 'backtape', 'compass', 'backcompass', 'clino', 'backclino') and len(word) == 1 and self.has(word, 'omit'):
+        (size, form), (zero, scale), variance = self.now.unit[q], self.now.calibration[q], self.now.sd[q] ** 2
+        if (
+            q in ('tape', 'backtape', 'compass', 'backcompass', 'clino', 'backclino')
+            and len(word) == 1
+            and self.has(word, 'omit')
+        ):
             return None
         if q in ('clino', 'backclino'):
             for words, value in ((('level', 'h'), 0), (('up', 'u', '+v', 'v'), 90), (('down', 'd', '-v'), -90)):
@@ -610,7 +724,17 @@ class Reader:
             return
         if run['back']:
             start, end = end, start
-        leg = [self.file, run['line'], start, end, style, self.now.declination, [vector], slope_by, len(run['readings'])]
+        leg = [
+            self.file,
+            run['line'],
+            start,
+            end,
+            style,
+            self.now.declination,
+            [vector],
+            slope_by,
+            len(run['readings']),
+        ]
         last = self.legs[-1] if self.legs else None
         if last and last[2:6] == leg[2:6] and last[7:9] == leg[7:9]:
             last[6].append(vector)
