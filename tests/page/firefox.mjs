@@ -70,8 +70,8 @@ try {
   await value("document.getElementById('plays').value = '1000000', document.getElementById('go').click()");
   await until(played, /1,000,000 plays/);
   console.log(`the page in Firefox: verdicts, several loops; ${few} ${await value(played)}`);
-  await value("document.getElementById('text').value = '*data normal from to tape compass clino\\nA B 1001 0 0\\n', document.getElementById('go').click()");
-  await until("document.getElementById('said').textContent", /^Line 2: tape above 1000\.$/);
+  await value("document.getElementById('text').value = '*data normal from to tape compass clino\\nA B 5 90 0\\nB A 1001 270 0\\n', document.getElementById('go').click()");
+  await until("document.getElementById('said').textContent", /^Line 3: leg above 1000 m in plan, and a job takes 1000 m\.$/);
   assert.deepEqual(errors, []);
 } finally {
   await Promise.race([call('browser.close', {}).catch(() => {}), wait(3000)]);
