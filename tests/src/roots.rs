@@ -6,6 +6,12 @@ use crate::random::Random;
 use crate::sample::{root, Cell, Tables};
 use crate::stream::{fresh, step, A};
 
+/// The first 8 fraction bits of the root of x, whose whole part is f.
+fn fraction(x: i128, f: i128) -> i128 {
+    let reaches = |bits: i128| (256 * f + bits) * (256 * f + bits) <= x << 16;
+    (0..8).rev().fold(0, |found, bit| if reaches(found | 1 << bit) { found | 1 << bit } else { found })
+}
+
 /// A k with its cell, 2Q, the root of it, which is F, and the root's first 8 fraction bits.
 struct Place {
     k: u64,
@@ -19,7 +25,8 @@ impl Place {
     fn of(tables: &Tables, k: u64) -> Place {
         let cell = Cell::of(k);
         let x = tables.under_root(&cell);
-        Place { k, cell, x, f: root(x), fraction: root(x << 16) % 256 }
+        let f = root(x);
+        Place { k, cell, x, f, fraction: fraction(x, f) }
     }
 
     /// Whether i and so many more would give another radius.
