@@ -18,6 +18,12 @@ twice() {
     "$@"
 }
 
+# block LANGUAGE PAGE: the blocks of code of a page in this language.
+block() {
+    local fence='```'
+    sed -n "/^$fence$1\$/,/^$fence\$/p" "$2" | sed "/^$fence/d"
+}
+
 # run_cases "CASE.." [NAME..]: runs the functions of these names, or all of them. The script has a function `failed`.
 run_cases() {
     local all case
