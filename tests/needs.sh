@@ -4,6 +4,9 @@
 # left_out WHAT NEEDS [PACKAGE..]: says that a test is not run and what it needs. tests/run counts these lines.
 left_out() { echo "NOT RUN: $1, which needs $2${3:+ (Debian: ${*:3})}"; }
 
+# not_here WHAT NEEDS: the same where no package gives what it needs: a document, the network, a processor. tests/run counts these lines apart.
+not_here() { echo "NOT HERE: $1, which needs $2"; }
+
 # has COMMAND WHAT [PACKAGE..]: whether a command is there; if not, what needs it is left out.
 has() {
     if "$1" --version >/dev/null 2>&1; then return; fi
