@@ -21,6 +21,13 @@ twice() {
     "$@"
 }
 
+# emulated FILE COMMAND..: runs it, once more if it fails, and gives what it prints; the FILE is where that is kept meanwhile.
+emulated() {
+    twice kept_in "$@"
+    cat "$1"
+}
+kept_in() { "${@:2}" >"$1"; }
+
 # block LANGUAGE PAGE: the blocks of code of a page in this language.
 block() {
     local fence='```'

@@ -40,14 +40,11 @@ bare_compile() {
         -nostartfiles -Wl,--gc-sections -Wl,--wrap=main -Wl,-z,noexecstack -Lexamples/firmware -T "$bare/$machine.ld" -o "$2"
 }
 
-# bare_once FILE PROGRAM [OPTION..]: runs it, at most 200 s; what it prints goes into FILE.
+# bare_once PROGRAM [OPTION..]: runs it, at most 200 s.
 bare_once() {
     timeout 200 "${emulator[@]}" -M "$machine" -display none -monitor none -serial none -chardev stdio,id=text,signal=off \
-        -semihosting-config enable=on,target=native,chardev=text "${@:3}" -kernel "$2" </dev/null >"$1"
+        -semihosting-config enable=on,target=native,chardev=text "${@:2}" -kernel "$1" </dev/null
 }
 
 # bare_run PROGRAM [OPTION..]: runs it, once more if the emulator fails; what it prints comes on standard output.
-bare_run() {
-    twice bare_once "$1.printed" "$@"
-    cat "$1.printed"
-}
+bare_run() { emulated "$1.printed" bare_once "$@"; }
