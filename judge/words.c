@@ -5,9 +5,8 @@
 #include <stdlib.h>
 #include <string.h>
 
-/* At most so many suspects and bad loops are printed; a suspect below this share is not, but for the first. */
+/* At most so many suspects and bad loops are printed. */
 enum { MOST_SUSPECTS = 10, MOST_LOOPS = 5 };
-#define LEAST_SHARE 0.01
 
 /* Below this the share of sound loops is not told more exactly. */
 #define LEAST_P 0.001
@@ -26,7 +25,7 @@ static void counted(growing *to, uint64_t number, const char *one, const char *m
     add(to, " %s", number == 1 ? one : many);
 }
 
-/* A share of sound caves: two digits of what is small. */
+/* A share: two digits of what is small. */
 static void percent(growing *to, double share) { add(to, share < 0.0995 ? "%.2g %%" : "%.0f %%", 100 * share); }
 
 double judge_bearing(struct judge_vector v) {
@@ -227,7 +226,8 @@ static void tell_suspect(const struct judge_cave *cave, const struct judge_verdi
     add(to, ": ");
     judge_blunder_words(&s->best, to);
     add(to, " would explain it.\n      ");
-    percent(to, s->share);
+    if (s->share < 0.995) percent(to, s->share);
+    else add(to, "Over 99 %%");
     add(to, " sure. Corrected, ");
     percent(to, s->remains);
     add(to, " of sound caves look as bad.");
@@ -256,7 +256,7 @@ static void tell_suspects(const struct judge_cave *cave, const struct judge_verd
     size_t printed = 0;
     add(to, "Look at these legs first:\n");
     while (printed < v->suspect_count && printed < MOST_SUSPECTS &&
-           (printed == 0 || v->suspects[printed].share >= LEAST_SHARE))
+           (printed == 0 || v->suspects[printed].share >= JUDGE_LEAST_SHARE))
         tell_suspect(cave, v, printed++, to);
     tell_passages(cave, v, printed, to);
     const struct judge_suspect *first = &v->suspects[0];
@@ -345,10 +345,14 @@ static void tell_sigmas(const struct judge_cave *cave, const struct judge_verdic
     const struct judge_estimate *f = &v->factor, *s = &v->station;
     struct judge_range given = judge_range_of(cave, JUDGE_STATION);
     bool agrees = f->low <= 1 && f->high >= 1;
-    add(to, "Your loops fit %s%.0f mm a station (%.0f to %.0f)", agrees ? "these errors; best would be " : "",
-        1000 * s->value, 1000 * s->low, 1000 * s->high);
-    if (!agrees) add(to, ", not %.0f", 1000 * given.high);
-    add(to, ", or all errors times %.2f (%.2f to %.2f).", f->value, f->low, f->high);
+    add(to, "%s fit%s ", cave->loop_count == 1 ? "Your loop" : "Your loops", cave->loop_count == 1 ? "s" : "");
+    if (agrees) add(to, "these errors; best would be ");
+    if (agrees || s->value > 0)
+        add(to, "%.0f mm a station (%.0f to %.0f)", 1000 * s->value, 1000 * s->low, 1000 * s->high);
+    if (!agrees && s->value > 0) add(to, ", not %.0f", 1000 * given.high);
+    add(to, "%s times %.2f (%.2f to %.2f).",
+        agrees || s->value > 0 ? ", or all errors" : "smaller errors than these: all of them", f->value, f->low,
+        f->high);
     if (!v->sound && v->factor_without > 0) add(to, " Without the worst leg: times %.2f.", v->factor_without);
     add(to, "\n");
 }

@@ -102,7 +102,9 @@ def another_distance(leg: Leg, lengths: Lengths, v: Array, g: Array, H: Array, k
     curve = float(e @ H @ e)
     x = max(float(-(e @ g)) / curve, -P)
     likelier = lengths.likelier(leg, leg.length * (P + x) / P)
-    mass = math.log(4 * likelier / (2 + abs(x)) ** 2) + gain(g, H, x * e) / (2 * k) + math.log(2 * math.pi * k / curve) / 2
+    mass = (
+        math.log(4 * likelier / (2 + abs(x)) ** 2) + gain(g, H, x * e) / (2 * k) + math.log(2 * math.pi * k / curve) / 2
+    )
     return Hypothesis("another distance", mass, x * e)
 
 
@@ -142,7 +144,9 @@ def hypotheses(cave: Cave, lengths: Lengths, j: int, g: Array, H: Array, k: floa
     leg = cave.survey.legs[edge.leg]
     moves = [(name, w, d) for name, w, d in known(leg, v, lengths) if math.hypot(*d) >= LEAST_MOVE]
     found = [Hypothesis(name, math.log(w) + gain(g, H, d) / (2 * k), d) for name, w, d in moves]
-    return found + ([another_distance(leg, lengths, v, g, H, k), another_bearing(v, g, H, k)] if math.hypot(*v) > 0 else [])
+    return found + (
+        [another_distance(leg, lengths, v, g, H, k), another_bearing(v, g, H, k)] if math.hypot(*v) > 0 else []
+    )
 
 
 def unsureness(cave: Cave) -> float:

@@ -138,9 +138,7 @@ def station() -> None:
     count = caves_of(200)
     rng = numpy.random.default_rng([3, FIRST])
     true = {"tape": 0.01, "compass": 0.5, "clino": 0.5, "station": 0.05}
-    surveys = (
-        (caves.survey(rng, caves.made(rng, 20), true).text({**true, "station": 0.01}), 0) for _ in range(count)
-    )
+    surveys = ((caves.survey(rng, caves.made(rng, 20), true).text({**true, "station": 0.01}), 0) for _ in range(count))
     rows = [t.station for t in told(surveys, plays=100)]
     values = numpy.array([value for value, _, _ in rows])
     off = numpy.abs(values / 50 - 1)
