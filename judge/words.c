@@ -225,7 +225,7 @@ static void tell_suspect(const struct judge_cave *cave, const struct judge_verdi
     else if (e->kind == JUDGE_LEG) tell_readings(&cave->survey->legs[e->index], to);
     add(to, ": ");
     judge_blunder_words(&s->best, to);
-    add(to, " would explain it.\n      ");
+    add(to, s->remains < JUDGE_LIMIT ? " would explain part of it.\n      " : " would explain it.\n      ");
     if (s->share < 0.995) percent(to, s->share);
     else add(to, "Over 99 %%");
     add(to, " sure. Corrected, ");
@@ -247,9 +247,10 @@ static void tell_passages(const struct judge_cave *cave, const struct judge_verd
                            till = judge_place_of(cave, &cave->edges[last]);
         add(to, "[%c]: one passage of ", told++);
         counted(to, cave->passages[passage].legs, "leg", "legs");
-        add(to, ", %s:%zu to %s:%zu. No loop can tell them apart, only the size of the blunder can.\n",
-            cave->survey->files[from.file].name, from.line, cave->survey->files[till.file].name, till.line);
+        add(to, ", %s:%zu to %s:%zu.\n", cave->survey->files[from.file].name, from.line,
+            cave->survey->files[till.file].name, till.line);
     }
+    if (told > 'A') add(to, "No loop can tell the legs of one passage apart, only the size of the blunder can.\n");
 }
 
 static void tell_suspects(const struct judge_cave *cave, const struct judge_verdict *v, growing *to) {

@@ -102,6 +102,18 @@ def sizes_and_blunders() -> Iterator[Case]:
     yield "5 loops, coarse and steep, 2 m", book(5, "2m", (1, 0, 0), steep=45.0).text(), {}
 
 
+SAME_LENGTH = """*data normal from to tape compass clino
+a b 10.00 0 0
+b c 10.05 90 0
+c d 10.00 180 0
+d e 10.05 90 0
+e f 10.00 0 0
+f a 10.00 270 0
+f g 10.00 90 0
+g b 11.00 270 0
+"""
+
+
 def other_surveys() -> Iterator[Case]:
     yield "backsights", with_backsights(book(6, "5m")), {}
     yield "feet and corrections", in_feet(book(5, "10m")), {}
@@ -111,6 +123,7 @@ def other_surveys() -> Iterator[Case]:
     yield "fixed wrongly", with_fixes(book(3), 30, "0.5 0.4 1"), {}
     yield "plumbed legs", with_plumbs(4), {}
     yield "Survex's defaults", book(5, "10m").text({}), {}
+    yield "legs of one length", SAME_LENGTH, {}
 
 
 def other_errors() -> Iterator[Case]:
@@ -282,7 +295,9 @@ def told_of_suspects() -> None:
             sure = "Over 99 %" if s["share"] >= 0.995 else percent(s["share"])
             holds("a suspect", rows[2 * j], f"standard input:{s['line']}  {s['from']} - {s['to']}", s["blunder"])
             holds("a suspect", rows[2 * j + 1], f"{sure} sure. Corrected, {percent(s['remains'])} of sound caves")
-        same("suspects printed", said.count(" would explain it."), len(shown))
+        same("suspects printed", said.count(" would explain "), len(shown))
+        well = sum(s["remains"] >= 0.05 for s in shown)
+        same("suspects that explain all", said.count(" would explain it."), well)
         first = told["suspects"][0]
         several += first["remains"] < 0.05
         same("several blunders", "there are several blunders" in said, first["remains"] < 0.05)
