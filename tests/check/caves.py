@@ -34,7 +34,8 @@ def made(rng: Array, loops: int, most_legs: int = 8, steep: float = 20.0, branch
     for _ in range(loops - 1):
         names = list(places)
         start = names[rng.integers(len(names))]
-        far = [n for n in names if n != start and 8 < numpy.linalg.norm(places[n] - places[start]) < 90]
+        away = numpy.linalg.norm(numpy.array(list(places.values())) - places[start], axis=1)
+        far = [n for n, metres in zip(names, away) if 8 < metres < 90]
         passage(rng, places, legs, start, far[rng.integers(len(far))], int(rng.integers(2, most_legs + 1)), steep)
     inside = list(range(len(legs)))
     for _ in range(branches):
