@@ -8,7 +8,7 @@
 /* Degrees. */
 #define RADIAN (180 / 3.14159265358979323846)
 
-enum { MOST_READINGS = 40, MOST_MORE = 9 /* decimals */ };
+enum { MOST_READINGS = 40 /* of a shot */, MOST_MORE = 9 /* decimals that are added */ };
 
 /* A leg as it is to be: metres and degrees. */
 typedef struct {
@@ -25,17 +25,8 @@ typedef struct {
 } rewriting;
 
 static bool is_bearing(enum survey_quantity what) { return what == SURVEY_COMPASS || what == SURVEY_BACKCOMPASS; }
-static bool is_slope(enum survey_quantity what) { return what == SURVEY_CLINO || what == SURVEY_BACKCLINO; }
 
 /* ---- What readings are to say */
-
-/* A leg of 0 mm has a tenth of one, so that its bearing is not lost and it is no equate; a plumb line has no bearing. */
-static wanted_leg wanted_of(const struct survey_leg *leg, const shot *played) {
-    bool plumb = leg->slope_by == SURVEY_BY_PLUMB && played->bearing == 0;
-    wanted_leg w = {played->distance / 1000.0, played->bearing * (360 / 65536.0), leg->up, 0};
-    if (played->distance == 0 && !plumb) w.plan = 0.0001;
-    return w;
-}
 
 static double value_of(const rewriting *w, enum survey_quantity what) {
     for (size_t j = 0; j < w->leg.reading_count; j++) {
@@ -50,6 +41,17 @@ static double length_of(const rewriting *w, const wanted_leg *to) {
     double depth = change != NULL ? change->value : value_of(w, SURVEY_TO_DEPTH) - value_of(w, SURVEY_FROM_DEPTH);
     if (w->leg.style == SURVEY_CYLPOLAR) return to->plan;
     return hypot(to->plan, w->leg.style == SURVEY_DIVING ? depth : to->up);
+}
+
+/* A leg of 0 mm has a tenth of one, so that its bearing is not lost and it is no equate; a plumb line has no bearing, and
+ * a diver's compass is read whatever the tape says. */
+static wanted_leg wanted_of(const rewriting *w, const shot *played) {
+    bool plumb = w->leg.slope_by == SURVEY_BY_PLUMB && played->bearing == 0;
+    wanted_leg to = {played->distance / 1000.0, played->bearing * (360 / 65536.0), w->leg.up, 0};
+    bool dived = w->leg.style == SURVEY_DIVING && length_of(w, &to) > 0.0001;
+    if (played->distance == 0 && !plumb && !dived) to.plan = 0.0001;
+    to.length = length_of(w, &to);
+    return to;
 }
 
 /* What a quantity is to be; what does not change has its own value. */
@@ -130,12 +132,15 @@ static char point_of(const rewriting *w) {
     return '.';
 }
 
-/* Writes one reading, with so many decimals more than the fewest, and takes the value that it then has. */
+/* Writes one reading, with so many decimals more than the fewest, and takes the value that it then has. Five are enough
+ * for a bearing in degrees. */
 static void put_reading(rewriting *w, size_t j, double target, int more, char point) {
     const struct survey_reading *one = &w->readings[j];
-    int least = is_bearing(one->what) || is_slope(one->what) ? 5 : 3;
+    int least = is_bearing(one->what) ? 5 : 3;
     double number = written_for(one, target);
-    if (one->form == SURVEY_QUADRANT) number = put_quadrant(number, 5 + more, w->text[j]);
+    if (is_bearing(one->what)) more = more > MOST_MORE ? more - MOST_MORE : 0;
+    else if (more > MOST_MORE) more = MOST_MORE;
+    if (one->form == SURVEY_QUADRANT) number = put_quadrant(number, least + more, w->text[j]);
     else number = put_number(number, least + more, least, w->text[j]);
     char *at = strchr(w->text[j], '.');
     if (at != NULL) *at = point;
@@ -144,13 +149,14 @@ static void put_reading(rewriting *w, size_t j, double target, int more, char po
 
 /* ---- A shot */
 
-/* Whether the plan that the readings give is the one that is wanted: less than a tenth of a millimetre off, and less
- * than a thousandth of a degree. */
+/* Whether the readings give the plan that is wanted, less than a tenth of a millimetre and a thousandth of a degree off,
+ * and its rise to half a millimetre. */
 static bool is_met(const rewriting *w, const wanted_leg *to) {
     double vector[3], turn = to->bearing / RADIAN;
     survey_vector_of(&w->leg, w->value, vector);
     double along = vector[0] * sin(turn) + vector[1] * cos(turn), across = vector[0] * cos(turn) - vector[1] * sin(turn);
-    return fabs(along - to->plan) < 1e-4 && fabs(across) < fmin(1e-4, 2e-5 * to->plan + 1e-12);
+    bool rises = w->leg.style != SURVEY_NORMAL || fabs(vector[2] - to->up) < 5e-4;
+    return rises && fabs(along - to->plan) < 1e-4 && fabs(across) < fmin(1e-4, 2e-5 * to->plan + 1e-12);
 }
 
 /* Writes all that changes, with as few decimals as are enough. */
@@ -159,7 +165,7 @@ static bool put_readings(rewriting *w, const wanted_leg *to) {
     char point = point_of(w);
     bool met = false;
     memcpy(target, w->value, sizeof target);
-    for (int more = 0; more <= MOST_MORE && !met; more++) {
+    for (int more = 0; more <= 2 * MOST_MORE && !met; more++) {
         for (size_t j = 0; j < w->leg.reading_count; j++) {
             if (w->changed[j]) put_reading(w, j, target[j], more, point);
         }
@@ -213,8 +219,7 @@ bool add_edits(const struct survey *s, size_t leg, const shot *played, edits *to
         w.leg.shots = 1, w.leg.reading_count = each, w.leg.readings = own;
         memcpy(w.readings, own, each * sizeof *own);
         take_readings(&w, to);
-        wanted_leg wanted = wanted_of(of, played);
-        wanted.length = length_of(&w, &wanted);
+        wanted_leg wanted = wanted_of(&w, played);
         set_targets(&w, &wanted);
         w.leg.readings = w.readings;
         done = put_readings(&w, &wanted);
