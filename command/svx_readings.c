@@ -56,15 +56,16 @@ static wanted_leg wanted_of(const rewriting *w, const shot *played) {
 
 /* What a quantity is to be; what does not change has its own value. */
 static double target_of(const rewriting *w, const wanted_leg *to, size_t j) {
-    double slope = w->leg.style == SURVEY_NORMAL ? atan2(to->up, to->plan) * RADIAN : w->value[j],
-           turn = to->bearing / RADIAN, bearing = to->bearing - w->leg.declination;
+    bool slopes = w->leg.style == SURVEY_NORMAL && to->plan > 0;
+    double slope = atan2(to->up, to->plan) * RADIAN, turn = to->bearing / RADIAN,
+           bearing = to->bearing - w->leg.declination;
     switch (w->readings[j].what) {
     case SURVEY_TAPE:
     case SURVEY_BACKTAPE: return to->length;
     case SURVEY_COMPASS: return bearing;
     case SURVEY_BACKCOMPASS: return bearing + 180;
-    case SURVEY_CLINO: return slope;
-    case SURVEY_BACKCLINO: return w->leg.style == SURVEY_NORMAL ? -slope : slope;
+    case SURVEY_CLINO: return slopes ? slope : w->value[j];
+    case SURVEY_BACKCLINO: return slopes ? -slope : w->value[j];
     case SURVEY_TO_COUNT: return value_of(w, SURVEY_FROM_COUNT) + to->length;
     case SURVEY_EASTING: return to->plan * sin(turn);
     case SURVEY_NORTHING: return to->plan * cos(turn);
