@@ -80,18 +80,19 @@ static void put_text(writing *w, size_t file, size_t last) {
 
 /* ---- The survey */
 
+static bool is_as_played(const playing *p, const struct survey *again, size_t leg) {
+    const struct survey *s = p->s.cave;
+    const struct survey_leg *one = &s->legs[leg], *other = &again->legs[leg];
+    return strcmp(s->stations[one->from].name, again->stations[other->from].name) == 0 &&
+           strcmp(s->stations[one->to].name, again->stations[other->to].name) == 0 &&
+           plan_mm(other) == p->rows[leg].distance && bearing_steps(other, false) == p->rows[leg].bearing;
+}
+
 /* The first leg that is not read as it was played, or the count of legs. */
 static size_t first_other(const playing *p, const struct survey *again) {
-    const struct survey *s = p->s.cave;
-    for (size_t j = 0; j < s->leg_count; j++) {
-        const struct survey_leg *one = &s->legs[j], *other = &again->legs[j];
-        if (again->trouble_count > 0 || again->leg_count != s->leg_count) return j;
-        bool names = strcmp(s->stations[one->from].name, again->stations[other->from].name) == 0 &&
-                     strcmp(s->stations[one->to].name, again->stations[other->to].name) == 0;
-        bool numbers = plan_mm(other) == p->rows[j].distance && bearing_steps(other, false) == p->rows[j].bearing;
-        if (!names || !numbers) return j;
-    }
-    return s->leg_count;
+    size_t all = p->s.cave->leg_count, leg = 0;
+    while (leg < all && leg < again->leg_count && is_as_played(p, again, leg)) leg++;
+    return leg == all && (again->trouble_count > 0 || again->leg_count != all) ? all - 1 : leg;
 }
 
 static int refuse_cave(const struct survey *s, size_t leg) {

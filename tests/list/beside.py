@@ -140,7 +140,7 @@ def main():
     chance = random.Random(int(os.environ.get('JABULGHI_SEED', '1968')))
     named, said = sys.argv[5:], []
     all_cases = named or sorted(glob.glob(HERE + '/../surveys/cases/*.svx') + glob.glob(HERE + '/../level/cases/*.svx') + glob.glob(HERE + '/../../examples/*.svx'))
-    generated_count = 0 if named else int(os.environ.get('JABULGHI_SURVEYS', '150'))
+    generated_count = 0 if named else int(os.environ.get('JABULGHI_SURVEYS', '60'))
     for number in range(generated_count):
         path = os.path.join(FOLDER, 'source', f'made{number}.svx')
         os.makedirs(os.path.dirname(path), exist_ok=True)
