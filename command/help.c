@@ -25,13 +25,16 @@ static const struct {
     const char *command, *text;
 } HELP[] = {
     {"list",
-     "usage: jabulghi list [FILE] [--sigma SIGMAS] [--seeds SEEDS] [--skip N] [--run N] [--from STATION] [--loop N] [-o "
+     "usage: jabulghi list [FILE] [--sigma SIGMAS] [--seeds SEEDS] [--skip N] [--run N] [--from STATION] [--loop N] "
+     "[-o "
      "FILE]\n"
      "       jabulghi list [FILE] --svx [--sigma SIGMAS] [--seeds SEEDS] [--skip N] [--run N] [-o FILE]\n"
      "\n"
-     "Prints the listing of a job, of all legs of a Survex survey or of the rows of another listing: each shot with its "
+     "Prints the listing of a job, of all legs of a Survex survey or of the rows of another listing: each shot with "
+     "its "
      "noise, and the count of shots.\n"
-     "More than 500 legs are several jobs, whose listings follow each other. Reading an ordinary survey is not proved.\n"
+     "More than 500 legs are several jobs, whose listings follow each other. Reading an ordinary survey is not "
+     "proved.\n"
      "  --sigma SIGMAS  of distance and bearing: 4mm,0.5deg or 4,91 (millimetres, steps of which a turn has 65536);\n"
      "                  for a job its own, where not given\n"
      "  --seeds SEEDS   a line of seeds, as `jabulghi seeds` prints it, or six numbers with commas between;\n"

@@ -47,8 +47,9 @@ typedef struct {
 
 /* level_text.c: a loop of a survey, by its number from 1 on, or its only one, or all legs of a survey that has none
  * where none is needed; false where it has none such, `why` saying so; all legs of a survey, loops or not. The strict
- * text of a walk; a file's name on one line; the walk's shots as a job's lines. A leg's plan in millimetres, and its bearing in steps, of which a turn
- * has 65536. All of it of a text, with what is said; a refusal says why and leaves the text empty. */
+ * text of a walk; a file's name on one line; the walk's shots as a job's lines. A leg's plan in millimetres, and its
+ * bearing in steps, of which a turn has 65536. All of it of a text, with what is said; a refusal says why and leaves
+ * the text empty. */
 bool level_survey(const struct survey *s, uint64_t loop, bool needed, levelling *made);
 bool level_whole(const struct survey *s, levelling *made);
 void put_legs(const levelling *l, growing *strict);
@@ -67,7 +68,8 @@ bool find_loop(levelling *l, uint64_t n, walk *w);
 /* level_names.c: names for a job. */
 bool name_walk(levelling *l);
 
-/* level_notes.c: whether a leg is not level, and how many of a walk are not; its new names; what the reader says, why no text is written, and what was done. */
+/* level_notes.c: whether a leg is not level, and how many of a walk are not; its new names; what the reader says, why
+ * no text is written, and what was done. */
 bool is_steep(const struct survey_leg *leg);
 void say_steep(const levelling *l, growing *said);
 void say_names(const levelling *l, growing *said);

@@ -12,23 +12,26 @@ enum { SIGMA, SEEDS, SKIP, RUN, FROM, LOOP, SVX, INTO, ASKED };
 /* The first shot line that starts at a station, or the count of them. */
 static size_t shot_from(const playing *p, const char *name) {
     const char *at = (const char *)p->s.shots, *end = at + p->s.length;
-    size_t length = strlen(name), head = strlen("(shot "), shot = 0;
-    for (; shot < p->shots; shot++) {
+    size_t length = strlen(name), head = strlen("(shot "), found = 0;
+    for (; found < p->shots; found++) {
         const char *feed = memchr(at, '\n', (size_t)(end - at));
-        if ((size_t)(feed - at) > head + length && memcmp(at + head, name, length) == 0 && at[head + length] == ' ') break;
+        if ((size_t)(feed - at) > head + length && memcmp(at + head, name, length) == 0 && at[head + length] == ' ')
+            break;
         at = feed + 1;
     }
-    return shot;
+    return found;
 }
 
-static size_t station_named(const struct survey *s, const char *name, int (*compare)(const char *one, const char *other)) {
+static size_t station_named(const struct survey *s, const char *name,
+                            int (*compare)(const char *one, const char *other)) {
     for (size_t j = 0; j < s->station_count; j++) {
         if (compare(s->stations[j].name, name) == 0) return s->stations[j].same;
     }
     return SURVEY_NONE;
 }
 
-/* The first leg that leaves a station of the survey, by any of its names; of a loop, by the one that stands on the leg. */
+/* The first leg that leaves a station of the survey, by any of its names; of a loop, by the one that stands on the leg.
+ */
 static size_t leg_from(const playing *p, const char *name) {
     const struct survey *s = p->s.cave;
     size_t leg = 0, station = s == NULL ? SURVEY_NONE : station_named(s, name, strcmp);
@@ -103,8 +106,9 @@ static int set_up(int count, char **words, const option asked[ASKED], playing *p
 int list(int count, char **words) {
     static playing p;
     growing written = {NULL, 0, 0, false};
-    option asked[ASKED] = {{"--sigma", false, NULL}, {"--seeds", false, NULL}, {"--skip", false, NULL}, {"--run", false, NULL},
-                           {"--from", false, NULL},  {"--loop", false, NULL},  {"--svx", true, NULL},   {"-o", false, NULL}};
+    option asked[ASKED] = {{"--sigma", false, NULL}, {"--seeds", false, NULL}, {"--skip", false, NULL},
+                           {"--run", false, NULL},   {"--from", false, NULL},  {"--loop", false, NULL},
+                           {"--svx", true, NULL},    {"-o", false, NULL}};
     int status = read_options(&count, words, asked, ASKED);
     if (status == DONE) status = either(asked);
     if (status == DONE) status = set_up(count, words, asked, &p);

@@ -7,7 +7,8 @@
 /* The bytes of so many lines. */
 static size_t length_of(const uint8_t *bytes, size_t length, size_t lines) {
     size_t at = 0;
-    for (; lines > 0 && at < length; lines--) at += (size_t)((const uint8_t *)memchr(bytes + at, '\n', length - at) - (bytes + at)) + 1;
+    for (; lines > 0 && at < length; lines--)
+        at += (size_t)((const uint8_t *)memchr(bytes + at, '\n', length - at) - (bytes + at)) + 1;
     return at;
 }
 

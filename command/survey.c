@@ -121,7 +121,7 @@ static int take_ordinary(survey *s, wanted_loop wanted) {
 }
 
 /* All legs, in the order in which they are read. */
-static int take_all_legs(survey *s, bool renamed) {
+static int take_all_legs(survey *s, bool new_names) {
     levelling l;
     growing said = {NULL, 0, 0, false};
     struct survey *cave = survey_read(s->source.name, s->source.bytes, s->source.length, fetch_of(&s->source), NULL);
@@ -131,7 +131,7 @@ static int take_all_legs(survey *s, bool renamed) {
     s->cave = cave;
     if (!level_whole(cave, &l)) return refuse_loop(&l, s->source.name);
     add(&said, "%s", NOT_PROVED);
-    if (renamed) say_steep(&l, &said), say_names(&l, &said);
+    if (new_names) say_steep(&l, &said), say_names(&l, &said);
     int status = take_walk(&l, &said, s);
     free_levelling(&l);
     return status;
@@ -186,7 +186,7 @@ int take_survey(text source, wanted_loop wanted, survey *taken) {
                                      : take_legs(taken, wanted);
 }
 
-int take_whole(text source, bool renamed, survey *taken) {
+int take_whole(text source, bool new_names, survey *taken) {
     size_t line;
     *taken = (survey){.source = source, .about = source.length == 0 ? JOB : kind_of(&source)};
     if (taken->about == JOB) return take_job(taken);
@@ -196,7 +196,7 @@ int take_whole(text source, bool renamed, survey *taken) {
     if (number == JABULGHI_OK) return DONE;
     free(taken->shots);
     taken->shots = NULL;
-    return take_all_legs(taken, renamed);
+    return take_all_legs(taken, new_names);
 }
 
 /* Whether a line of a Survex text has something besides blanks and a comment. */

@@ -1,6 +1,6 @@
 /* What was played as Survex: of a job, a listing or a strict survey, in metres and degrees. */
-#include "list.h"
 #include "level.h"
+#include "list.h"
 #include <inttypes.h>
 #include <stdio.h>
 #include <string.h>
@@ -52,7 +52,8 @@ static const uint8_t *after_blanks(const uint8_t *at) {
     return at;
 }
 
-/* A leg's line with other numbers for tape and compass; the library has taken the survey, so that it has five fields. */
+/* A leg's line with other numbers for tape and compass; the library has taken the survey, so that it has five fields.
+ */
 static void put_line(const uint8_t *line, const uint8_t *end, const shot *row, growing *to) {
     numbers n = numbers_of(row);
     const uint8_t *tape = after_blanks(after_field(after_field(line))), *tape_end = after_field(tape);

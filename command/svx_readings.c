@@ -43,8 +43,8 @@ static double length_of(const rewriting *w, const wanted_leg *to) {
     return hypot(to->plan, w->leg.style == SURVEY_DIVING ? depth : to->up);
 }
 
-/* A leg of 0 mm has a tenth of one, so that its bearing is not lost and it is no equate; a plumb line has no bearing, and
- * a diver's compass is read whatever the tape says. */
+/* A leg of 0 mm has a tenth of one, so that its bearing is not lost and it is no equate; a plumb line has no bearing,
+ * and a diver's compass is read whatever the tape says. */
 static wanted_leg wanted_of(const rewriting *w, const shot *played) {
     bool plumb = w->leg.slope_by == SURVEY_BY_PLUMB && played->bearing == 0;
     wanted_leg to = {played->distance / 1000.0, played->bearing * (360 / 65536.0), w->leg.up, 0};
@@ -81,8 +81,8 @@ static bool has_bearing(const rewriting *w) {
     return false;
 }
 
-/* What is left out stays so, but for one bearing of a leg that is plumb no more. A reading that says it already stays as
- * it is written. */
+/* What is left out stays so, but for one bearing of a leg that is plumb no more. A reading that says it already stays
+ * as it is written. */
 static void set_targets(rewriting *w, const wanted_leg *to) {
     bool lacks = to->plan > 0 && !has_bearing(w);
     for (size_t j = 0; j < w->leg.reading_count; j++) {
@@ -97,30 +97,31 @@ static void set_targets(rewriting *w, const wanted_leg *to) {
 
 /* ---- How a value is written */
 
-/* The number that means a value in degrees or metres: survey_value_of the other way. A bearing is one of a full turn. */
+/* The number that means a value in degrees or metres: survey_value_of the other way. A bearing is one of a full turn.
+ */
 static double written_for(const struct survey_reading *one, double value) {
-    double measure = value / one->scale + one->zero;
+    double read = value / one->scale + one->zero;
     if (is_bearing(one->what)) {
         double turn = 360 / fabs(one->scale);
-        measure -= turn * floor(measure / turn);
+        read -= turn * floor(read / turn);
     }
-    return one->form == SURVEY_PERCENT ? tan(measure / RADIAN) / one->unit : measure / one->unit;
+    return one->form == SURVEY_PERCENT ? tan(read / RADIAN) / one->unit : read / one->unit;
 }
 
 /* A number with so many decimals; zeros beyond the least of them are left out. The number that stands there. */
-static double put_number(double number, int decimals, int least, char text[32]) {
-    int length = snprintf(text, 32, "%.*f", decimals, number);
+static double put_number(double number, int decimals, int least, char word[32]) {
+    int length = snprintf(word, 32, "%.*f", decimals, number);
     if (length < 0 || length > 31) return NAN;
-    for (; decimals > least && text[length - 1] == '0'; decimals--) text[--length] = '\0';
-    return strtod(text, NULL);
+    for (; decimals > least && word[length - 1] == '0'; decimals--) word[--length] = '\0';
+    return strtod(word, NULL);
 }
 
 /* N34E and the like. */
-static double put_quadrant(double degrees, int decimals, char text[48]) {
+static double put_quadrant(double degrees, int decimals, char word[48]) {
     char digits[32];
-    bool south = degrees > 90 && degrees < 270, west = degrees > 180;
+    bool south = degrees > 90 && degrees<270, west = degrees> 180;
     double angle = put_number(fabs(south ? degrees - 180 : west ? degrees - 360 : degrees), decimals, 2, digits);
-    snprintf(text, 48, "%c%s%c", south ? 'S' : 'N', digits, west ? 'W' : 'E');
+    snprintf(word, 48, "%c%s%c", south ? 'S' : 'N', digits, west ? 'W' : 'E');
     return south ? (west ? 180 + angle : 180 - angle) : west ? 360 - angle : angle;
 }
 
@@ -128,7 +129,8 @@ static double put_quadrant(double degrees, int decimals, char text[48]) {
 static char point_of(const rewriting *w) {
     for (size_t j = 0; j < w->leg.reading_count; j++) {
         const struct survey_reading *one = &w->leg.readings[j];
-        if (one->form == SURVEY_NUMBER && one->decimals > 0) return one->text[strlen(one->text) - (size_t)one->decimals - 1];
+        if (one->form == SURVEY_NUMBER && one->decimals > 0)
+            return one->text[strlen(one->text) - (size_t)one->decimals - 1];
     }
     return '.';
 }
@@ -150,12 +152,13 @@ static void put_reading(rewriting *w, size_t j, double target, int more, char po
 
 /* ---- A shot */
 
-/* Whether the readings give the plan that is wanted, less than a tenth of a millimetre and a thousandth of a degree off,
- * and its rise to half a millimetre. */
+/* Whether the readings give the plan that is wanted, less than a tenth of a millimetre and a thousandth of a degree
+ * off, and its rise to half a millimetre. */
 static bool is_met(const rewriting *w, const wanted_leg *to) {
     double vector[3], turn = to->bearing / RADIAN;
     survey_vector_of(&w->leg, w->value, vector);
-    double along = vector[0] * sin(turn) + vector[1] * cos(turn), across = vector[0] * cos(turn) - vector[1] * sin(turn);
+    double along = vector[0] * sin(turn) + vector[1] * cos(turn),
+           across = vector[0] * cos(turn) - vector[1] * sin(turn);
     bool rises = w->leg.style != SURVEY_NORMAL || fabs(vector[2] - to->up) < 5e-4;
     return rises && fabs(along - to->plan) < 1e-4 && fabs(across) < fmin(1e-4, 2e-5 * to->plan + 1e-12);
 }
@@ -182,7 +185,9 @@ static bool add_words(const rewriting *w, size_t leg, edits *to) {
         const struct survey_reading *one = &w->leg.readings[j];
         size_t place = to->count;
         if (!w->changed[j]) continue;
-        for (; place > 0 && to->all[place - 1].leg == leg && to->all[place - 1].file == one->file && to->all[place - 1].at > one->at; place--)
+        for (; place > 0 && to->all[place - 1].leg == leg && to->all[place - 1].file == one->file &&
+               to->all[place - 1].at > one->at;
+             place--)
             to->all[place] = to->all[place - 1];
         edit *made = &to->all[place];
         *made = (edit){one->file, one->at, strlen(one->text), leg, ""};
@@ -204,7 +209,8 @@ static void keep_count(const rewriting *w, edits *to) {
 static void take_readings(rewriting *w, const edits *before) {
     for (size_t j = 0; j < w->leg.reading_count; j++) {
         const struct survey_reading *one = w->readings + j, *counted = &before->counted;
-        bool shared = one->what == SURVEY_FROM_COUNT && counted->text != NULL && counted->file == one->file && counted->at == one->at;
+        bool shared = one->what == SURVEY_FROM_COUNT && counted->text != NULL && counted->file == one->file &&
+                      counted->at == one->at;
         w->value[j] = shared ? counted->value : one->value;
     }
 }
@@ -214,8 +220,8 @@ bool add_edits(const struct survey *s, size_t leg, const shot *played, edits *to
     const struct survey_leg *of = &s->legs[leg];
     size_t each = of->reading_count / of->shots;
     bool done = each <= MOST_READINGS;
-    for (size_t shot = 0; done && shot < of->shots; shot++) {
-        const struct survey_reading *own = of->readings + shot * each;
+    for (size_t j = 0; done && j < of->shots; j++) {
+        const struct survey_reading *own = of->readings + j * each;
         w.leg = *of;
         w.leg.shots = 1, w.leg.reading_count = each, w.leg.readings = own;
         memcpy(w.readings, own, each * sizeof *own);

@@ -29,7 +29,8 @@ static void put_bytes(writing *w, size_t file, size_t from, size_t to) {
 }
 
 static void end_line(writing *w) {
-    if (w->to->length > 0 && !w->to->failed && strchr("\r\n", w->to->bytes[w->to->length - 1]) == NULL) add(w->to, "\n");
+    if (w->to->length > 0 && !w->to->failed && strchr("\r\n", w->to->bytes[w->to->length - 1]) == NULL)
+        add(w->to, "\n");
 }
 
 /* What some editors put before UTF-8 stands at the start of a file alone. */

@@ -54,11 +54,11 @@ bool is_loop(const char *name, const traverse *t);
 
 /* survey.c: what a text is, by its name or its first line; takes a text for what it is, a job, a listing or a survey,
  * strict or ordinary; takes all legs of a survey, loops or not and however many; where a shot of it came from, counted
- * from 0; the line of the text that a line of its job stands for; refuses that; a strict survey's legs as shot lines; whether a line of a survey has more than
- * blanks and a comment. */
+ * from 0; the line of the text that a line of its job stands for; refuses that; a strict survey's legs as shot lines;
+ * whether a line of a survey has more than blanks and a comment. */
 subject kind_of(const text *t);
 int take_survey(text source, wanted_loop wanted, survey *taken);
-int take_whole(text source, bool renamed, survey *taken);
+int take_whole(text source, bool new_names, survey *taken);
 bool says_something(const uint8_t *at, const uint8_t *end);
 origin origin_of(const survey *s, const traverse *t, size_t leg);
 size_t line_in_source(const survey *s, size_t line);

@@ -133,8 +133,8 @@ static void read_included(reader *r, size_t file) {
     const uint8_t *bytes = s->files[r->at.file].bytes;
     size_t number = s->include_count;
     if (!room_for_one(r, &s->includes, number, &r->include_room, sizeof *s->includes)) return;
-    s->includes[s->include_count++] =
-        (struct survey_include){r->at.file, (size_t)(r->at.line - bytes), (size_t)(r->at.next - bytes), file, s->leg_count, 0};
+    s->includes[s->include_count++] = (struct survey_include){
+        r->at.file, (size_t)(r->at.line - bytes), (size_t)(r->at.next - bytes), file, s->leg_count, 0};
     read_file(r, file);
     s->includes[number].last = s->leg_count;
 }

@@ -135,8 +135,8 @@ struct survey_file {
     bool latin1; /* it is no UTF-8 */
 };
 
-/* *include, in the order of reading: its line is the bytes of `file` from `at` to before `end`, its line feed included. The legs from `first` to before
- * `last` were read of `included`, and of what that includes. */
+/* *include, in the order of reading: its line is the bytes of `file` from `at` to before `end`, its line feed included.
+ * The legs from `first` to before `last` were read of `included`, and of what that includes. */
 struct survey_include {
     size_t file, at, end;
     size_t included, first, last;
@@ -162,7 +162,8 @@ struct survey {
     struct survey_fix *fixes;
     struct survey_trip *trips;
     struct survey_message *notes, *troubles;
-    size_t file_count, include_count, leg_count, station_count, equate_count, sight_count, fix_count, trip_count, note_count;
+    size_t file_count, include_count, leg_count, station_count, equate_count, sight_count, fix_count, trip_count,
+        note_count;
     size_t trouble_count; /* all of them */
     size_t told_count;    /* those in `troubles` */
 };

@@ -51,10 +51,14 @@ def beside_calls(path, sigma, chance):
         (('--run', str(turn), '--skip', str(skip)), skip + turn * len(shots)),
     ):
         ours = listed(path, *words, *options)
-        assert ours.returncode == 0 and ours.stdout == run(CALLS, 'cave.job', str(pairs)).stdout, f'{options}: not as the calls of the library'
+        assert (
+            ours.returncode == 0 and ours.stdout == run(CALLS, 'cave.job', str(pairs)).stdout
+        ), f'{options}: not as the calls of the library'
     station = chance.choice(shots)[0]
     ours = listed(path, *words, '--from', station, '--skip', str(skip))
-    assert ours.stdout == run(CALLS, 'cave.job', str(skip), station).stdout, f'--from {station}: not as after a return to a mark'
+    assert (
+        ours.stdout == run(CALLS, 'cave.job', str(skip), station).stdout
+    ), f'--from {station}: not as after a return to a mark'
     whole = rows_of(listed(path, *words, '--skip', str(skip)).stdout)
     first = next(j for j, row in enumerate(whole) if row[0] == station)
     assert rows_of(ours.stdout) == whole[first:], f'--from {station}: other rows than the whole listing'
@@ -80,14 +84,29 @@ def same_text(source, written):
         assert len(old_words) == len(new_words), f'{old} became {new}'
         for one, other in zip(old_words, new_words):
             changed = one != other
-            plumb = one.lower() in (b'n', b'e', b's', b'w', b'-', b'up', b'u', b'+v', b'v', b'down', b'd', b'-v') or one[:1] in (b'-', b'*')
+            plumb = one.lower() in (
+                b'n',
+                b'e',
+                b's',
+                b'w',
+                b'-',
+                b'up',
+                b'u',
+                b'+v',
+                b'v',
+                b'down',
+                b'd',
+                b'-v',
+            ) or one[:1] in (b'-', b'*')
             assert not changed or (is_reading(other) and (is_reading(one) or plumb)), f'{old} became {new}'
     return True
 
 
 def legs_of(path):
     rows = [row.split('\t') for row in run(DUMP, path).stdout.decode('utf8', 'replace').split('\n')]
-    return [(row[2], row[3], row[4], float(row[11]), float(row[12].split(' ')[0] or 0)) for row in rows if row[0] == 'leg']
+    return [
+        (row[2], row[3], row[4], float(row[11]), float(row[12].split(' ')[0] or 0)) for row in rows if row[0] == 'leg'
+    ]
 
 
 def same_heights(path, written):
@@ -114,8 +133,12 @@ def as_survex(path, sigma, number, splits):
         assert again.returncode == 1 and b'leg above 1000 m' in again.stderr, f'{name}: a leg above 1 km'
         return b''
     strict = run(COMMAND, 'legs', path).returncode == 0
-    alike = (lambda text: text.lower()) if strict else (lambda text: text)  # Survex takes A1 for a1, the strict form does not
-    assert again.returncode == 0 and alike(again.stdout) == alike(plain.stdout), f'{name}: read again it is another listing'
+    alike = (
+        (lambda text: text.lower()) if strict else (lambda text: text)
+    )  # Survex takes A1 for a1, the strict form does not
+    assert again.returncode == 0 and alike(again.stdout) == alike(
+        plain.stdout
+    ), f'{name}: read again it is another listing'
     with open(path, 'rb') as file:
         same_text(file.read(), svx.stdout)
     same_heights(path, name)
@@ -128,7 +151,12 @@ def compare(path, number, chance):
     plain = listed(path, '--sigma', sigma, '--seeds', SEEDS)
     if plain.returncode != 0:
         svx = listed(path, '--sigma', sigma, '--seeds', SEEDS, '--svx')
-        assert (plain.returncode, plain.stdout, svx.returncode, svx.stdout) == (1, b'', 1, b'') and plain.stderr, plain.stderr
+        assert (plain.returncode, plain.stdout, svx.returncode, svx.stdout) == (
+            1,
+            b'',
+            1,
+            b'',
+        ) and plain.stderr, plain.stderr
         counts['refused'] += 1
         return b''
     counts['taken'] += 1
@@ -139,7 +167,11 @@ def compare(path, number, chance):
 def main():
     chance = random.Random(int(os.environ.get('JABULGHI_SEED', '1968')))
     named, said = sys.argv[5:], []
-    all_cases = named or sorted(glob.glob(HERE + '/../surveys/cases/*.svx') + glob.glob(HERE + '/../level/cases/*.svx') + glob.glob(HERE + '/../../examples/*.svx'))
+    all_cases = named or sorted(
+        glob.glob(HERE + '/../surveys/cases/*.svx')
+        + glob.glob(HERE + '/../level/cases/*.svx')
+        + glob.glob(HERE + '/../../examples/*.svx')
+    )
     generated_count = 0 if named else int(os.environ.get('JABULGHI_SURVEYS', '60'))
     for number in range(generated_count):
         path = os.path.join(FOLDER, 'source', f'made{number}.svx')
