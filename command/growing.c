@@ -29,3 +29,11 @@ void add(growing *to, const char *format, ...) {
     if (!to->failed) to->length += (size_t)vsnprintf(to->bytes + to->length, (size_t)length + 1, format, again);
     va_end(again);
 }
+
+void add_bytes(growing *to, const void *bytes, size_t length) {
+    if (length == 0) return;
+    to->failed = to->failed || !room_for(length, &to->bytes, to->length, &to->room, 1);
+    if (to->failed) return;
+    memcpy(to->bytes + to->length, bytes, length);
+    to->length += length;
+}
