@@ -81,7 +81,7 @@ static int take_walk(const levelling *l, bool new_names, survey *s) {
     else add(&said, "jabulghi: level, which reads the survey, is not proved\n");
     put_legs(l, &strict);
     if (strict.failed || said.failed || !keep_origins(l, s)) return trouble(s->source.name, strerror(ENOMEM));
-    fwrite(said.bytes, 1, said.length, stderr);
+    put_error("%s", said.bytes);
     int status = shots_of(&(text){s->source.name, (uint8_t *)strict.bytes, strict.length}, &s->shots, &s->length);
     free(strict.bytes), free(said.bytes);
     return status;
@@ -92,7 +92,7 @@ static int refuse_loop(levelling *l, const char *name) {
     growing said = {NULL, 0, 0, false};
     say_refusal(l, &said);
     if (l->why == NO_MEMORY || said.failed) return trouble(name, strerror(ENOMEM));
-    fwrite(said.bytes, 1, said.length, stderr);
+    put_error("%s", said.bytes);
     free(said.bytes);
     return REFUSED;
 }
@@ -100,7 +100,7 @@ static int refuse_loop(levelling *l, const char *name) {
 /* The survey that was read stays, for its names. */
 static int take_ordinary(survey *s, wanted_loop wanted) {
     levelling l;
-    const struct survey *cave =
+    const struct survey *cave = s->read =
         survey_read(s->source.name, s->source.bytes, s->source.length, fetch_of(&s->source), NULL);
     if (cave == NULL) return trouble(s->source.name, strerror(ENOMEM));
     bool taken = cave->trouble_count == 0, found = taken && level_survey(cave, wanted.number, wanted.needed, &l);
@@ -158,6 +158,13 @@ int take_survey(text source, wanted_loop wanted, survey *taken) {
     return taken->about == JOB       ? take_job(taken)
            : taken->about == LISTING ? take_listing(taken)
                                      : take_legs(taken, wanted);
+}
+
+/* The shots of a job are a part of its source. */
+void free_shots(survey *s) {
+    if (s->about != JOB) free(s->shots);
+    free(s->origins);
+    survey_free(s->read);
 }
 
 /* Whether a line of a Survex text has something besides blanks and a comment. */

@@ -33,6 +33,7 @@ typedef struct {
     double station, clino;
     origin *origins;
     size_t origin_count;
+    struct survey *read; /* what an ordinary survey was read to */
 } survey;
 
 /* Which loop of an ordinary survey is meant, by its number or ANY_LOOP for its only one; whether there has to be one;
@@ -51,12 +52,13 @@ bool is_loop(const char *name, const traverse *t);
 
 /* survey.c: what a text is, by its name or its first line; takes a text for what it is, a job, a listing or a survey,
  * strict or ordinary; where a shot of it came from, counted from 0; refuses a line of its job; a strict survey's legs
- * as shot lines. */
+ * as shot lines; frees what was taken, but not the source. */
 subject kind_of(const text *t);
 int take_survey(text source, wanted_loop wanted, survey *taken);
 origin origin_of(const survey *s, const traverse *t, size_t leg);
 int refuse_shot(const survey *s, size_t line, uint32_t number);
 int shots_of(const text *from, uint8_t **shots, size_t *length);
+void free_shots(survey *s);
 
 /* job.c: the seeds and sigmas of the options, or the survey's own, or seeds that are drawn; and the text of the job
  * with them, or NULL. */
