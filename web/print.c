@@ -1,6 +1,10 @@
-/* Printing for WebAssembly, as C's library prints: numbers to the digit, since a double is worked out whole before it
- * is rounded, halves to even. */
-#include "c.h"
+/* Printing for WebAssembly and Python, as C's library prints where it is told no language: numbers to the digit, since a
+ * double is worked out whole before it is rounded, halves to even. */
+#include <stdarg.h>
+#include <stdbool.h>
+#include <stdint.h>
+#include <stdio.h>
+#include <string.h>
 
 /* ---- The digits of a double */
 

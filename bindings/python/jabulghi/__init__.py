@@ -12,11 +12,25 @@ generator, marks and buffers as they were; an unfit window becomes zeros.
 """
 import ctypes
 import operator
-import os
 import threading
 from array import array
 from typing import Any, NamedTuple, Sequence, SupportsIndex, Tuple, Union
 
+from ._library import CALLS, library
+from .judging import (
+    Candidate,
+    Estimate,
+    Loop,
+    Message,
+    NotJudged,
+    Sigma,
+    Suspect,
+    Tolerance,
+    Verdict,
+    check,
+    seeds,
+    tolerance,
+)
 from .refusals import LISTING_ROOM, MOST_ASKED, VERSION, WORDS, Refusal
 
 try:
@@ -25,13 +39,23 @@ except ImportError:
     numpy = None  # type: ignore[assignment]
 
 __all__ = [
+    "Candidate",
+    "Estimate",
     "Generator",
     "Intervals",
+    "Loop",
     "Marks",
+    "Message",
     "Miss",
+    "NotJudged",
     "Refusal",
     "Refused",
+    "Sigma",
+    "Suspect",
+    "Tolerance",
+    "Verdict",
     "Window",
+    "check",
     "intervals",
     "legs",
     "list_job",
@@ -39,6 +63,8 @@ __all__ = [
     "play",
     "sample",
     "sample18",
+    "seeds",
+    "tolerance",
 ]
 __version__ = VERSION
 Text = Union[str, bytes, bytearray, memoryview]
@@ -49,7 +75,9 @@ class Refused(ValueError):
 
     def __init__(self, number: int, line: int = 0) -> None:
         self.number, self.line, self.sentence = Refusal(number), line, WORDS[number]
-        super().__init__(f"{f'line {line}: ' if line else ''}{self.sentence} ({number})")
+        super().__init__(
+            f"{f'line {line}: ' if line else ''}{self.sentence} ({number})"
+        )
 
     def __reduce__(self) -> Tuple[Any, ...]:
         return Refused, (int(self.number), self.line)
@@ -85,54 +113,11 @@ class _Marks(ctypes.Structure):
     ]
 
 
-_P, _SIZE, _U32, _U64 = ctypes.c_void_p, ctypes.c_size_t, ctypes.c_uint32, ctypes.c_uint64
-_FILL, _LINES, _SUMS = [_P, _P, _SIZE], [_P, _SIZE, _P, _SIZE, _P, _P], [_P, _SIZE, _P, _P, _P]
-_CALLS = {
-    "seed": [_U32] * 6 + [_P],
-    "skip": [_P, _U64],
-    "ask": [_P, _U32],
-    "give_up": [_P],
-    "sample": [_U64, _U32, _P],
-    "pair": [_P, _P],
-    "block": _FILL,
-    "look": _FILL,
-    "take": _FILL,
-    "sample18": [_U64, _U32, _P],
-    "pair18": [_P, _P],
-    "block18": _FILL,
-    "look18": _FILL,
-    "take18": _FILL,
-    "list": _LINES,
-    "legs": _LINES,
-    "misclosure": _SUMS,
-    "intervals": _SUMS,
-    "play": [_P, _SIZE, _U64, _P, _SIZE, _P],
-    "window_make_members": [_P] * 6 + [_U32],
-    "window_push_members": [_P] * 6 + [ctypes.c_int16],
-    "window_push_all_members": [_P] * 7 + [_SIZE],
-    "marks_save_members": [_P] * 6 + [_SIZE],
-    "marks_return_members": [_P] * 6 + [_SIZE],
-    "marks_drop_members": [_P] * 5 + [_SIZE],
-}
-
-
-def _load() -> Any:
-    """The library of JABULGHI_LIBRARY, else the one in this folder, else the system's."""
-    beside = os.path.join(os.path.dirname(__file__), "libjabulghi.so")
-    library = ctypes.CDLL(
-        os.environ.get("JABULGHI_LIBRARY") or (beside if os.path.exists(beside) else "libjabulghi.so.1")
-    )
-    for name, types in _CALLS.items():
-        call = getattr(library, "jabulghi_" + name)
-        call.argtypes, call.restype = types, _U32
-    return library
-
-
-_library = _load()
+_SIZE, _U32 = ctypes.c_size_t, ctypes.c_uint32
 
 
 def _call(name: str, *values: Any, line: Any = None) -> None:
-    number = getattr(_library, "jabulghi_" + name)(*values)
+    number = getattr(library, "jabulghi_" + name)(*values)
     if number:
         raise Refused(number, line.value if line is not None else 0)
 
@@ -160,8 +145,12 @@ def _bytes(text: Text) -> bytes:
 def _samples_of(buffer: Any, size: int) -> memoryview:
     """A buffer of numbers of so many bytes, in this machine's order."""
     view = memoryview(buffer)
-    if view.itemsize != size or view.format.lstrip("@=<^") not in (("h",) if size == 2 else ("i", "l")):
-        raise TypeError(f"samples are signed numbers of {8 * size} bits, not '{view.format}'")
+    if view.itemsize != size or view.format.lstrip("@=<^") not in (
+        ("h",) if size == 2 else ("i", "l")
+    ):
+        raise TypeError(
+            f"samples are signed numbers of {8 * size} bits, not '{view.format}'"
+        )
     return view
 
 
@@ -215,7 +204,10 @@ class _Kept:
         return type(other) is type(self) and bytes(self) == bytes(other)  # type: ignore[call-overload]
 
     def _members(self) -> Sequence[int]:
-        return [ctypes.addressof(self._kept) + getattr(self._kind, name).offset for name, *_ in self._kind._fields_]
+        return [
+            ctypes.addressof(self._kept) + getattr(self._kind, name).offset
+            for name, *_ in self._kind._fields_
+        ]
 
 
 class Generator(_Kept):
@@ -299,7 +291,9 @@ class Generator(_Kept):
         return self._fill("take", self._all_asked() if samples is None else samples, 2)
 
     def take18(self, samples: Any = None) -> Any:
-        return self._fill("take18", self._all_asked() if samples is None else samples, 4)
+        return self._fill(
+            "take18", self._all_asked() if samples is None else samples, 4
+        )
 
     def give_up(self) -> None:
         self._run("give_up")
@@ -349,7 +343,13 @@ class Marks(_Kept):
         if not isinstance(generator, Generator):
             raise TypeError("a Generator is needed")
         with self._lock, generator._lock:
-            _call(f"marks_{name}_members", *self._members(), generator._at(), word, len(word))
+            _call(
+                f"marks_{name}_members",
+                *self._members(),
+                generator._at(),
+                word,
+                len(word),
+            )
 
     def save(self, generator: Generator, name: Text) -> None:
         self._run("save", name, generator)
@@ -395,7 +395,16 @@ def sample18(k: int, v: int) -> Tuple[int, int]:
 
 def _lines(name: str, text: bytes, room: int, line: Any) -> str:
     lines, length = ctypes.create_string_buffer(room), _SIZE()
-    _call(name, text, len(text), lines, room, ctypes.byref(line), ctypes.byref(length), line=line)
+    _call(
+        name,
+        text,
+        len(text),
+        lines,
+        room,
+        ctypes.byref(line),
+        ctypes.byref(length),
+        line=line,
+    )
     return lines.raw[: length.value].decode("ascii")
 
 
@@ -407,11 +416,18 @@ def list_job(job: Text) -> str:
 def legs(survey: Text) -> str:
     """The shot lines of a Survex text's level legs."""
     text = _bytes(survey)
-    return _lines("legs", text, 3 * len(text) + 1, _SIZE())  # a leg of 10 bytes gives a shot line of at most 21
+    return _lines(
+        "legs", text, 3 * len(text) + 1, _SIZE()
+    )  # a leg of 10 bytes gives a shot line of at most 21
 
 
 def _sums(name: str, listing: Text, count: int) -> Tuple[Any, Tuple[int, ...]]:
-    text, sums, millimetres, line = _bytes(listing), (ctypes.c_int64 * count)(), (ctypes.c_int64 * count)(), _U32()
+    text, sums, millimetres, line = (
+        _bytes(listing),
+        (ctypes.c_int64 * count)(),
+        (ctypes.c_int64 * count)(),
+        _U32(),
+    )
     _call(name, text, len(text), sums, millimetres, ctypes.byref(line), line=line)
     return millimetres, tuple(sums)
 
@@ -430,8 +446,21 @@ def intervals(listing: Text) -> Intervals:
 
 def play(job: Text, runs: int, first: int = 0) -> Any:
     """How far a job's loop misses in each of so many plays: rows of east and north in millimetres."""
-    text, misses, line = _bytes(job), ((ctypes.c_int64 * 2) * _whole(runs, 0, 2**58))(), _U32()
-    _call("play", text, len(text), _u64(first), misses, len(misses), ctypes.byref(line), line=line)
+    text, misses, line = (
+        _bytes(job),
+        ((ctypes.c_int64 * 2) * _whole(runs, 0, 2**58))(),
+        _U32(),
+    )
+    _call(
+        "play",
+        text,
+        len(text),
+        _u64(first),
+        misses,
+        len(misses),
+        ctypes.byref(line),
+        line=line,
+    )
     return (
         numpy.array(misses, dtype="i8").reshape(-1, 2)
         if numpy is not None
