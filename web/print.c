@@ -1,5 +1,5 @@
-/* Printing for WebAssembly and Python, as C's library prints where it is told no language: numbers to the digit, since a
- * double is worked out whole before it is rounded, halves to even. */
+/* Printing for WebAssembly and Python, as C's library prints where it is told no language: numbers to the digit, since
+ * a double is worked out whole before it is rounded, halves to even. */
 #include <stdarg.h>
 #include <stdbool.h>
 #include <stdint.h>
