@@ -81,7 +81,8 @@ async function files() {
 
 async function messages() {
   const ring = [{ name: 'ring.svx', bytes: 'a b 10 0 0\nb c 10 120 0\nc a 10.02 240 0\na d 3 5 0\n' }];
-  for (const [options, option] of [[{ sigma: 'foo' }, '--sigma'], [{ plays: 99 }, '--plays'], [{ plays: 'many' }, '--plays'], [{ seeds: '1,2' }, '--seeds'], [{ trip: '1mm' }, '--trip'], [{ first: -1 }, '--first']]) {
+  const wrong = [[{ sigma: 'foo' }, '--sigma'], [{ plays: 99 }, '--plays'], [{ plays: 'many' }, '--plays'], [{ seeds: '1,2' }, '--seeds'], [{ trip: '1mm' }, '--trip'], [{ first: -1 }, '--first']];
+  for (const [options, option] of wrong) {
     const { status, troubles } = await judge.check(ring, options);
     assert.deepEqual([status, troubles.length, troubles[0].option, troubles[0].file], [2, 1, option, ''], JSON.stringify(options));
   }
@@ -126,7 +127,8 @@ try {
   console.log('check.js: files, messages, steps and stops; the examples as the command prints them, to the last digit');
   const { check, tolerance } = await madeBeside();
   assert(made < 500 || ([0, 1, 2].every(status => check[status] > 20) && tolerance[0] > 50 && tolerance[1] > 50), JSON.stringify({ check, tolerance }));
-  console.log(`check.js: ${made} made surveys as the command: ${check[0]} sound or without a loop, ${check[1]} not sound, ${check[2]} refused; ${tolerance[0]} loops played, ${tolerance[1] + (tolerance[2] ?? 0)} refused`);
+  const caves = `${check[0]} sound or without a loop, ${check[1]} not sound, ${check[2]} refused`, loops = `${tolerance[0]} loops played, ${tolerance[1] + (tolerance[2] ?? 0)} refused`;
+  console.log(`check.js: ${made} made surveys as the command: ${caves}; ${loops}`);
 } finally {
   rmSync(room, { recursive: true, force: true });
 }

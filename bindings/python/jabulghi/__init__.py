@@ -84,9 +84,7 @@ __all__ = [
 ]
 __version__ = VERSION
 Text = Union[str, bytes, bytearray, memoryview]
-Buffer = Union[
-    "array[int]", bytearray, memoryview, "NDArray[numpy.int16]", "NDArray[numpy.int32]"
-]
+Buffer = Union["array[int]", bytearray, memoryview, "NDArray[numpy.int16]", "NDArray[numpy.int32]"]
 Misses = Union[List[Tuple[int, int]], "NDArray[numpy.int64]"]
 
 
@@ -95,9 +93,7 @@ class Refused(ValueError):
 
     def __init__(self, number: int, line: int = 0) -> None:
         self.number, self.line, self.sentence = Refusal(number), line, WORDS[number]
-        super().__init__(
-            f"{f'line {line}: ' if line else ''}{self.sentence} ({number})"
-        )
+        super().__init__(f"{f'line {line}: ' if line else ''}{self.sentence} ({number})")
 
     def __reduce__(self) -> Tuple[Type["Refused"], Tuple[int, int]]:
         return Refused, (int(self.number), self.line)
@@ -169,12 +165,8 @@ def _bytes(text: Text) -> bytes:
 def _samples_of(buffer: Buffer, size: int) -> memoryview:
     """A buffer of numbers of so many bytes, in this machine's order."""
     view = memoryview(cast(bytes, buffer))
-    if view.itemsize != size or view.format.lstrip("@=<^") not in (
-        ("h",) if size == 2 else ("i", "l")
-    ):
-        raise TypeError(
-            f"samples are signed numbers of {8 * size} bits, not '{view.format}'"
-        )
+    if view.itemsize != size or view.format.lstrip("@=<^") not in (("h",) if size == 2 else ("i", "l")):
+        raise TypeError(f"samples are signed numbers of {8 * size} bits, not '{view.format}'")
     return view
 
 
@@ -194,11 +186,7 @@ def _room(samples: Union[int, Buffer], size: int) -> Buffer:
     length = _whole(samples, 0, 2**62)
     if numpy is None:
         return array("h" if size == 2 else "i", bytes(size * length))
-    return (
-        numpy.zeros(length, dtype=numpy.int16)
-        if size == 2
-        else numpy.zeros(length, dtype=numpy.int32)
-    )
+    return numpy.zeros(length, dtype=numpy.int16) if size == 2 else numpy.zeros(length, dtype=numpy.int32)
 
 
 _K = TypeVar("_K", bound="_Kept")
@@ -238,10 +226,7 @@ class _Kept:
         return type(other) is type(self) and bytes(self) == bytes(other)  # type: ignore[call-overload]
 
     def _members(self) -> Sequence[int]:
-        return [
-            ctypes.addressof(self._kept) + getattr(self._kind, name).offset
-            for name, *_ in self._kind._fields_
-        ]
+        return [ctypes.addressof(self._kept) + getattr(self._kind, name).offset for name, *_ in self._kind._fields_]
 
 
 class Generator(_Kept):
@@ -336,9 +321,7 @@ class Generator(_Kept):
 
     def take18(self, samples: Union[None, int, Buffer] = None) -> Buffer:
         """The same of 18 bits."""
-        return self._fill(
-            "take18", self._all_asked() if samples is None else samples, 4
-        )
+        return self._fill("take18", self._all_asked() if samples is None else samples, 4)
 
     def give_up(self) -> None:
         """Gives up what was asked for: the pairs are the next ones."""
@@ -485,9 +468,7 @@ def list_job(job: Text) -> str:
 def legs(survey: Text) -> str:
     """The shot lines of a Survex text's level legs."""
     text = _bytes(survey)
-    return _lines(
-        "legs", text, 3 * len(text) + 1, _SIZE()
-    )  # a leg of 10 bytes gives a shot line of at most 21
+    return _lines("legs", text, 3 * len(text) + 1, _SIZE())  # a leg of 10 bytes gives a shot line of at most 21
 
 
 def _sums(name: str, listing: Text, count: int) -> Tuple[List[int], Tuple[int, ...]]:

@@ -62,8 +62,7 @@ def _load() -> ctypes.CDLL:
     """The library of JABULGHI_LIBRARY, else the one in this folder, else the system's."""
     beside = os.path.join(os.path.dirname(__file__), "libjabulghi.so")
     loaded = ctypes.CDLL(
-        os.environ.get("JABULGHI_LIBRARY")
-        or (beside if os.path.exists(beside) else "libjabulghi.so.1")
+        os.environ.get("JABULGHI_LIBRARY") or (beside if os.path.exists(beside) else "libjabulghi.so.1")
     )
     for name, types in CALLS.items():
         call = getattr(loaded, "jabulghi_" + name)
