@@ -216,8 +216,9 @@ static void put_integer(printed *p, const form *f, char letter, bool wide, va_li
 static const char *put_value(printed *p, const char *at, va_list *values) {
     form f;
     at = read_form(at, &f, values);
-    bool wide = at[0] == 'l' && at[1] == 'l';
-    at += wide ? 2 : *at == 'z' || *at == 'l';
+    bool twice = at[0] == 'l' && at[1] == 'l', once = !twice && (*at == 'z' || *at == 'l'),
+         wide = twice || (once && sizeof(size_t) == sizeof(int64_t));
+    at += twice ? 2 : once;
     switch (*at) {
     case '%': put_byte(p, '%'); break;
     case 'c': put_byte(p, (char)va_arg(*values, int)); break;
