@@ -32,9 +32,9 @@ int system_random(uint32_t numbers[6]) {
 static char small(char sign) { return sign >= 'A' && sign <= 'Z' ? (char)(sign + 32) : sign; }
 
 static const char *last_part(const char *name) {
-    const char *part = name;
-    for (; *name != '\0'; name++) part = *name == '/' || *name == '\\' ? name + 1 : part;
-    return part;
+    const char *last = name;
+    for (; *name != '\0'; name++) last = *name == '/' || *name == '\\' ? name + 1 : last;
+    return last;
 }
 
 static bool is_alike(const char *one, const char *other) {
@@ -114,6 +114,7 @@ int jabulghi_case_file(jabulghi_case *c, const char *name, const uint8_t *bytes,
     memcpy(called, name, strlen(name) + 1);
     memcpy(copy, bytes, length);
     c->files[c->file_count++] = (text){called, copy, length};
+    /* cppcheck-suppress memleak ; they are in `files` */
     return 1;
 }
 
@@ -237,9 +238,9 @@ int jabulghi_case_end(jabulghi_case *c, uint32_t plays, int all_loops) {
 }
 
 const char *jabulghi_case_text(jabulghi_case *c, int which) {
-    growing *text = &c->texts[which];
-    if (which == CASE_MESSAGES || which == CASE_PLAN) text->length = 0;
-    if (which == CASE_MESSAGES) list_messages(c, text);
-    if (which == CASE_PLAN && c->taken && c->checks) list_legs(&c->check, text);
-    return text->failed ? NULL : text->length == 0 ? "" : text->bytes;
+    growing *told = &c->texts[which];
+    if (which == CASE_MESSAGES || which == CASE_PLAN) told->length = 0;
+    if (which == CASE_MESSAGES) list_messages(c, told);
+    if (which == CASE_PLAN && c->taken && c->checks) list_legs(&c->check, told);
+    return told->failed ? NULL : told->length == 0 ? "" : told->bytes;
 }

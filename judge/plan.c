@@ -102,6 +102,7 @@ static void add_name(growing *to, const char *name) {
 static void draw_suspects(const struct judge_cave *cave, const struct judge_verdict *v, const struct places *p,
                           growing *to) {
     for (size_t j = 0; j < v->suspect_count && j < MOST_MARKED; j++) {
+        if (j > 0 && v->suspects[j].share < JUDGE_LEAST_SHARE) break;
         const struct judge_edge *e = &cave->edges[v->suspects[j].edge];
         struct judge_place place = judge_place_of(cave, e);
         draw_leg(p, e, "stroke=\"#c03020\" stroke-width=\"7\" stroke-linecap=\"round\"", to);

@@ -125,10 +125,7 @@ static struct judge_played play(struct stage *s) {
         struct judge_vector miss = {s->misses[2 * r], s->misses[2 * r + 1]};
         worst.worst_loop = fmax(worst.worst_loop, judge_form(cave->loops[r].own, miss));
     }
-    for (size_t j = 0; j < cave->passage_count; j++) {
-        const struct judge_passage *p = &cave->passages[j];
-        worst.worst_passage = fmax(worst.worst_passage, judge_best_gain(judge_pull(cave, p, s->u), p->hold, NULL));
-    }
+    worst.worst_passage = judge_statistic(cave, s->u);
     return worst;
 }
 

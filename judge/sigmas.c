@@ -50,7 +50,7 @@ bool judge_estimates(const struct judge_cave *cave, struct judge_verdict *v) {
     size_t n = cave->size;
     double most = judge_chi_quantile(n, 0.975), least = judge_chi_quantile(n, 0.025), q = cave->misfit;
     v->factor = (struct judge_estimate){sqrt(q / (double)n), sqrt(q / most), sqrt(q / least)};
-    v->factor_without = n > 2 ? sqrt(fmax(q - cave->statistic, 0) / (double)(n - 2)) : 0;
+    v->factor_without = n > 2 ? sqrt(fmax(q - cave->best_gain, 0) / (double)(n - 2)) : 0;
     double *matrix = malloc((n * n + 2 * n + 1) * sizeof *matrix);
     if (matrix == NULL) return false;
     v->station = (struct judge_estimate){station_for(cave, (double)n, matrix), station_for(cave, most, matrix),

@@ -82,12 +82,25 @@ static double power_of_two(int n) {
     return power;
 }
 
-/* e^x - 1 for a small x. */
-static double small_expm1(double x) {
-    double sum = 1;
-    for (int n = 17; n > 1; n--) sum = 1 + sum * x / n;
-    return x * sum;
-}
+/* e^x - 1 for a small x, by (e^x - 1) / x: 1/n!. */
+static const double POWER[] = {1.0,
+                               1.0 / 2,
+                               1.0 / 6,
+                               1.0 / 24,
+                               1.0 / 120,
+                               1.0 / 720,
+                               1.0 / 5040,
+                               1.0 / 40320,
+                               1.0 / 362880,
+                               1.0 / 3628800,
+                               1.0 / 39916800,
+                               1.0 / 479001600,
+                               1.0 / 6227020800.,
+                               1.0 / 87178291200.,
+                               1.0 / 1307674368000.,
+                               1.0 / 20922789888000.,
+                               1.0 / 355687428096000.};
+static double small_expm1(double x) { return x * polynomial(x, POWER, 17); }
 
 double plain_exp(double x) {
     if (x != x || x > 709.8) return x + INFINITY;
@@ -100,11 +113,9 @@ double plain_exp(double x) {
 double plain_expm1(double x) { return fabs(x) < 0.5 ? small_expm1(x) : plain_exp(x) - 1; }
 
 /* log((1 + s) / (1 - s)) for |s| below 0.18: 2 (s + s³/3 + s⁵/5 + ..). */
-static double twice_atanh(double s) {
-    double square = s * s, sum = 0;
-    for (int n = 25; n > 1; n -= 2) sum = sum * square + 1.0 / n;
-    return 2 * s + 2 * s * square * sum;
-}
+static const double LOGARITHM[] = {1.0 / 3,  1.0 / 5,  1.0 / 7,  1.0 / 9,  1.0 / 11, 1.0 / 13, 1.0 / 15,
+                                   1.0 / 17, 1.0 / 19, 1.0 / 21, 1.0 / 23, 1.0 / 25, 1.0 / 27};
+static double twice_atanh(double s) { return 2 * s + 2 * s * (s * s) * polynomial(s * s, LOGARITHM, 13); }
 
 /* x is m 2^n with m between the roots of 1/2 and of 2. */
 double plain_log(double x) {

@@ -1,6 +1,10 @@
-/* Printing for WebAssembly, as C's library prints: numbers to the digit, since a double is worked out whole before it
- * is rounded, halves to even. */
-#include "c.h"
+/* Printing for WebAssembly and Python, as C's library prints where it is told no language: numbers to the digit, since
+ * a double is worked out whole before it is rounded, halves to even. */
+#include <stdarg.h>
+#include <stdbool.h>
+#include <stdint.h>
+#include <stdio.h>
+#include <string.h>
 
 /* ---- The digits of a double */
 
@@ -212,8 +216,9 @@ static void put_integer(printed *p, const form *f, char letter, bool wide, va_li
 static const char *put_value(printed *p, const char *at, va_list *values) {
     form f;
     at = read_form(at, &f, values);
-    bool wide = at[0] == 'l' && at[1] == 'l';
-    at += wide ? 2 : *at == 'z' || *at == 'l';
+    bool twice = at[0] == 'l' && at[1] == 'l', once = !twice && (*at == 'z' || *at == 'l'),
+         wide = twice || (once && sizeof(size_t) == sizeof(int64_t));
+    at += twice ? 2 : once;
     switch (*at) {
     case '%': put_byte(p, '%'); break;
     case 'c': put_byte(p, (char)va_arg(*values, int)); break;
