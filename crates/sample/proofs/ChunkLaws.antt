@@ -53,15 +53,16 @@ pub record Chunk (room most place end : ℕ) : Type 0 where
   pub few : end ≤ place + 2 * most
   pub whole : (end - place) % 2 ≡ 0
 
-pub chunk-is : {room most place end : ℕ} → room % 2 ≡ 0 → place % 2 ≡ 0 → 0 < most → place < room → end ≡ min room (place + 2 * most) → Chunk room most place end
-chunk-is even₀ even some more e = record { inside = omega arith; some = omega arith; few = omega arith; whole = omega arith }
+pub chunk-is : {room most place end : ℕ} → room % 2 ≡ 0 → place % 2 ≡ 0 → 0 < most → place < room
+    → end ≤ room → end ≤ place + 2 * most → min room (place + 2 * most) ≤ end → Chunk room most place end
+chunk-is even₀ even some more inside few all = record { inside = inside; some = omega arith; few = few; whole = omega arith }
 
-module _ {room most place end : ℕ} (chunk : Chunk room most place end) (rows : List ℕ) (enough : Rows most rows) where
+module _ {room most place end : ℕ} (chunk : Chunk room most place end) (n : ℕ) (pairs : end - place ≡ 2 * n) (rows : List ℕ) (enough : Rows most rows) where
   -- its words are the first of the rows
-  pub words-room : (end - place) / 2 ≤ length rows
+  words-room : n ≤ length rows
   words-room = omega (arith, chunk .few, enough .room)
 
-  words-size : length (take ((end - place) / 2 - 0) rows) ≡ (end - place) / 2
+  words-size : length (take (n - 0) rows) ≡ n
   words-size = simp length-take (omega (arith, words-room))
 
   -- what is asked of a chunk
@@ -70,41 +71,41 @@ module _ {room most place end : ℕ} (chunk : Chunk room most place end) (rows :
     part-size = simp (length-take, length-drop) (omega (arith, chunk .inside, chunk .some))
 
     -- the streams are drawn, and their words sampled
-    module _ (state : Lanes) {drawn : List ℕ} (are : drawn ≡ words (length (take ((end - place) / 2 - 0) rows)) (upper state) (lower state)) where
-      drawn-size : length drawn ≡ length (take ((end - place) / 2 - 0) rows)
+    module _ (state : Lanes) {drawn : List ℕ} (are : drawn ≡ words (length (take (n - 0) rows)) (upper state) (lower state)) where
+      drawn-size : length drawn ≡ length (take (n - 0) rows)
       drawn-size = ap length are ∙ length-words _ (upper state) (lower state)
 
-      rows-size : length (putMid 0 ((end - place) / 2 - 0) rows drawn) ≡ length rows
-      rows-size = same-len-mid 0 ((end - place) / 2 - 0) rows drawn drawn-size
+      rows-size : length (putMid 0 (n - 0) rows drawn) ≡ length rows
+      rows-size = same-len-mid 0 (n - 0) rows drawn drawn-size
 
-      pub asked : Rows ((end - place) / 2) (putMid 0 ((end - place) / 2 - 0) rows drawn) × (length (take (end - place) (drop place out)) ≡ 2 * ((end - place) / 2))
+      pub asked : Rows n (putMid 0 (n - 0) rows drawn) × (length (take (end - place) (drop place out)) ≡ 2 * n)
       asked = (
         record { few = omega (arith, chunk .few, enough .few); room = omega (arith, chunk .few, enough .room, rows-size) },
-        rw part-size (omega (arith, chunk .whole)),
+        rw part-size pairs,
       )
 
-      pub rows-same : {m : ℕ} → m ≡ length (putMid 0 ((end - place) / 2 - 0) rows drawn) → m ≡ length rows
+      pub rows-same : {m : ℕ} → m ≡ length (putMid 0 (n - 0) rows drawn) → m ≡ length rows
       rows-same e = e ∙ rows-size
 
-      pub sampled : {f : ℕ} {next : Lanes} {new : List ℤ} → LanesAfter (length (take ((end - place) / 2 - 0) rows)) state next
-          → new ≡ samplesAt f (take ((end - place) / 2) (putMid 0 ((end - place) / 2 - 0) rows drawn))
-          → LanesDrawn f (length (take ((end - place) / 2 - 0) rows)) state next new
+      pub sampled : {f : ℕ} {next : Lanes} {new : List ℤ} → LanesAfter (length (take (n - 0) rows)) state next
+          → new ≡ samplesAt f (take n (putMid 0 (n - 0) rows drawn))
+          → LanesDrawn f (length (take (n - 0) rows)) state next new
       sampled {f} after new-is = record {
         now-at = after;
-        written = new-is ∙ ap (samplesAt f) (take-at drawn (postOf 0 ((end - place) / 2 - 0) rows) ((end - place) / 2) (drawn-size ∙ words-size) ∙ are);
+        written = new-is ∙ ap (samplesAt f) (take-at drawn (postOf 0 (n - 0) rows) n (drawn-size ∙ words-size) ∙ are);
       }
 
     -- one chunk more
     module _ {f : ℕ} {out₀ new : List ℤ} {u state next : Lanes} (r : Reached f out₀ u out state place) (same : room ≡ length out₀)
-        (drawn : LanesDrawn f (length (take ((end - place) / 2 - 0) rows)) state next new) where
-      halves : place / 2 + (end - place) / 2 ≡ end / 2
+        (drawn : LanesDrawn f (length (take (n - 0) rows)) state next new) where
+      halves : place / 2 + n ≡ end / 2
       halves = omega (arith, r .even, chunk .some)
 
-      new-is : new ≡ samplesAt f (words ((end - place) / 2) (repeat advance (place / 2) (upper u)) (repeat advance (place / 2) (lower u)))
+      new-is : new ≡ samplesAt f (words n (repeat advance (place / 2) (upper u)) (repeat advance (place / 2) (lower u)))
       new-is = drawn .written ∙ rw (words-size, r .now-at .a-at, r .now-at .b-at)
 
       new-size : length new ≡ end - place
-      new-size = ap length new-is ∙ drawn-length f ((end - place) / 2) _ _ ∙ omega (arith, chunk .whole)
+      new-size = ap length new-is ∙ drawn-length f n _ _ ∙ sym pairs
 
       before-size : length (take place out) ≡ place
       before-size = simp length-take (omega (arith, r .within))
@@ -113,7 +114,7 @@ module _ {room most place end : ℕ} (chunk : Chunk room most place end) (rows :
       done-is =
           let whole : length (take place out) + (end - place) ≡ end = omega (arith, before-size, chunk .some) in
           rw whole at (take-append-add (take place out) (new ++ postOf place (end - place) out) (end - place))
-          ∙ rw (take-at new (postOf place (end - place) out) (end - place) new-size, r .done, new-is, ← halves, words-add (place / 2) ((end - place) / 2) (upper u) (lower u))
+          ∙ rw (take-at new (postOf place (end - place) out) (end - place) new-size, r .done, new-is, ← halves, words-add (place / 2) n (upper u) (lower u))
           (sym (samples-append f (words (place / 2) (upper u) (lower u)) _))
 
       pub again : Reached f out₀ u (putMid place (end - place) out new) next end
@@ -123,8 +124,8 @@ module _ {room most place end : ℕ} (chunk : Chunk room most place end) (rows :
             even = omega (arith, r .even, chunk .whole, chunk .some);
             length-kept = same-len-mid place (end - place) out new (new-size ∙ sym part-size) ∙ out-size ∙ same;
             now-at = record {
-              a-at = drawn .now-at .a-at ∙ rw (words-size, r .now-at .a-at, ← halves) (repeat-add advance (place / 2) ((end - place) / 2) (upper u));
-              b-at = drawn .now-at .b-at ∙ rw (words-size, r .now-at .b-at, ← halves) (repeat-add advance (place / 2) ((end - place) / 2) (lower u));
+              a-at = drawn .now-at .a-at ∙ rw (words-size, r .now-at .a-at, ← halves) (repeat-add advance (place / 2) n (upper u));
+              b-at = drawn .now-at .b-at ∙ rw (words-size, r .now-at .b-at, ← halves) (repeat-add advance (place / 2) n (lower u));
             };
             done = done-is;
           }
