@@ -27,9 +27,9 @@ def refused(number, call, *values):
 
 def names():
     declared = set(re.findall(r"^uint32_t jabulghi_([a-z0-9_]*)\(", header, re.M))
-    assert declared == set(jabulghi._CALLS), declared ^ set(jabulghi._CALLS)
+    assert declared == set(jabulghi.CALLS), declared ^ set(jabulghi._CALLS)
     for name, words in re.findall(r"^uint32_t jabulghi_([a-z0-9_]*)\(([^;]*)\);", header, re.M):
-        assert len(words.split(",")) == len(jabulghi._CALLS[name]), name
+        assert len(words.split(",")) == len(jabulghi.CALLS[name]), name
     numbers = {name: int(n) for name, n in re.findall(r"^    JABULGHI_([A-Z0-9_]*) = (\d+)", header, re.M) if n != "0"}
     assert numbers == {r.name: r.value for r in jabulghi.Refusal}
     assert [ctypes.sizeof(kept._kind) for kept in (Generator, Window, Marks)] == [40, 8224, 960]
@@ -250,6 +250,6 @@ misuse()
 kept()
 beside(calls)
 print(
-    f"Python {'with numpy ' + numpy.__version__ if numpy else 'without numpy'}: {len(jabulghi._CALLS)} calls bound, {rows} refusals, margins, "
+    f"Python {'with numpy ' + numpy.__version__ if numpy else 'without numpy'}: {len(jabulghi.CALLS)} calls bound, {rows} refusals, margins, "
     f"misuse, threads; {calls} random calls as through the C interface"
 )
