@@ -1,7 +1,8 @@
 /* What surveyors do wrong, each with its weight: what it would explain of the misses. The weights are a judgement, not
  * a measurement. */
 #include "inside.h"
-#include <math.h>
+
+#include "../survey/mathematics.h"
 #include <string.h>
 
 /* An edge that is explained, and who takes the explanations. */

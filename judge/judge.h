@@ -169,6 +169,10 @@ void judge_free(struct judge_cave *cave);
 uint32_t judge_play(const struct judge_cave *cave, const uint32_t seeds[6], uint64_t first, size_t count,
                     struct judge_played *played);
 
+/* The same plays, of which the misses of one loop are kept, in metres. */
+uint32_t judge_play_loop(const struct judge_cave *cave, const uint32_t seeds[6], uint64_t first, size_t count,
+                         size_t loop, struct judge_vector *misses);
+
 /* verdict.c: what the plays, whose order does not matter, say of the cave; false where memory has run out. It sorts
  * them. */
 bool judge_verdict_of(struct judge_cave *cave, uint64_t first, struct judge_played *played, size_t plays,
@@ -194,5 +198,8 @@ void judge_words(const struct judge_cave *cave, const struct judge_verdict *v, c
 void judge_json(const struct judge_cave *cave, const struct judge_verdict *v, const struct judge_told *told,
                 growing *to);
 void judge_plan(const struct judge_cave *cave, const struct judge_verdict *v, growing *to);
+
+/* plan.c: where stations stand, in metres, for one more than there are; false where memory has run out. */
+bool judge_places(const struct judge_cave *cave, struct judge_vector *at);
 
 #endif

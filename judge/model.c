@@ -1,6 +1,7 @@
 /* The errors of legs: what a reading may be off by, and what that does to the leg in plan. */
 #include "inside.h"
-#include <math.h>
+
+#include "../survey/mathematics.h"
 #include <stdlib.h>
 
 /* The error that a reading's standard deviation is given by, or JUDGE_ERRORS where *sd alone has it. */

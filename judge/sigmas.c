@@ -1,6 +1,7 @@
 /* What the loops say of the errors, and chi-square. */
 #include "inside.h"
-#include <math.h>
+
+#include "../survey/mathematics.h"
 #include <stdlib.h>
 
 /* The chance that a chi-square of an even number of degrees of freedom is above x: exp(-y) (1 + y + y²/2 + ..), y = x

@@ -1,6 +1,7 @@
 /* All misses together: their covariance, factored by Cholesky, and what each passage could explain. */
 #include "inside.h"
-#include <math.h>
+
+#include "../survey/mathematics.h"
 #include <stdlib.h>
 #include <string.h>
 

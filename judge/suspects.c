@@ -1,6 +1,7 @@
 /* The legs that explain the misses best, ranked, and what remains where one is corrected. */
 #include "inside.h"
-#include <math.h>
+
+#include "../survey/mathematics.h"
 #include <stdlib.h>
 #include <string.h>
 

@@ -1,6 +1,7 @@
 /* What the plays say of a cave. */
 #include "inside.h"
-#include <math.h>
+
+#include "../survey/mathematics.h"
 #include <stdlib.h>
 
 static int rising(double a, double b) { return (a > b) - (a < b); }

@@ -1,7 +1,8 @@
 /* The verdict for a person. */
 #include "words.h"
+
+#include "../survey/mathematics.h"
 #include <inttypes.h>
-#include <math.h>
 #include <stdlib.h>
 #include <string.h>
 

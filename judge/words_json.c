@@ -8,17 +8,6 @@ struct judge_next {
     size_t *start, *count, *edges, *node;
 };
 
-/* A text between quotation marks. */
-static void add_string(growing *to, const char *text) {
-    add(to, "\"");
-    for (; *text != '\0'; text++) {
-        if (*text == '"' || *text == '\\') add(to, "\\%c", *text);
-        else if ((unsigned char)*text < 32) add(to, "\\u%04x", *text);
-        else add(to, "%c", *text);
-    }
-    add(to, "\"");
-}
-
 static void add_place(const struct judge_cave *cave, const struct judge_edge *e, growing *to) {
     struct judge_place place = judge_place_of(cave, e);
     add(to, "\"file\": ");
