@@ -2,6 +2,7 @@
 #ifndef GROWING_H
 #define GROWING_H
 
+#include <stdarg.h>
 #include <stdbool.h>
 #include <stddef.h>
 
@@ -17,5 +18,10 @@ typedef struct {
 bool room_for(size_t more, void *array, size_t count, size_t *room, size_t size);
 void add(growing *to, const char *format, ...);
 void add_bytes(growing *to, const void *bytes, size_t length);
+void add_values(growing *to, const char *format, va_list values);
+
+/* A text, or so many bytes of it, between quotation marks, as JSON has it. */
+void add_string(growing *to, const char *text);
+void add_quoted(growing *to, const char *text, size_t length);
 
 #endif

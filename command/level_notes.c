@@ -1,7 +1,8 @@
 /* What `level` says: why no text is written, and what was done to legs that are. */
 #include "level.h"
+
+#include "../survey/mathematics.h"
 #include <inttypes.h>
-#include <math.h>
 #include <stdlib.h>
 #include <string.h>
 

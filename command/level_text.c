@@ -1,8 +1,9 @@
 /* The legs of a survey's loop as the strict text that `jabulghi legs` takes, whole or not at all. */
 #include "level.h"
+
+#include "../survey/mathematics.h"
 #include <errno.h>
 #include <inttypes.h>
-#include <math.h>
 #include <stdlib.h>
 #include <string.h>
 

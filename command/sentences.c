@@ -1,8 +1,6 @@
 /* All that a user is told: one table from the numbers of jabulghi.h to sentences, and one of what is said besides. */
 #include "command.h"
 #include <inttypes.h>
-#include <stdarg.h>
-#include <stdio.h>
 #include <stdlib.h>
 #include <string.h>
 
@@ -177,15 +175,15 @@ int refuse(const text *refused, subject about, size_t line, uint32_t number) {
     bad_line bad = line_of(refused, line);
     const char *sentence = sentence_of(about, number, &bad);
     if (line == 0) {
-        fprintf(stderr, "%s: %s (%" PRIu32 ")\n", refused->name, sentence, number);
+        put_error("%s: %s (%" PRIu32 ")\n", refused->name, sentence, number);
     } else {
-        fprintf(stderr, "%s:%zu: %s (%" PRIu32 ")\n", refused->name, line, sentence, number);
+        put_error("%s:%zu: %s (%" PRIu32 ")\n", refused->name, line, sentence, number);
     }
     return REFUSED;
 }
 
 int refuse_leg(const char *file, size_t line, saying why) {
-    fprintf(stderr, "%s:%zu: %s\n", file, line, SAYINGS[why]);
+    put_error("%s:%zu: %s\n", file, line, SAYINGS[why]);
     return REFUSED;
 }
 
@@ -199,9 +197,9 @@ const char *sentence(saying what) { return SAYINGS[what]; }
 
 /* "jabulghi: " and a sentence, its places filled in. */
 static void tell(saying what, va_list values) {
-    fprintf(stderr, "jabulghi: ");
-    vfprintf(stderr, SAYINGS[what], values);
-    fprintf(stderr, "\n");
+    put_error("jabulghi: ");
+    put_error_values(SAYINGS[what], values);
+    put_error("\n");
 }
 
 int wrong(saying what, ...) {
@@ -217,4 +215,9 @@ void note(saying what, ...) {
     va_start(values, what);
     tell(what, values);
     va_end(values);
+}
+
+int trouble(const char *what, const char *why) {
+    put_error("jabulghi: %s: %s\n", what, why);
+    return TROUBLE;
 }

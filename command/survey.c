@@ -81,7 +81,7 @@ static int take_walk(const levelling *l, growing *said, survey *s) {
     growing shots = {NULL, 0, 0, false};
     put_shots(l, &shots);
     if (shots.failed || said->failed || !keep_origins(l, s)) return trouble(s->source.name, strerror(ENOMEM));
-    fwrite(said->bytes, 1, said->length, stderr);
+    if (said->length > 0) put_error("%s", said->bytes);
     free(said->bytes);
     s->shots = (uint8_t *)shots.bytes;
     s->length = shots.length;
@@ -101,7 +101,7 @@ static int refuse_loop(levelling *l, const char *name) {
     growing said = {NULL, 0, 0, false};
     say_refusal(l, &said);
     if (l->why == NO_MEMORY || said.failed) return trouble(name, strerror(ENOMEM));
-    fwrite(said.bytes, 1, said.length, stderr);
+    put_error("%s", said.bytes);
     free(said.bytes);
     return REFUSED;
 }
@@ -109,7 +109,7 @@ static int refuse_loop(levelling *l, const char *name) {
 /* The survey that was read stays, for its names. */
 static int take_ordinary(survey *s, wanted_loop wanted) {
     levelling l;
-    const struct survey *cave =
+    const struct survey *cave = s->read =
         survey_read(s->source.name, s->source.bytes, s->source.length, fetch_of(&s->source), NULL);
     if (cave == NULL) return trouble(s->source.name, strerror(ENOMEM));
     bool taken = cave->trouble_count == 0, found = taken && level_survey(cave, wanted.number, wanted.needed, &l);
@@ -124,11 +124,11 @@ static int take_ordinary(survey *s, wanted_loop wanted) {
 static int take_all_legs(survey *s, bool new_names) {
     levelling l;
     growing said = {NULL, 0, 0, false};
-    struct survey *cave = survey_read(s->source.name, s->source.bytes, s->source.length, fetch_of(&s->source), NULL);
+    const struct survey *cave = s->read =
+        survey_read(s->source.name, s->source.bytes, s->source.length, fetch_of(&s->source), NULL);
     if (cave == NULL) return trouble(s->source.name, strerror(ENOMEM));
     tell_messages(cave);
     if (cave->trouble_count > 0) return REFUSED;
-    s->cave = cave;
     if (!level_whole(cave, &l)) return refuse_loop(&l, s->source.name);
     add(&said, "%s", NOT_PROVED);
     if (new_names) say_steep(&l, &said), say_names(&l, &said);
@@ -197,6 +197,13 @@ int take_whole(text source, bool new_names, survey *taken) {
     free(taken->shots);
     taken->shots = NULL;
     return take_all_legs(taken, new_names);
+}
+
+/* The shots of a job are a part of its source. */
+void free_shots(survey *s) {
+    if (s->about != JOB) free(s->shots);
+    free(s->origins);
+    survey_free(s->read);
 }
 
 /* Whether a line of a Survex text has something besides blanks and a comment. */

@@ -35,7 +35,7 @@ typedef struct {
     double station, clino;
     origin *origins;
     size_t origin_count;
-    const struct survey *cave; /* an ordinary survey all of whose legs are taken */
+    struct survey *read; /* what an ordinary survey was read to */
 } survey;
 
 /* Which loop of an ordinary survey is meant, by its number or ANY_LOOP for its only one; whether there has to be one;
@@ -55,7 +55,7 @@ bool is_loop(const char *name, const traverse *t);
 /* survey.c: what a text is, by its name or its first line; takes a text for what it is, a job, a listing or a survey,
  * strict or ordinary; takes all legs of a survey, loops or not and however many; where a shot of it came from, counted
  * from 0; the line of the text that a line of its job stands for; refuses that; a strict survey's legs as shot lines;
- * whether a line of a survey has more than blanks and a comment. */
+ * whether a line of a survey has more than blanks and a comment; frees what was taken, but not the source. */
 subject kind_of(const text *t);
 int take_survey(text source, wanted_loop wanted, survey *taken);
 int take_whole(text source, bool new_names, survey *taken);
@@ -64,6 +64,7 @@ origin origin_of(const survey *s, const traverse *t, size_t leg);
 size_t line_in_source(const survey *s, size_t line);
 int refuse_shot(const survey *s, size_t line, uint32_t number);
 int shots_of(const text *from, uint8_t **shots, size_t *length);
+void free_shots(survey *s);
 
 /* job.c: the seeds and sigmas of the options, or the survey's own, or seeds that are drawn; for a job, which has no
  * place for errors of stations and clino. How many shots there are. Makes the seeds those that are so many pairs, so

@@ -1,6 +1,7 @@
 /* Lines of data: their readings, and the legs that they make. */
 #include "reader.h"
-#include <math.h>
+
+#include "mathematics.h"
 #include <string.h>
 
 /* ---- Readings */
