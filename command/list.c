@@ -33,7 +33,7 @@ static size_t station_named(const struct survey *s, const char *name,
 /* The first leg that leaves a station of the survey, by any of its names; of a loop, by the one that stands on the leg.
  */
 static size_t leg_from(const playing *p, const char *name) {
-    const struct survey *s = p->s.cave;
+    const struct survey *s = p->s.read;
     size_t leg = 0, station = s == NULL ? SURVEY_NONE : station_named(s, name, strcmp);
     if (s != NULL && station == SURVEY_NONE) station = station_named(s, name, strcasecmp);
     if (s != NULL) {
@@ -85,7 +85,7 @@ static void tell_seeds(const option asked[ASKED], const playing *p) {
 /* Where all shots of a traverse are played, what is no loop is noted. */
 static void note_loop(const option asked[ASKED], const playing *p) {
     static traverse t;
-    if (p->shots > MOST_SHOTS || p->s.cave != NULL || asked[FROM].value != NULL) return;
+    if (p->shots > MOST_SHOTS || p->s.read != NULL || asked[FROM].value != NULL) return;
     read_shots(p->s.shots, p->s.length, false, &t);
     is_loop(p->s.source.name, &t);
 }
@@ -118,6 +118,6 @@ int list(int count, char **words) {
     tell_seeds(asked, &p);
     note_loop(asked, &p);
     if (asked[SVX].value == NULL) return put_grown(NULL, &p.listings);
-    status = p.s.cave == NULL ? put_svx(&p, &written) : put_survey(&p, &written);
+    status = p.s.read == NULL ? put_svx(&p, &written) : put_survey(&p, &written);
     return status == DONE ? put_grown(NULL, &written) : status;
 }

@@ -124,11 +124,11 @@ static int take_ordinary(survey *s, wanted_loop wanted) {
 static int take_all_legs(survey *s, bool new_names) {
     levelling l;
     growing said = {NULL, 0, 0, false};
-    struct survey *cave = survey_read(s->source.name, s->source.bytes, s->source.length, fetch_of(&s->source), NULL);
+    const struct survey *cave = s->read =
+        survey_read(s->source.name, s->source.bytes, s->source.length, fetch_of(&s->source), NULL);
     if (cave == NULL) return trouble(s->source.name, strerror(ENOMEM));
     tell_messages(cave);
     if (cave->trouble_count > 0) return REFUSED;
-    s->cave = cave;
     if (!level_whole(cave, &l)) return refuse_loop(&l, s->source.name);
     add(&said, "%s", NOT_PROVED);
     if (new_names) say_steep(&l, &said), say_names(&l, &said);
@@ -186,13 +186,6 @@ int take_survey(text source, wanted_loop wanted, survey *taken) {
                                      : take_legs(taken, wanted);
 }
 
-/* The shots of a job are a part of its source. */
-void free_shots(survey *s) {
-    if (s->about != JOB) free(s->shots);
-    free(s->origins);
-    survey_free(s->read);
-}
-
 int take_whole(text source, bool new_names, survey *taken) {
     size_t line;
     *taken = (survey){.source = source, .about = source.length == 0 ? JOB : kind_of(&source)};
@@ -204,6 +197,13 @@ int take_whole(text source, bool new_names, survey *taken) {
     free(taken->shots);
     taken->shots = NULL;
     return take_all_legs(taken, new_names);
+}
+
+/* The shots of a job are a part of its source. */
+void free_shots(survey *s) {
+    if (s->about != JOB) free(s->shots);
+    free(s->origins);
+    survey_free(s->read);
 }
 
 /* Whether a line of a Survex text has something besides blanks and a comment. */

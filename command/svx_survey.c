@@ -82,7 +82,7 @@ static void put_text(writing *w, size_t file, size_t last) {
 /* ---- The survey */
 
 static bool is_as_played(const playing *p, const struct survey *again, size_t leg) {
-    const struct survey *s = p->s.cave;
+    const struct survey *s = p->s.read;
     const struct survey_leg *one = &s->legs[leg], *other = &again->legs[leg];
     return strcmp(s->stations[one->from].name, again->stations[other->from].name) == 0 &&
            strcmp(s->stations[one->to].name, again->stations[other->to].name) == 0 &&
@@ -91,7 +91,7 @@ static bool is_as_played(const playing *p, const struct survey *again, size_t le
 
 /* The first leg that is not read as it was played, or the count of legs. */
 static size_t first_other(const playing *p, const struct survey *again) {
-    size_t all = p->s.cave->leg_count, leg = 0;
+    size_t all = p->s.read->leg_count, leg = 0;
     while (leg < all && leg < again->leg_count && is_as_played(p, again, leg)) leg++;
     return leg == all && (again->trouble_count > 0 || again->leg_count != all) ? all - 1 : leg;
 }
@@ -106,11 +106,11 @@ static int read_again(const playing *p, const growing *written) {
     if (again == NULL) return trouble(p->s.source.name, strerror(ENOMEM));
     size_t other = first_other(p, again);
     survey_free(again);
-    return other == p->s.cave->leg_count ? DONE : refuse_cave(p->s.cave, other);
+    return other == p->s.read->leg_count ? DONE : refuse_cave(p->s.read, other);
 }
 
 int put_survey(const playing *p, growing *to) {
-    const struct survey *s = p->s.cave;
+    const struct survey *s = p->s.read;
     writing w = {s, {NULL, 0, 0, {0}}, 0, 0, to};
     for (size_t j = 0; j < s->leg_count; j++) {
         if (!add_edits(s, j, &p->rows[j], &w.made)) return refuse_cave(s, j);

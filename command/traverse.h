@@ -35,8 +35,7 @@ typedef struct {
     double station, clino;
     origin *origins;
     size_t origin_count;
-    struct survey *read;       /* what an ordinary survey was read to */
-    const struct survey *cave; /* an ordinary survey all of whose legs are taken */
+    struct survey *read; /* what an ordinary survey was read to */
 } survey;
 
 /* Which loop of an ordinary survey is meant, by its number or ANY_LOOP for its only one; whether there has to be one;

@@ -1,4 +1,4 @@
-"""Works out the rows of crates `tail_rows` and `tail_rows18` as their proofs do, from the tables of sines and cosines, and compares them with specs/.
+"""Works out the rows of crate `tail_rows` as its proofs do, from the tables of sines and cosines, and compares them with specs/.
 The numbers that tools/datasheet counted must lie within them.
 
   python3 tools/tails.py           compare the rows of specs/ with those worked out, and the counted numbers with the rows
@@ -16,7 +16,7 @@ TOP = pathlib.Path(__file__).resolve().parent.parent
 CRATES = TOP / "crates"
 LISTS = [  # file, name, fraction bits
     (CRATES / "tail_rows" / "specs" / "Rows.antt", "rows", 11),
-    (CRATES / "tail_rows18" / "specs" / "Rows18.antt", "rows18", 13),
+    (CRATES / "tail_rows" / "specs" / "Rows18.antt", "rows18", 13),
 ]
 QUARTILE = 0.67449
 SIGMAS = (8.2, 8, 7.5, 7, 6, 5, 4, 3, 2, 1)
