@@ -58,7 +58,7 @@ async function loaded() {
 }
 
 const isBlunder = async () => {
-  assert.match(await text('verdict'), /^The cave as a whole: in none of 1,000 .*a blunder, or your errors are larger than these\.$/);
+  assert.match(await text('verdict'), /^The cave as a whole: in none of 1,000 .*there is a blunder, or these errors are too small\.$/);
   assert.equal(await value("document.getElementById('verdict').className"), 'bad');
   assert.match(await value("document.querySelector('#suspectRows li').textContent"), /cave\.main\.5 - cave\.main\.6, 13\.74 at 151.*5 6 13\.74 151 \+6$/);
 };
@@ -110,7 +110,7 @@ async function fields() {
   }
   await choose('tapeUnit', 'cm');
   await after(() => browser.key('Enter'));
-  assert.match(await text('about'), /errors: tape 15 mm, compass 0\.5 degrees, clino 0\.5 degrees, stations 30 mm \(--sigma\)/);
+  assert.match(await text('about'), /errors: tape 15 mm, compass 0\.5 degrees, clino 0\.5 degrees, stations 30 mm \(from --sigma\)/);
   const wrong = [['tape', '1,000.5', /^Tape: ‘1,000\.5’ is no number/], ['compass', '5 mm', /^Compass: ‘5 mm’ is no number/], ['compass', '91', /compass=91deg/],
     ['station', 'wide', /no number/], ['plays', '10', /100/], ['seeds', '1,2,3', /seeds/i], ['trip', '95', /95deg/]];
   for (const [id, words, sentence] of wrong) {
@@ -220,7 +220,7 @@ async function loops() {
   await browser.click('#loopRows [data-loop="2"]');
   await drawnLoop('Loop 2: 30 legs');
   assert.match(await value("document.querySelector('#cloud svg').getAttribute('aria-label')"), /outside all of them\.$/);
-  assert.match(await text('saySaid'), /^Your loops want more than these errors/);
+  assert.match(await text('saySaid'), /^Your loops fit \d+ mm a station/);
   await browser.click('#loopHead [data-key=p]');
 }
 
@@ -246,7 +246,7 @@ async function saves() {
   assert.equal(await saved('svg', 'plan.svg'), readFileSync(svg, 'utf8'));
   const shown = (await value("document.getElementById('results').textContent")).replace(/\s+/g, ' ');
   const lines = run().trimEnd().split('\n').map(line => line.replace('; --sigma replaces them', '').replace(/:$/, '')), sentences = lines.flatMap(line => line.trim().split(/\. (?=[A-Z])/));
-  const missing = sentences.filter(line => !/^(Look at|loop +legs|\d+ +\d+ |--loops|That is|The cave as|survey\.svx:\d)/.test(line) && !shown.includes(line.replace(/\.$/, '')));
+  const missing = sentences.filter(line => !/^(Look at|loop +legs|\d+ +\d+ |--loops|and \d+ more|That is|The cave as|survey\.svx:\d)/.test(line) && !shown.includes(line.replace(/\.$/, '')));
   assert.deepEqual(missing, [], 'sentences of the command that the page has not');
   await fill('seeds', '');
   await fill('compass', '');
