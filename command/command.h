@@ -90,6 +90,11 @@ typedef enum {
     BLUNDER_LIKELY,
     CANDIDATES,
     NO_CANDIDATE,
+    NO_PLACE,
+    NOT_LEFT,
+    SEVERAL_JOBS,
+    TO_ITSELF,
+    NOT_READ_AGAIN,
 } saying;
 
 /* An option: its name, "--seeds" or "-n", whether it stands alone, and what was given: NULL for nothing, its own name
@@ -141,6 +146,7 @@ int draw_seeds(uint32_t numbers[6]);
  * worth a note. */
 int refuse(const text *refused, subject about, size_t line, uint32_t number);
 int refuse_option(const char *name, uint32_t number);
+int refuse_leg(const char *file, size_t line, saying why);
 const char *sentence(saying what);
 int wrong(saying what, ...);
 void note(saying what, ...);

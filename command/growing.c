@@ -27,6 +27,14 @@ void add_values(growing *to, const char *format, va_list values) {
     va_end(again);
 }
 
+void add_bytes(growing *to, const void *bytes, size_t length) {
+    if (length == 0) return;
+    to->failed = to->failed || !room_for(length, &to->bytes, to->length, &to->room, 1);
+    if (to->failed) return;
+    memcpy(to->bytes + to->length, bytes, length);
+    to->length += length;
+}
+
 void add(growing *to, const char *format, ...) {
     va_list values;
     va_start(values, format);

@@ -135,6 +135,11 @@ static const char *const SAYINGS[] = {
     [BLUNDER_LIKELY] = "That is below 0.1 %: a blunder is likely. Or your sigmas are too small.",
     [CANDIDATES] = "One leg alone, so corrected, would bring the miss within the noise (in brackets: sound surveys that miss by as much as then remains). What could be, not what is:",
     [NO_CANDIDATE] = "No correction of one leg alone would bring the miss within the noise.",
+    [NO_PLACE] = "%s: '%s': a job has no place for errors of stations and clino",
+    [NOT_LEFT] = "%s: no shot starts at %s",
+    [SEVERAL_JOBS] = "%s: %zu legs are %zu jobs of up to 500, each from where the one before ended in the stream",
+    [TO_ITSELF] = "leg from a station to itself, which Survex does not take",
+    [NOT_READ_AGAIN] = "leg cannot be written so that Survex reads it as it was played",
 };
 /* clang-format on */
 
@@ -174,6 +179,11 @@ int refuse(const text *refused, subject about, size_t line, uint32_t number) {
     } else {
         put_error("%s:%zu: %s (%" PRIu32 ")\n", refused->name, line, sentence, number);
     }
+    return REFUSED;
+}
+
+int refuse_leg(const char *file, size_t line, saying why) {
+    put_error("%s:%zu: %s\n", file, line, SAYINGS[why]);
     return REFUSED;
 }
 

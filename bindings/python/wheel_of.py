@@ -37,7 +37,7 @@ def build_wheel(wheel_directory, config_settings=None, metadata_directory=None):
     names = ["__init__.py", "_library.py", "judging.py", "py.typed", "refusals.py"]
     files = {f"jabulghi/{name}": read(os.path.join(HERE, "jabulghi", name)) for name in names}
     files["jabulghi/libjabulghi.so"] = shared_library()
-    made = {}
+    made: dict[str, str] = {}
     exec(files["jabulghi/refusals.py"], made)
     version = made["VERSION"]
     info = f"jabulghi-{version}.dist-info"

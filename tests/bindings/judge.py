@@ -57,7 +57,7 @@ def examples():
         "traverse.job",
         "tape-book.listing",
     ):
-        beside("check", name, {"seeds": comma, "plays": 200}, seeds=SEEDS, plays=200)
+        beside("check", name, {"seeds": comma, "plays": 200, "first": 2**40}, seeds=SEEDS, plays=200, first=2**40)
         sigma = "tape=10mm,compass=1deg,station=20mm"
         options = {"seeds": comma, "sigma": sigma, "runs": 500}
         beside("tolerance", name, options, seeds=SEEDS, sigma=sigma, runs=500)

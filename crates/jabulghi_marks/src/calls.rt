@@ -1,7 +1,7 @@
 // A saved record is its words, copied as they stand; an accepted call writes its own place alone, a refused one nothing.
 ghost use mathlib.Core.Path.{_≡_};
 ghost use Prim.Native.Nat.{_<_};
-ghost use Rattle.jabulghi_record.specs.Words.{generatorOf};
+ghost use Rattle.jabulghi.specs.Words.{generatorOf};
 ghost use Rattle.marks.specs.Marks.{places, placeToSave, placeToReturn, placeToDrop};
 ghost use Rattle.jabulghi_marks.specs.Members.{members, labelsOf, storedIn, savedIn, returnedWords, droppedIn};
 use crate::members::WORDS;
@@ -9,7 +9,7 @@ use crate::members::labels_of;
 use crate::members::put_words;
 use crate::members::words_at;
 use buffer::put;
-use jabulghi_record::words::unpacked;
+use jabulghi::words::unpacked;
 use marks::PLACES;
 use marks::call::place_to_drop;
 use marks::call::place_to_return;
