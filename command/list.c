@@ -32,8 +32,8 @@ static size_t station_named(const struct survey *s, const char *name,
 
 /* The first leg that leaves a station of the survey, by any of its names; of a loop, by the one that stands on the leg.
  */
-static size_t leg_from(const playing *p, const char *name) {
-    const struct survey *s = p->s.read;
+static size_t leg_from(const playing *p, const char *name, bool whole) {
+    const struct survey *s = whole ? p->s.read : NULL;
     size_t leg = 0, station = s == NULL ? SURVEY_NONE : station_named(s, name, strcmp);
     if (s != NULL && station == SURVEY_NONE) station = station_named(s, name, strcasecmp);
     if (s != NULL) {
@@ -45,11 +45,11 @@ static size_t leg_from(const playing *p, const char *name) {
 }
 
 /* A station by its name in the listing, or else in the survey. */
-static int start_from(const option *given, playing *p) {
+static int start_from(const option *given, bool whole, playing *p) {
     p->start = 0;
     if (given->value == NULL) return DONE;
     p->start = shot_from(p, given->value);
-    if (p->start == p->shots) p->start = leg_from(p, given->value);
+    if (p->start == p->shots) p->start = leg_from(p, given->value, whole);
     if (p->start < p->shots) return DONE;
     note(NOT_LEFT, given->name, given->value);
     return REFUSED;
@@ -99,7 +99,7 @@ static int set_up(int count, char **words, const option asked[ASKED], playing *p
     if (status != DONE) return status;
     memcpy(p->seeds, p->s.seeds, sizeof p->seeds);
     p->shots = count_shots(&p->s);
-    status = start_from(&asked[FROM], p);
+    status = start_from(&asked[FROM], asked[LOOP].value == NULL, p);
     return status == DONE ? skip_pairs(&p->s, skip, run, p->start, &p->before) : status;
 }
 

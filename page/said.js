@@ -17,7 +17,7 @@ function rowsOf(lines) {
 }
 
 // Words that speak of the command's options mean nothing here.
-const OPTIONS = /; --sigma replaces them|^--loops .*$/;
+const OPTIONS = /; --sigma replaces them|^(and \d+ more\. )?--loops .*$/;
 
 export function partsOf(text) {
   const [cave, ...lines] = text.trimEnd().split('\n').map(line => line.replace(OPTIONS, '')), isLoops = line => /^(Loops: |The loop is )/.test(line);

@@ -53,7 +53,7 @@ export const andMore = count => `and ${number(count)} more`;
 export const allLoops = count => `Show all ${number(count)} loops`;
 export const loopsMore = count => `and ${counted(count, 'more loop', 'more loops')}: the saved JSON has them all`;
 export const loopName = ({ number: of, legs, length }) => `Loop ${of}: ${counted(legs, 'leg', 'legs')}, ${length} m`;
-export const loopSaid = ({ misses, east, north, p, state }) => `It misses by ${misses} m: ${east} m east, ${north} m north. p = ${p}: ${state}.`;
+export const loopSaid = ({ misses, east, north, p, state }) => `It misses by ${misses} m: ${east} m east, ${north} m north. p ${p.startsWith('<') ? `< ${p.slice(1)}` : `= ${p}`}: ${state}.`;
 export const sortedBy = word => `Sort by: ${word}`;
 export const suspectButton = rank => `Suspect ${rank}`;
 

@@ -41,8 +41,6 @@ void free(void *old) {
     while (top != NULL && top->freed) top = top->below;
 }
 
-void free_all(void) { top = NULL; }
-
 void *calloc(size_t count, size_t size) {
     if (size > 0 && count > SIZE_MAX / size) return NULL;
     void *made = malloc(count * size);

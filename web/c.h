@@ -38,7 +38,6 @@ void *malloc(size_t size);
 void *calloc(size_t count, size_t size);
 void *realloc(void *old, size_t size);
 void free(void *old);
-void free_all(void);
 void qsort(void *bytes, size_t count, size_t size, int (*compare)(const void *one, const void *other));
 void *memcpy(void *to, const void *from, size_t length);
 void *memset(void *to, int byte, size_t length);

@@ -144,7 +144,9 @@ def station() -> None:
     off = numpy.abs(values / 50 - 1)
     within = sum(low <= 50 <= high for _, low, high in rows)
     print(
-        f"station: {count} caves of 20 loops with 50 mm: median {numpy.median(values):.1f} mm, half of them within {100 * numpy.median(off):.0f} %, {share(int((off <= 0.2).sum()), count)} within 20 %, 50 mm in the range of {share(within, count)}",
+        f"station: {count} caves of 20 loops with 50 mm: median {numpy.median(values):.1f} mm, half of them within "
+        f"{100 * numpy.median(off):.0f} %, {share(int((off <= 0.2).sum()), count)} within 20 %, "
+        f"50 mm in the range of {share(within, count)}",
         flush=True,
     )
 

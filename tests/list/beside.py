@@ -81,7 +81,7 @@ def same_text(source, written):
         if old == new:
             continue
         old_words, new_words = re.split(rb'([\s,]+|;.*)', old), re.split(rb'([\s,]+|;.*)', new)
-        assert len(old_words) == len(new_words), f'{old} became {new}'
+        assert len(old_words) == len(new_words), f'{old!r} became {new!r}'
         for one, other in zip(old_words, new_words):
             changed = one != other
             plumb = one.lower() in (
@@ -98,7 +98,7 @@ def same_text(source, written):
                 b'd',
                 b'-v',
             ) or one[:1] in (b'-', b'*')
-            assert not changed or (is_reading(other) and (is_reading(one) or plumb)), f'{old} became {new}'
+            assert not changed or (is_reading(other) and (is_reading(one) or plumb)), f'{old!r} became {new!r}'
     return True
 
 
@@ -112,7 +112,7 @@ def legs_of(path):
 def same_heights(path, written):
     """Names as they were, and each leg rises as it did (dived ones whose tape is too short excepted)."""
     for old, new in zip(legs_of(path), legs_of(written)):
-        assert old[:3] == new[:3], f'{old} became {new}'
+        assert old[:3] == new[:3], f'{old!r} became {new!r}'
         assert abs(old[3] - new[3]) < 0.002 or old[2] == '1', f'{old} rises otherwise: {new}'
 
 

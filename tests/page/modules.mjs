@@ -93,7 +93,7 @@ async function verdicts(name, text, options = {}) {
 // Every line of the verdict's text stands in a part of the page, once; the rows are those of --loops.
 function shown({ text, json }, name) {
   const parts = partsOf(text), said = [...parts.about, ...parts.verdict, ...parts.suspects.flat(), ...parts.suspectsSaid, ...parts.loops, ...parts.say, ...parts.seeds];
-  const wanted = text.trimEnd().split('\n').filter(line => !/^(Look at| loop +legs| +\d+ +\d+ |--loops)/.test(line)).map(line => line.trim().replace('; --sigma replaces them', ''));
+  const wanted = text.trimEnd().split('\n').filter(line => !/^(Look at| loop +legs| +\d+ +\d+ |--loops|and \d+ more)/.test(line)).map(line => line.trim().replace('; --sigma replaces them', ''));
   assert.deepEqual(said, wanted.map(line => (/^(Loops|The loop)/.test(line) ? line.replace(/:$/, '.') : line)), name);
   assert.doesNotMatch(headline(parts), /\. [A-Z]|undefined/, name);
   const rows = json.loops.map(loopRow), printed = run('check', name, '--seeds', SEEDS, '--plays', '300', '--loops').split('\n').filter(line => /^ +\d+ +\d+ /.test(line));
@@ -102,7 +102,7 @@ function shown({ text, json }, name) {
   const units = [0, 0, 0.101, 0.0101, 0.0101]; // json has its numbers rounded, so that a last digit can differ by one
   made.forEach((row, j) => row.forEach((cell, k) => assert(Math.abs(cell - cells[j][k]) <= units[k], `${name}, loop ${j + 1}: ${cell}, ${cells[j][k]}`)));
   assert.deepEqual(sortLoops(rows, { key: 'length', up: false }).map(({ length }) => Number(length)), rows.map(({ length }) => Number(length)).sort((one, other) => other - one));
-  assert.equal(worstLoops(rows, 1)[0], rows.length === 0 ? undefined : rows.reduce((worst, row) => (Number(row.p) < Number(worst.p) ? row : worst)).number);
+  assert.equal(worstLoops(rows, 1)[0], rows.length === 0 ? undefined : rows.reduce((worst, row) => (row.share < worst.share ? row : worst)).number);
 }
 
 // Stopped, it judges by the plays so far; an error that is refused is named.
