@@ -1,4 +1,4 @@
-"""Works out the rows of crate `normal` as its proofs do, from the rows of `tail_rows` and `tail_rows18`, and compares them with specs/.
+"""Works out the rows of crate `normal` as its proofs do, from the rows of `tail_rows`, and compares them with specs/.
 
   python3 tools/normal.py           compare the rows of specs/ with those worked out
   python3 tools/normal.py --write   write the rows anew

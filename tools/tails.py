@@ -1,4 +1,4 @@
-"""Works out the rows of crates `tail_rows` and `tail_rows18` as their proofs do, from the tables of sines and cosines, and compares them with specs/.
+"""Works out the rows of crate `tail_rows` as its proofs do, from the tables of sines and cosines, and compares them with specs/.
 The numbers that tools/datasheet counted must lie within them.
 
   python3 tools/tails.py           compare the rows of specs/ with those worked out, and the counted numbers with the rows
@@ -16,7 +16,7 @@ TOP = pathlib.Path(__file__).resolve().parent.parent
 CRATES = TOP / "crates"
 LISTS = [  # file, name, fraction bits
     (CRATES / "tail_rows" / "specs" / "Rows.antt", "rows", 11),
-    (CRATES / "tail_rows18" / "specs" / "Rows18.antt", "rows18", 13),
+    (CRATES / "tail_rows" / "specs" / "Rows18.antt", "rows18", 13),
 ]
 QUARTILE = 0.67449
 SIGMAS = (8.2, 8, 7.5, 7, 6, 5, 4, 3, 2, 1)
@@ -78,11 +78,16 @@ def least(b):
     return 2 * (peak + 2 * total)
 
 
+def sought(pattern: str, text: str, flags: int = re.M) -> re.Match[str]:
+    """What a pattern fits in a text that has it."""
+    found = re.search(pattern, text, flags)
+    assert found is not None, pattern
+    return found
+
+
 def largest(f):
     """The largest size: that of the largest F, with a sine or cosine of 1."""
-    limit = int(
-        re.search(r"^radiusLimit = (\d+)$", (CRATES / "radius" / "specs" / "Steps.antt").read_text(), re.M).group(1)
-    )
+    limit = int(sought(r"^radiusLimit = (\d+)$", (CRATES / "radius" / "specs" / "Steps.antt").read_text())[1])
     return (limit - 1 << 30) + (1 << 49 - f) >> 50 - f
 
 
@@ -94,7 +99,7 @@ def rows(f):
 
 def found(text, name):
     """The text of a list of rows."""
-    return re.search(rf"^{name} =\n.*?∷ \[\]\n", text, re.M | re.S).group()
+    return sought(rf"^{name} =\n.*?∷ \[\]\n", text, re.M | re.S).group()
 
 
 def stored(path, name):

@@ -12,7 +12,7 @@ use Rattle.streams.specs.Streams.Call.{a-pair, a-skip, a-block, an-ask, a-take,
 use Rattle.noise.specs.Noise.{pairOf, blockOf, takeOf}
 use Rattle.noise.specs.Runs.{returned}
 use Rattle.noise.proofs.Runs.{returned-code, next-is, leftBy}
-use Rattle.jabulghi_record.specs.Words.{wordsOf, generatorOf}
+use Rattle.jabulghi.specs.Words.{wordsOf, generatorOf}
 use Rattle.jabulghi.specs.Refused.{TenWords, Unchanged, RefusedCalls}
 
 -- n elements of a list, from i on

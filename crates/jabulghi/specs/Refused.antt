@@ -6,7 +6,7 @@ use lib.ListN.{length, getD}
 use Rattle.streams.specs.declared.Generator.{Generator}
 use Rattle.streams.specs.Streams.{skipOf, askOf, giveUpOf}
 use Rattle.noise.specs.Noise.{pairOf, blockOf, takeOf}
-use Rattle.jabulghi_record.specs.Words.{wordsOf, generatorOf}
+use Rattle.jabulghi.specs.Words.{wordsOf, generatorOf}
 
 -- Ten words of 32 bits.
 pub record TenWords (words : List ℕ) : Type 0 where

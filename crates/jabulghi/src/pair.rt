@@ -10,9 +10,9 @@ ghost use Rattle.box_muller.specs.Sample.{samplesOf, nineSixteenths};
 ghost use Rattle.box_muller.specs.DataSheet.{thirtyThreeSixtyFourths};
 ghost use Rattle.exact.specs.Pair.{Close};
 ghost use Rattle.noise.specs.Noise.{pairOf, samplesIn};
-ghost use Rattle.jabulghi_record.specs.Words.{wordsOf, generatorOf};
-use jabulghi_record::words::packed;
-use jabulghi_record::words::unpacked;
+ghost use Rattle.jabulghi.specs.Words.{wordsOf, generatorOf};
+use crate::words::packed;
+use crate::words::unpacked;
 
 // The two samples of k and v.
 #[no_mangle]

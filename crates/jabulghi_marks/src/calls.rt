@@ -1,15 +1,14 @@
 // A saved record is its words, copied as they stand; an accepted call writes its own place alone, a refused one nothing.
 ghost use mathlib.Core.Path.{_≡_};
 ghost use Prim.Native.Nat.{_<_};
-ghost use Rattle.jabulghi_record.specs.Words.{generatorOf};
+ghost use Rattle.jabulghi.specs.Words.{generatorOf};
 ghost use Rattle.marks.specs.Marks.{places, placeToSave, placeToReturn, placeToDrop};
 ghost use Rattle.jabulghi_marks.specs.Members.{members, labelsOf, storedIn, savedIn, returnedWords, droppedIn};
 use crate::members::WORDS;
 use crate::members::labels_of;
 use crate::members::put_words;
 use crate::members::words_at;
-use buffer::put;
-use jabulghi_record::words::unpacked;
+use jabulghi::words::unpacked;
 use marks::PLACES;
 use marks::call::place_to_drop;
 use marks::call::place_to_return;
@@ -17,6 +16,7 @@ use marks::call::place_to_save;
 use marks::label::Label;
 use marks::label::label_of;
 use marks::label::no_label;
+use text::buffer::put;
 use text::limits::NAME_LENGTH;
 
 // A label and the words of a record in a place.

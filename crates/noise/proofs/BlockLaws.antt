@@ -12,8 +12,8 @@ use Rattle.streams.specs.Streams.{cleared, onward, mostCount, codeOf, pairsCode
 use Rattle.streams.specs.Streams.Call.{a-take}
 use Rattle.streams.specs.Recurrence.{InRange, Sound}
 use Rattle.streams.proofs.Theorems.{sound, pairs-accepted, after-moved}
-use Rattle.lanes.specs.declared.Lanes.{Lanes}
-use Rattle.lanes.specs.Lanes.{upper, lower}
+use Rattle.streams.specs.declared.Lanes.{Lanes}
+use Rattle.streams.specs.Lanes.{upper, lower}
 use Rattle.noise.specs.Noise.{samples, blockCode, blockOf, blockHolds, lookOf, lookHolds, takeOf, takeHolds}
 use Rattle.sample.specs.Filled.{Filled}
 use Rattle.noise.specs.Private.{PairsDrawn}

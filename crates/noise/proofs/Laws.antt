@@ -16,8 +16,8 @@ use Rattle.streams.specs.Recurrence.{Sound, moved}
 use Rattle.streams.proofs.Theorems.{sound-accepted, pairs-accepted, moved-sound, uniforms-accepted, numbers-bounded}
 use Rattle.streams.proofs.Causes.{accepted-causes, one-open, just-taken, even-length, count-room}
 use Rattle.bit_matrix.specs.Matrices.{repeat}
-use Rattle.lanes.specs.Lanes.{words}
-use Rattle.lanes.proofs.Theorems.{word-is-pair}
+use Rattle.streams.specs.Lanes.{words}
+use Rattle.streams.proofs.LaneLaws.{word-is-pair}
 use Rattle.box_muller.specs.Sample.{firstOf, secondOf}
 use Rattle.sample.specs.Samples.{samplesAt}
 use Rattle.box_muller.proofs.Closeness.{accepts}

@@ -33,7 +33,7 @@ pub fn block18(g: Generator, out: &mut [i32]) -> RecordAnswer
     ensures { λ r. ⌜ r ≡ blockOf g (length (now (out .entry))) ⌝ }
     ensures { λ r. ⌜ now (out .exit) ≡ blockHolds fractionBits18 g (now (out .entry)) ⌝ }
 {
-    let code = requests::block_code(g, out.len());
+    let code = streams::block_code(g, out.len());
     if code != 0 {
         return RecordAnswer { code, next: g };
     }
@@ -50,7 +50,7 @@ pub fn look18(g: Generator, out: &mut [i32]) -> RecordAnswer
     ensures { λ r. ⌜ now (out .exit) ≡ lookHolds fractionBits18 g (now (out .entry)) ⌝ }
 {
     let free = without_note(g);
-    let code = requests::block_code(free, out.len());
+    let code = streams::block_code(free, out.len());
     if code != 0 {
         return RecordAnswer { code, next: g };
     }
@@ -64,7 +64,7 @@ pub fn take18(g: Generator, out: &mut [i32]) -> RecordAnswer
     ensures { λ r. ⌜ r ≡ takeOf g (length (now (out .entry))) ⌝ }
     ensures { λ r. ⌜ now (out .exit) ≡ takeHolds fractionBits18 g (now (out .entry)) ⌝ }
 {
-    let code = requests::take_code(g, out.len());
+    let code = streams::take_code(g, out.len());
     if code != 0 {
         return RecordAnswer { code, next: g };
     }

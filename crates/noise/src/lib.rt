@@ -6,17 +6,17 @@ pub use bits18::block18;
 pub use bits18::look18;
 pub use bits18::pair18;
 pub use bits18::take18;
-use lanes::Both;
-use lanes::Lanes;
 use sample::chunks;
 use sample::fill;
+use streams::Both;
 use streams::Generator;
+use streams::Lanes;
 use streams::RecordAnswer;
 ghost use mathlib.Core.Path.{_≡_};
 ghost use Prim.Native.Nat.{_+_, _≤_};
 ghost use lib.ListN.{length};
 ghost use Rattle.streams.specs.Streams.{cleared, onward, mostCount};
-ghost use Rattle.lanes.specs.Lanes.{upper, lower};
+ghost use Rattle.streams.specs.Lanes.{upper, lower};
 ghost use Rattle.box_muller.specs.Steps.{fractionBits};
 ghost use Rattle.noise.specs.Noise.{pairOf, pairReturns, samplesIn, blockOf, blockHolds, lookOf, lookHolds, takeOf, takeHolds};
 
@@ -78,7 +78,7 @@ pub fn block(g: Generator, out: &mut [i16]) -> RecordAnswer
     ensures { λ r. ⌜ r ≡ blockOf g (length (now (out .entry))) ⌝ }
     ensures { λ r. ⌜ now (out .exit) ≡ blockHolds fractionBits g (now (out .entry)) ⌝ }
 {
-    let code = requests::block_code(g, out.len());
+    let code = streams::block_code(g, out.len());
     if code != 0 {
         return RecordAnswer { code, next: g };
     }
@@ -95,7 +95,7 @@ pub fn look(g: Generator, out: &mut [i16]) -> RecordAnswer
     ensures { λ r. ⌜ now (out .exit) ≡ lookHolds fractionBits g (now (out .entry)) ⌝ }
 {
     let free = without_note(g);
-    let code = requests::block_code(free, out.len());
+    let code = streams::block_code(free, out.len());
     if code != 0 {
         return RecordAnswer { code, next: g };
     }
@@ -109,7 +109,7 @@ pub fn take(g: Generator, out: &mut [i16]) -> RecordAnswer
     ensures { λ r. ⌜ r ≡ takeOf g (length (now (out .entry))) ⌝ }
     ensures { λ r. ⌜ now (out .exit) ≡ takeHolds fractionBits g (now (out .entry)) ⌝ }
 {
-    let code = requests::take_code(g, out.len());
+    let code = streams::take_code(g, out.len());
     if code != 0 {
         return RecordAnswer { code, next: g };
     }

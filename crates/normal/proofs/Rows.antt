@@ -15,8 +15,8 @@ use Rattle.box_muller.specs.Steps.{fractionBits, fractionBits18}
 use Rattle.tails.specs.Counts.{firstBeyond}
 use Rattle.tail_rows.specs.Rows.{Row, Holds, Every, rows}
 use Rattle.tail_rows.proofs.Table.{tail-rows}
-use Rattle.tail_rows18.specs.Rows18.{rows18}
-use Rattle.tail_rows18.proofs.Table18.{tail-rows18}
+use Rattle.tail_rows.specs.Rows18.{rows18}
+use Rattle.tail_rows.proofs.Table18.{tail-rows18}
 use Rattle.normal.specs.Probability.{doubleFactorial, halfPiTerm, areaTerm}
 use Rattle.normal.specs.NormalRows.{NearTail, Nearness, Near, nearness, nearness18, halfUnitBefore, shareOf, inHundredMillions}
 use Rattle.normal.proofs.Sums.{over, topTo}

@@ -11,9 +11,9 @@ use Rattle.bit_matrix.specs.Matrices.{repeat}
 use Rattle.bit_matrix.proofs.Theorems.{repeat-add}
 use Rattle.streams.specs.declared.Stream.{Stream}
 use Rattle.streams.specs.Streams.{advance}
-use Rattle.lanes.specs.declared.Lanes.{Lanes}
-use Rattle.lanes.specs.Lanes.{upper, lower, words, LanesAfter}
-use Rattle.lanes.proofs.Theorems.{words-add, length-words}
+use Rattle.streams.specs.declared.Lanes.{Lanes}
+use Rattle.streams.specs.Lanes.{upper, lower, words, LanesAfter}
+use Rattle.streams.proofs.LaneLaws.{words-add, length-words}
 use Rattle.sample.specs.Samples.{samplesAt}
 use Rattle.sample.specs.Filled.{LanesDrawn, Filled}
 use Rattle.sample.specs.Private.{Rows}

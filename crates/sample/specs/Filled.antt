@@ -4,8 +4,8 @@ use mathlib.Core.Path.{_≡_}
 use Prim.Native.Nat.{ℕ, _/_, _%_}
 use lib.IntN.{ℤ}
 use lib.ListN.{length}
-use Rattle.lanes.specs.declared.Lanes.{Lanes}
-use Rattle.lanes.specs.Lanes.{upper, lower, words, LanesAfter}
+use Rattle.streams.specs.declared.Lanes.{Lanes}
+use Rattle.streams.specs.Lanes.{upper, lower, words, LanesAfter}
 use Rattle.sample.specs.Samples.{samplesAt}
 
 -- n pairs are drawn: both streams are n steps on, and the memory holds the samples of the pairs' words at f fraction bits.

@@ -5,9 +5,9 @@ mod passes;
 
 pub use bits18::fill18;
 pub use bits18::sample18;
-use lanes::Lanes;
-use lanes::draw_pairs;
 use passes::samples;
+use streams::Lanes;
+use streams::draw_pairs;
 ghost use mathlib.Core.Path.{_≡_};
 ghost use mathlib.Core.List.{[], _∷_};
 ghost use Prim.Native.Nat.{_+_, _^_, _≤_, _<_, min};

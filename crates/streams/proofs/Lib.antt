@@ -6,3 +6,5 @@ pub mod Theorems
 pub mod Skip
 pub mod Seeding
 pub mod FirstCause
+mod Halves
+pub mod LaneLaws

@@ -77,7 +77,11 @@ fit-minima u = (
       let (p, r) = and-eq-true-iff (leb _ (u .s0)) _ .0 h in
       let (q, w) = and-eq-true-iff (leb _ (u .s1)) _ .0 r in
       omega (arith, leb-true _ (u .s0) p, leb-true _ (u .s1) q, leb-true _ (u .s2) w),
-  λ m. rw (le-leb 2 (u .s0) (m .s0-least), le-leb 8 (u .s1) (m .s1-least), le-leb 16 (u .s2) (m .s2-least)),
+  λ m.
+      and-eq-true-iff (leb _ (u .s0)) _ .1 (
+        le-leb _ (u .s0) (omega (arith, m .s0-least)),
+        and-eq-true-iff (leb _ (u .s1)) _ .1 (le-leb _ (u .s1) (omega (arith, m .s1-least)), le-leb _ (u .s2) (omega (arith, m .s2-least))),
+      ),
 )
 
 -- The refusal code of any record is one of these, by which of its streams are fit.

@@ -6,3 +6,4 @@ pub mod Pairs
 pub mod RowTest
 pub mod Rows
 pub mod Table
+pub mod Table18

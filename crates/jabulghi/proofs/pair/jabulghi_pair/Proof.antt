@@ -1,7 +1,7 @@
 -- `jabulghi_pair` meets its contract: code, samples and record are those of the call below it.
 use mathlib.Core.Path.{ap, _∙_}
 use Rattle.streams.specs.declared.RecordAnswer.{RecordAnswer}
-use Rattle.jabulghi_record.specs.Words.{wordsOf}
+use Rattle.jabulghi.specs.Words.{wordsOf}
 use Rattle.jabulghi.proofs.pair.jabulghi_pair.Statement.{statement}
 use Rattle.jabulghi.proofs.pair.jabulghi_pair.Tie as tie
 
