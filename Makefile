@@ -1,4 +1,4 @@
-# make run [JOB=file]   proves and builds the listing program, runs it on a job and shows the listing
+# make run [JOB=file]   proves and builds the listing program, runs it on a job, shows the listing, and then says whether its loop is sound
 # make miss [JOB=file]  the same for a loop, and then how far it misses
 # make command          the command target/jabulghi; CC, CFLAGS and LDFLAGS are the compiler and its options
 # make install          the command, the library, its headers and the manual pages, below PREFIX=folder (/usr/local); LIBDIR, MANDIR, and DESTDIR for packagers
@@ -20,7 +20,7 @@
 # make help             prints these lines
 
 .PHONY: run miss test lib bench datasheet
-run: JOB ?= examples/traverse.job
+run: JOB ?= examples/loop.job
 run:
 	@tools/run "$(JOB)"
 

@@ -1,6 +1,7 @@
 /* Single legs whose correction would bring the miss within the noise: what could be, not what is. */
 #include "tolerance.h"
-#include <math.h>
+
+#include "../survey/mathematics.h"
 #include <stdlib.h>
 
 #define TURN 6.283185307179586476925286766559

@@ -3,7 +3,6 @@
 #include "level.h"
 #include <errno.h>
 #include <inttypes.h>
-#include <stdio.h>
 #include <stdlib.h>
 #include <string.h>
 #include <sys/stat.h>
@@ -25,7 +24,7 @@ survey_fetch *fetch_of(const text *source) { return strcmp(source->name, "standa
 void tell_messages(const struct survey *s) {
     growing said = {NULL, 0, 0, false};
     say_messages(s, &said);
-    if (said.length > 0) fwrite(said.bytes, 1, said.length, stderr);
+    if (said.length > 0) put_error("%s", said.bytes);
     free(said.bytes);
 }
 

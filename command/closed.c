@@ -1,6 +1,7 @@
 /* The closed form: Gaussian errors of each leg's distance and bearing, independent of each other, added up. */
 #include "tolerance.h"
-#include <math.h>
+
+#include "../survey/mathematics.h"
 
 #define TURN 6.283185307179586476925286766559
 

@@ -7,6 +7,7 @@
 
 #include "growing.h"
 #include "jabulghi.h"
+#include <stdarg.h>
 #include <stdbool.h>
 #include <sys/types.h>
 
@@ -89,6 +90,11 @@ typedef enum {
     BLUNDER_LIKELY,
     CANDIDATES,
     NO_CANDIDATE,
+    NO_PLACE,
+    NOT_LEFT,
+    SEVERAL_JOBS,
+    TO_ITSELF,
+    NOT_READ_AGAIN,
 } saying;
 
 /* An option: its name, "--seeds" or "-n", whether it stands alone, and what was given: NULL for nothing, its own name
@@ -136,12 +142,15 @@ int draw_seeds(uint32_t numbers[6]);
 #define SEEDS_LINE "(seeds (a %" PRIu32 " %" PRIu32 " %" PRIu32 ") (b %" PRIu32 " %" PRIu32 " %" PRIu32 "))"
 
 /* sentences.c: says on standard error why a text was refused, and where; "FILE:LINE: sentence (NUMBER)", without a line
- * where the whole text is meant. Says what went wrong with the words of the command line, or what is worth a note. */
+ * where the whole text is meant. Says what went wrong with the words of the command line or with the system, or what is
+ * worth a note. */
 int refuse(const text *refused, subject about, size_t line, uint32_t number);
 int refuse_option(const char *name, uint32_t number);
+int refuse_leg(const char *file, size_t line, saying why);
 const char *sentence(saying what);
 int wrong(saying what, ...);
 void note(saying what, ...);
+int trouble(const char *what, const char *why);
 
 /* legs_cause.c: what is wrong with a line of a survey, asked in this order. */
 bool is_other_data_line(const bad_line *line);
@@ -168,7 +177,10 @@ int put_words(const char *format, ...);
 int put_file(const char *name, const void *bytes, size_t length);
 int put_grown(const char *name, growing *written);
 int finish(int status);
-int trouble(const char *what, const char *why);
+
+/* Says something on standard error: writing.c, or the program that the sources are compiled into. */
+void put_error(const char *format, ...);
+void put_error_values(const char *format, va_list values);
 
 /* progress.c: a line on standard error, where that is a terminal and what is counted goes elsewhere, once a run takes
  * longer than a second. */

@@ -1,6 +1,7 @@
 /* Ellipses of equal likelihood. */
 #include "tolerance.h"
-#include <math.h>
+
+#include "../survey/mathematics.h"
 
 /* Runs are in whole millimetres: a variance below this is none. It stands in for it, so that what lies off the runs'
  * line, or off their only point, is beyond them all. */

@@ -1,6 +1,7 @@
 /* Standard deviations among the words of the command line, each with its name. */
 #include "check.h"
-#include <math.h>
+
+#include "../survey/mathematics.h"
 #include <string.h>
 
 /* The names, what each is in, and the most that is taken of it, in metres or degrees. */

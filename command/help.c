@@ -3,7 +3,7 @@
 #include <string.h>
 
 static const char OVERVIEW[] =
-    "usage: jabulghi list [FILE]     the listing of a job: each shot with its noise\n"
+    "usage: jabulghi list [FILE]     a job or a survey played back: each shot with its noise, or by --svx the cave\n"
     "       jabulghi legs [FILE]     the shot lines of a Survex survey's level legs\n"
     "       jabulghi level [FILE]    an ordinary Survex survey as the strict text that legs takes; not proved\n"
     "       jabulghi misses [FILE]   how far the loop of a listing misses, in millimetres\n"
@@ -24,8 +24,27 @@ static const char OVERVIEW[] =
 static const struct {
     const char *command, *text;
 } HELP[] = {
-    {"list", "usage: jabulghi list [FILE] [-o FILE]\n\nPrints the listing of a job: each shot with its noise, and the "
-             "count of shots.\n"},
+    {"list",
+     "usage: jabulghi list [FILE] [--sigma SIGMAS] [--seeds SEEDS] [--skip N] [--run N] [--from STATION] [--loop N] "
+     "[-o "
+     "FILE]\n"
+     "       jabulghi list [FILE] --svx [--sigma SIGMAS] [--seeds SEEDS] [--skip N] [--run N] [-o FILE]\n"
+     "\n"
+     "Prints the listing of a job, of all legs of a Survex survey or of the rows of another listing: each shot with "
+     "its "
+     "noise, and the count of shots.\n"
+     "More than 500 legs are several jobs, whose listings follow each other. Reading an ordinary survey is not "
+     "proved.\n"
+     "  --sigma SIGMAS  of distance and bearing: 4mm,0.5deg or 4,91 (millimetres, steps of which a turn has 65536);\n"
+     "                  for a job its own, where not given\n"
+     "  --seeds SEEDS   a line of seeds, as `jabulghi seeds` prints it, or six numbers with commas between;\n"
+     "                  for a job its own, where not given; else some are drawn, and standard error says which\n"
+     "  --skip N        leave out the first N pairs of the stream\n"
+     "  --run N         the N-th playing, from 0 on: it begins N times the shots on in the stream\n"
+     "  --from STATION  the rows from where this station is first left, as they are in the whole listing\n"
+     "  --loop N        this loop of an ordinary survey alone, as job takes it\n"
+     "  --svx           the played cave as Survex: of an ordinary survey its own text, included files in their places, "
+     "with other readings\n"},
     {"legs", "usage: jabulghi legs [FILE] [-o FILE]\n\nPrints the shot lines of a Survex survey's level legs.\n"},
     {"level", "usage: jabulghi level [FILE] [--loop N] [-o FILE]\n"
               "\n"
@@ -38,7 +57,7 @@ static const struct {
     {"misses", "usage: jabulghi misses [FILE] [-o FILE]\n\nPrints how far the loop of a listing misses, east and north "
                "in whole millimetres.\n"},
     {"job",
-     "usage: jabulghi job [FILE] --sigma SIGMAS [--seeds SEEDS] [--loop N] [-o FILE]\n"
+     "usage: jabulghi job [FILE] --sigma SIGMAS [--seeds SEEDS] [--skip N] [--run N] [--loop N] [-o FILE]\n"
      "\n"
      "Prints a job with the legs of a Survex survey, the rows of a listing or the shots of another job, whole or not "
      "at all. A survey that legs\n"
@@ -47,6 +66,8 @@ static const struct {
      "                  for a job its own, where not given\n"
      "  --seeds SEEDS   a line of seeds, as `jabulghi seeds` prints it, or six numbers with commas between;\n"
      "                  for a job its own, where not given; else some are drawn\n"
+     "  --skip N        seeds that are N pairs on in the stream\n"
+     "  --run N         seeds for the N-th playing, from 0 on: N times the shots on\n"
      "  --loop N        the loop that is taken, where an ordinary survey has several\n"},
     {"tolerance",
      "usage: jabulghi tolerance [FILE] --sigma SIGMAS [--seeds SEEDS] [--loop N] [--runs N] [--first N] [--miss E,N] "

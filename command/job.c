@@ -28,6 +28,38 @@ int settings_of(const option *seeds, const option *sigma, const char *command, s
     return status == DONE ? seeds_for(seeds, s) : status;
 }
 
+int job_settings_of(const option *seeds, const option *sigma, const char *command, survey *s) {
+    int status = settings_of(seeds, sigma, command, s);
+    if (status == DONE && (s->station > 0 || s->clino > 0)) status = wrong(NO_PLACE, sigma->name, sigma->value);
+    return status;
+}
+
+size_t count_shots(const survey *s) {
+    size_t shots = 0;
+    for (size_t at = 0; at < s->length; at++) shots += s->shots[at] == '\n';
+    return shots;
+}
+
+/* Whether the count has room for all shots is asked of the library before any is played. */
+int skip_pairs(survey *s, uint64_t skip, uint64_t run, size_t from, uint64_t *before) {
+    jabulghi_record record, last;
+    uint64_t shots = count_shots(s);
+    const uint32_t *n = s->seeds;
+    uint32_t number = jabulghi_seed(n[0], n[1], n[2], n[3], n[4], n[5], &record);
+    if (number != JABULGHI_OK) return refuse_option("--seeds", number);
+    number = jabulghi_skip(&record, skip);
+    if (number != JABULGHI_OK) return refuse_option("--skip", number);
+    last = record;
+    bool fits = shots == 0 || run < UINT64_MAX / shots;
+    number = fits ? jabulghi_skip(&last, (run + (shots > 0)) * shots) : JABULGHI_COUNT_FULL;
+    if (number == JABULGHI_OK) number = jabulghi_skip(&record, run * shots + from);
+    if (number != JABULGHI_OK) return refuse_option(run > 0 ? "--run" : "--skip", number);
+    memcpy(s->seeds, record.a, sizeof record.a);
+    memcpy(s->seeds + 3, record.b, sizeof record.b);
+    if (before != NULL) *before = record.count - from;
+    return DONE;
+}
+
 uint8_t *job_text(const survey *s, const uint32_t sigma[2], size_t *length) {
     const uint32_t *n = s->seeds;
     size_t room = 160 + s->length;
@@ -56,17 +88,21 @@ static int write_job(const survey *s) {
 }
 
 int job(int count, char **words) {
-    option options[] = {
-        {"--sigma", false, NULL}, {"--seeds", false, NULL}, {"-o", false, NULL}, {"--loop", false, NULL}};
+    option options[] = {{"--sigma", false, NULL}, {"--seeds", false, NULL}, {"--skip", false, NULL},
+                        {"--run", false, NULL},   {"--loop", false, NULL},  {"-o", false, NULL}};
     wanted_loop wanted = {ANY_LOOP, false, true};
+    uint64_t skip = 0, run = 0;
     text source;
     survey s;
-    int status = read_options(&count, words, options, 4);
-    if (status == DONE) status = number_of(&options[3], ANY_LOOP - 1, &wanted.number);
+    int status = read_options(&count, words, options, 6);
+    if (status == DONE) status = number_of(&options[2], UINT64_MAX, &skip);
+    if (status == DONE) status = number_of(&options[3], UINT64_MAX, &run);
+    if (status == DONE) status = number_of(&options[4], ANY_LOOP - 1, &wanted.number);
     if (status == DONE) status = read_named(count, words, &source);
     if (status == DONE) status = take_survey(source, wanted, &s);
-    if (status == DONE) status = settings_of(&options[1], &options[0], "job", &s);
+    if (status == DONE) status = job_settings_of(&options[1], &options[0], "job", &s);
+    if (status == DONE) status = skip_pairs(&s, skip, run, 0, NULL);
     if (status != DONE) return status;
-    write_to(&options[2]);
+    write_to(&options[5]);
     return write_job(&s);
 }

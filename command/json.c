@@ -3,17 +3,6 @@
 #include "tolerance.h"
 #include <inttypes.h>
 
-/* A name between quotation marks. */
-static void add_string(growing *to, const char *name) {
-    add(to, "\"");
-    for (; *name != '\0'; name++) {
-        if (*name == '"' || *name == '\\') add(to, "\\%c", *name);
-        else if ((unsigned char)*name < 32) add(to, "\\u%04x", *name);
-        else add(to, "%c", *name);
-    }
-    add(to, "\"");
-}
-
 /* The job that every run plays, a line a string. */
 static void add_job(const task *t, growing *to) {
     add(to, "  \"job\": [\n    \"");

@@ -1,7 +1,6 @@
 /* `jabulghi level`: an ordinary survey as the strict text that `jabulghi legs` takes. Not proved. */
 #include "level.h"
 #include "cave.h"
-#include <stdio.h>
 #include <stdlib.h>
 
 int level(int count, char **words) {
@@ -17,7 +16,7 @@ int level(int count, char **words) {
     status = read_text(count == 0 ? "-" : words[0], &source);
     if (status != DONE) return status;
     status = level_text(&source, fetch_of(&source), loop, false, &strict, &said);
-    if (status != TROUBLE) fwrite(said.bytes, 1, said.length, stderr);
+    if (status != TROUBLE && said.length > 0) put_error("%s", said.bytes);
     if (status == DONE) status = put(strict.bytes, strict.length);
     free(source.bytes), free(strict.bytes), free(said.bytes);
     return status;

@@ -130,8 +130,7 @@ bool find_loop(levelling *l, uint64_t n, walk *w) {
 
 /* ---- What is written */
 
-/* All legs as they stand, where none closes a loop. */
-static bool walk_all(levelling *l) {
+bool walk_all(levelling *l) {
     l->walked = (walk){calloc(l->s->leg_count, sizeof *l->walked.steps), l->s->leg_count, false};
     if (l->walked.steps == NULL) return refuse_level(l, NO_MEMORY);
     for (size_t j = 0; j < l->walked.count; j++) l->walked.steps[j].leg = j;

@@ -37,49 +37,72 @@ static void join_labels(const char *name, char *new_name) {
 
 static char small(char sign) { return sign >= 'A' && sign <= 'Z' ? (char)(sign + 32) : sign; }
 
-static bool is_alike(const char *one, const char *other) {
+static bool is_alike(const levelling *l, const char *one, const char *other) {
+    if (l->by_case) return strcmp(one, other) == 0;
     while (*one != '\0' && small(*one) == small(*other)) one++, other++;
     return small(*one) == small(*other);
 }
 
-static bool is_taken(const levelling *l, const char *new_name) {
-    for (size_t j = 0; j < l->station_count; j++) {
-        if (is_alike(l->stations[j].new_name, new_name)) return true;
-    }
-    return false;
+/* Names that are taken, by Fowler, Noll and Vo's hash: for each slot a station's place, counted from 1. */
+typedef struct {
+    size_t *slots, count;
+} names;
+
+/* The slot of a name, or the free one where it belongs. */
+static size_t slot_of(const levelling *l, const names *taken, const char *new_name) {
+    uint64_t hash = 14695981039346656037u;
+    for (const char *at = new_name; *at != '\0'; at++) hash = (hash ^ (unsigned char)small(*at)) * 1099511628211u;
+    size_t slot = (size_t)(hash ^ hash >> 32) % taken->count;
+    while (taken->slots[slot] != 0 && !is_alike(l, l->stations[taken->slots[slot] - 1].new_name, new_name))
+        slot = (slot + 1) % taken->count;
+    return slot;
 }
 
 /* S1, S2 and so on: the next that no station has. */
-static void number_station(const levelling *l, renamed *unnamed, unsigned *last) {
+static void number_station(levelling *l, names *taken, size_t place, unsigned *last) {
     char numbered[NAME_ROOM];
-    do snprintf(numbered, NAME_ROOM, "S%u", ++*last);
-    while (is_taken(l, numbered));
-    memcpy(unnamed->new_name, numbered, NAME_ROOM);
+    size_t slot;
+    do {
+        snprintf(numbered, NAME_ROOM, "S%u", ++*last);
+        slot = slot_of(l, taken, numbered);
+    } while (taken->slots[slot] != 0);
+    memcpy(l->stations[place].new_name, numbered, NAME_ROOM);
+    taken->slots[slot] = place + 1;
 }
 
-static void add_station(levelling *l, size_t station) {
+static void add_station(levelling *l, names *taken, size_t station) {
     size_t same = l->s->stations[station].same;
     renamed *added = &l->stations[l->station_count];
     if (l->place[same] != 0) return;
     added->station = same;
     join_labels(l->s->stations[same].name, added->new_name);
-    if (is_taken(l, added->new_name)) added->new_name[0] = '\0';
     l->place[same] = ++l->station_count;
+    if (added->new_name[0] == '\0') return;
+    size_t slot = slot_of(l, taken, added->new_name);
+    if (taken->slots[slot] == 0) taken->slots[slot] = l->station_count;
+    else added->new_name[0] = '\0';
 }
 
 /* Names that are too long, or another station's already, are numbered last. */
-bool name_walk(levelling *l) {
+static void name_stations(levelling *l, names *taken) {
     unsigned last = 0;
-    l->stations = calloc(2 * l->walked.count, sizeof *l->stations);
-    l->place = calloc(l->s->station_count, sizeof *l->place);
-    if (l->stations == NULL || l->place == NULL) return refuse_level(l, NO_MEMORY);
     for (size_t j = 0; j < l->walked.count; j++) {
         const struct survey_leg *leg = &l->s->legs[l->walked.steps[j].leg];
-        add_station(l, l->walked.steps[j].backwards ? leg->to : leg->from);
-        add_station(l, l->walked.steps[j].backwards ? leg->from : leg->to);
+        add_station(l, taken, l->walked.steps[j].backwards ? leg->to : leg->from);
+        add_station(l, taken, l->walked.steps[j].backwards ? leg->from : leg->to);
     }
     for (size_t j = 0; j < l->station_count; j++) {
-        if (l->stations[j].new_name[0] == '\0') number_station(l, &l->stations[j], &last);
+        if (l->stations[j].new_name[0] == '\0') number_station(l, taken, j, &last);
     }
-    return true;
+}
+
+bool name_walk(levelling *l) {
+    names taken = {NULL, 4 * l->walked.count + 1};
+    taken.slots = calloc(taken.count, sizeof *taken.slots);
+    l->stations = calloc(2 * l->walked.count, sizeof *l->stations);
+    l->place = calloc(l->s->station_count, sizeof *l->place);
+    bool has_room = taken.slots != NULL && l->stations != NULL && l->place != NULL;
+    if (has_room) name_stations(l, &taken);
+    free(taken.slots);
+    return has_room || refuse_level(l, NO_MEMORY);
 }

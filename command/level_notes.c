@@ -1,7 +1,8 @@
 /* What `level` says: why no text is written, and what was done to legs that are. */
 #include "level.h"
+
+#include "../survey/mathematics.h"
 #include <inttypes.h>
-#include <math.h>
 #include <stdlib.h>
 #include <string.h>
 
@@ -88,16 +89,18 @@ void say_refusal(levelling *l, growing *said) {
 
 bool is_steep(const struct survey_leg *leg) { return fabs(leg->slope) > 1e-9; }
 
-/* How many legs of the walk are steep, or walked backwards. */
-static void say_changed(const levelling *l, growing *said) {
-    size_t steep = 0, backwards = 0;
-    for (size_t j = 0; j < l->walked.count; j++) {
-        steep += is_steep(&l->s->legs[l->walked.steps[j].leg]);
-        backwards += l->walked.steps[j].backwards;
-    }
-    const char *name = l->s->files[0].name;
-    if (steep > 0) add(said, "%s: legs that are not level, written with their plan length: %zu\n", name, steep);
-    if (backwards > 0) add(said, "%s: legs walked backwards, turned by half a circle: %zu\n", name, backwards);
+void say_steep(const levelling *l, growing *said) {
+    size_t steep = 0;
+    for (size_t j = 0; j < l->walked.count; j++) steep += is_steep(&l->s->legs[l->walked.steps[j].leg]);
+    if (steep > 0)
+        add(said, "%s: legs that are not level, written with their plan length: %zu\n", l->s->files[0].name, steep);
+}
+
+static void say_backwards(const levelling *l, growing *said) {
+    size_t backwards = 0;
+    for (size_t j = 0; j < l->walked.count; j++) backwards += l->walked.steps[j].backwards;
+    if (backwards > 0)
+        add(said, "%s: legs walked backwards, turned by half a circle: %zu\n", l->s->files[0].name, backwards);
 }
 
 /* The first legs that are on no step, by file and line. */
@@ -157,7 +160,7 @@ static size_t *list_names(const struct survey *s) {
     return next;
 }
 
-static void say_names(const levelling *l, growing *said) {
+void say_names(const levelling *l, growing *said) {
     growing rows = {NULL, 0, 0, false};
     size_t *next = list_names(l->s);
     for (size_t j = 0; next != NULL && j < l->station_count; j++) say_station(l, &l->stations[j], next, &rows);
@@ -169,7 +172,8 @@ static void say_names(const levelling *l, growing *said) {
 
 void say_notes(const levelling *l, growing *said) {
     add(said, "jabulghi: level is not proved: compare what it writes with your survey\n");
-    say_changed(l, said);
+    say_steep(l, said);
+    say_backwards(l, said);
     say_left_out(l, said);
     say_fixes(l, said);
     if (!l->walked.is_loop) add(said, "%s: no loop: all legs are written as they stand\n", l->s->files[0].name);

@@ -17,7 +17,7 @@ static int miss_without_noise(task *t) {
 }
 
 /* Where the last run has room, all have. */
-static int room_for_runs(const task *t, const char *given) {
+static int count_for_runs(const task *t, const char *given) {
     int64_t last[1][2];
     uint32_t line, number = JABULGHI_COUNT_FULL;
     if (t->first <= UINT64_MAX - (t->runs - 1))
@@ -32,7 +32,7 @@ int prepare(task *t, const char *given) {
     if (!is_loop(t->s.source.name, &t->shots)) return REFUSED;
     if (!t->given) t->miss = (vector){(double)t->own[0], (double)t->own[1]};
     t->job = job_text(&t->s, t->s.sigma, &t->length);
-    return t->job == NULL ? trouble(t->s.source.name, strerror(ENOMEM)) : room_for_runs(t, given);
+    return t->job == NULL ? trouble(t->s.source.name, strerror(ENOMEM)) : count_for_runs(t, given);
 }
 
 /* The job of the first run: the shots, and as seeds the registers of its record. */

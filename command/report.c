@@ -1,7 +1,8 @@
 /* The figures and the verdict, for a person. */
 #include "tolerance.h"
+
+#include "../survey/mathematics.h"
 #include <inttypes.h>
-#include <math.h>
 #include <stdio.h>
 
 /* At most so many candidates are printed. */

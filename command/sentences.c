@@ -1,8 +1,6 @@
 /* All that a user is told: one table from the numbers of jabulghi.h to sentences, and one of what is said besides. */
 #include "command.h"
 #include <inttypes.h>
-#include <stdarg.h>
-#include <stdio.h>
 #include <stdlib.h>
 #include <string.h>
 
@@ -137,6 +135,11 @@ static const char *const SAYINGS[] = {
     [BLUNDER_LIKELY] = "That is below 0.1 %: a blunder is likely. Or your sigmas are too small.",
     [CANDIDATES] = "One leg alone, so corrected, would bring the miss within the noise (in brackets: sound surveys that miss by as much as then remains). What could be, not what is:",
     [NO_CANDIDATE] = "No correction of one leg alone would bring the miss within the noise.",
+    [NO_PLACE] = "%s: '%s': a job has no place for errors of stations and clino",
+    [NOT_LEFT] = "%s: no shot starts at %s",
+    [SEVERAL_JOBS] = "%s: %zu legs are %zu jobs of up to 500, each from where the one before ended in the stream",
+    [TO_ITSELF] = "leg from a station to itself, which Survex does not take",
+    [NOT_READ_AGAIN] = "leg cannot be written so that Survex reads it as it was played",
 };
 /* clang-format on */
 
@@ -172,10 +175,15 @@ int refuse(const text *refused, subject about, size_t line, uint32_t number) {
     bad_line bad = line_of(refused, line);
     const char *sentence = sentence_of(about, number, &bad);
     if (line == 0) {
-        fprintf(stderr, "%s: %s (%" PRIu32 ")\n", refused->name, sentence, number);
+        put_error("%s: %s (%" PRIu32 ")\n", refused->name, sentence, number);
     } else {
-        fprintf(stderr, "%s:%zu: %s (%" PRIu32 ")\n", refused->name, line, sentence, number);
+        put_error("%s:%zu: %s (%" PRIu32 ")\n", refused->name, line, sentence, number);
     }
+    return REFUSED;
+}
+
+int refuse_leg(const char *file, size_t line, saying why) {
+    put_error("%s:%zu: %s\n", file, line, SAYINGS[why]);
     return REFUSED;
 }
 
@@ -189,9 +197,9 @@ const char *sentence(saying what) { return SAYINGS[what]; }
 
 /* "jabulghi: " and a sentence, its places filled in. */
 static void tell(saying what, va_list values) {
-    fprintf(stderr, "jabulghi: ");
-    vfprintf(stderr, SAYINGS[what], values);
-    fprintf(stderr, "\n");
+    put_error("jabulghi: ");
+    put_error_values(SAYINGS[what], values);
+    put_error("\n");
 }
 
 int wrong(saying what, ...) {
@@ -207,4 +215,9 @@ void note(saying what, ...) {
     va_start(values, what);
     tell(what, values);
     va_end(values);
+}
+
+int trouble(const char *what, const char *why) {
+    put_error("jabulghi: %s: %s\n", what, why);
+    return TROUBLE;
 }

@@ -1,7 +1,8 @@
 /* The errors of stations and of the clino, which a job has no place for: all of a run's together are one Gaussian
  * vector. */
 #include "tolerance.h"
-#include <math.h>
+
+#include "../survey/mathematics.h"
 
 #define TURN 6.283185307179586476925286766559
 

@@ -1,7 +1,8 @@
 /* What is kept of many runs, in an order that does not depend on which thread played them. */
 #include "tolerance.h"
+
+#include "../survey/mathematics.h"
 #include <errno.h>
-#include <math.h>
 #include <stdlib.h>
 #include <string.h>
 

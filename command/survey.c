@@ -74,17 +74,26 @@ static bool keep_origins(const levelling *l, survey *s) {
     return s->origins != NULL;
 }
 
-/* The shots of a loop that was found, by the strict text that `level` writes of it. */
-static int take_walk(const levelling *l, bool new_names, survey *s) {
-    growing strict = {NULL, 0, 0, false}, said = {NULL, 0, 0, false};
+static const char NOT_PROVED[] = "jabulghi: level, which reads the survey, is not proved\n";
+
+/* The shots of legs that were found, and what is said of them. */
+static int take_walk(const levelling *l, growing *said, survey *s) {
+    growing shots = {NULL, 0, 0, false};
+    put_shots(l, &shots);
+    if (shots.failed || said->failed || !keep_origins(l, s)) return trouble(s->source.name, strerror(ENOMEM));
+    if (said->length > 0) put_error("%s", said->bytes);
+    free(said->bytes);
+    s->shots = (uint8_t *)shots.bytes;
+    s->length = shots.length;
+    return DONE;
+}
+
+/* The shots of a loop. */
+static int take_loop(const levelling *l, bool new_names, survey *s) {
+    growing said = {NULL, 0, 0, false};
     if (new_names) say_notes(l, &said);
-    else add(&said, "jabulghi: level, which reads the survey, is not proved\n");
-    put_legs(l, &strict);
-    if (strict.failed || said.failed || !keep_origins(l, s)) return trouble(s->source.name, strerror(ENOMEM));
-    fwrite(said.bytes, 1, said.length, stderr);
-    int status = shots_of(&(text){s->source.name, (uint8_t *)strict.bytes, strict.length}, &s->shots, &s->length);
-    free(strict.bytes), free(said.bytes);
-    return status;
+    else add(&said, "%s", NOT_PROVED);
+    return take_walk(l, &said, s);
 }
 
 /* Tells why the loop that is wanted is not there. */
@@ -92,7 +101,7 @@ static int refuse_loop(levelling *l, const char *name) {
     growing said = {NULL, 0, 0, false};
     say_refusal(l, &said);
     if (l->why == NO_MEMORY || said.failed) return trouble(name, strerror(ENOMEM));
-    fwrite(said.bytes, 1, said.length, stderr);
+    put_error("%s", said.bytes);
     free(said.bytes);
     return REFUSED;
 }
@@ -100,13 +109,30 @@ static int refuse_loop(levelling *l, const char *name) {
 /* The survey that was read stays, for its names. */
 static int take_ordinary(survey *s, wanted_loop wanted) {
     levelling l;
-    const struct survey *cave =
+    const struct survey *cave = s->read =
         survey_read(s->source.name, s->source.bytes, s->source.length, fetch_of(&s->source), NULL);
     if (cave == NULL) return trouble(s->source.name, strerror(ENOMEM));
     bool taken = cave->trouble_count == 0, found = taken && level_survey(cave, wanted.number, wanted.needed, &l);
     if (!taken || found) tell_messages(cave);
     if (!taken) return REFUSED;
-    int status = found ? take_walk(&l, wanted.renamed, s) : refuse_loop(&l, s->source.name);
+    int status = found ? take_loop(&l, wanted.renamed, s) : refuse_loop(&l, s->source.name);
+    free_levelling(&l);
+    return status;
+}
+
+/* All legs, in the order in which they are read. */
+static int take_all_legs(survey *s, bool new_names) {
+    levelling l;
+    growing said = {NULL, 0, 0, false};
+    const struct survey *cave = s->read =
+        survey_read(s->source.name, s->source.bytes, s->source.length, fetch_of(&s->source), NULL);
+    if (cave == NULL) return trouble(s->source.name, strerror(ENOMEM));
+    tell_messages(cave);
+    if (cave->trouble_count > 0) return REFUSED;
+    if (!level_whole(cave, &l)) return refuse_loop(&l, s->source.name);
+    add(&said, "%s", NOT_PROVED);
+    if (new_names) say_steep(&l, &said), say_names(&l, &said);
+    int status = take_walk(&l, &said, s);
     free_levelling(&l);
     return status;
 }
@@ -160,8 +186,28 @@ int take_survey(text source, wanted_loop wanted, survey *taken) {
                                      : take_legs(taken, wanted);
 }
 
+int take_whole(text source, bool new_names, survey *taken) {
+    size_t line;
+    *taken = (survey){.source = source, .about = source.length == 0 ? JOB : kind_of(&source)};
+    if (taken->about == JOB) return take_job(taken);
+    if (taken->about == LISTING) return take_listing(taken);
+    uint32_t number = strict_shots(&source, &taken->shots, &taken->length, &line);
+    if (taken->shots == NULL) return trouble(source.name, strerror(ENOMEM));
+    if (number == JABULGHI_OK) return DONE;
+    free(taken->shots);
+    taken->shots = NULL;
+    return take_all_legs(taken, new_names);
+}
+
+/* The shots of a job are a part of its source. */
+void free_shots(survey *s) {
+    if (s->about != JOB) free(s->shots);
+    free(s->origins);
+    survey_free(s->read);
+}
+
 /* Whether a line of a Survex text has something besides blanks and a comment. */
-static bool says_something(const uint8_t *at, const uint8_t *end) {
+bool says_something(const uint8_t *at, const uint8_t *end) {
     while (at < end && (*at == ' ' || *at == '\t')) at++;
     return at < end && *at != ';' && *at != '\n';
 }
@@ -178,8 +224,7 @@ static size_t line_of_leg(const text *t, size_t leg) {
     return 0;
 }
 
-/* The line of the text that a line of its job stands for. */
-static size_t line_in_source(const survey *s, size_t line) {
+size_t line_in_source(const survey *s, size_t line) {
     if (s->about == JOB || line < 3) return line;
     return s->about == LISTING ? line - 1 : line_of_leg(&s->source, line - 2);
 }

@@ -1,8 +1,9 @@
 /* A picture: the histogram of the noise's distance, and the cloud of the runs with its ellipses. Drawn in units of
  * which 1200 are the width. */
 #include "tolerance.h"
+
+#include "../survey/mathematics.h"
 #include <inttypes.h>
-#include <math.h>
 
 #define COLUMNS 40
 #define MOST_POINTS 2000

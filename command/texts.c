@@ -1,4 +1,4 @@
-/* The commands on a text: list, legs and misses. Each reads one, makes one call and prints what it gave. */
+/* The commands on a text: legs and misses. Each reads one, makes one call and prints what it gave. */
 #include "traverse.h"
 #include <inttypes.h>
 #include <string.h>
@@ -12,24 +12,11 @@ static int named_text(int count, char **words, text *read) {
     return read_named(count, words, read);
 }
 
-/* Notes on standard error where the shots of a text are no loop. */
-static void note_loop(const text *t, bool listed) {
+/* Notes on standard error where the rows of a listing are no loop. */
+static void note_loop(const text *t) {
     traverse read;
-    read_shots(t->bytes, t->length, listed, &read);
+    read_shots(t->bytes, t->length, true, &read);
     is_loop(t->name, &read);
-}
-
-int list(int count, char **words) {
-    static uint8_t listing[JABULGHI_LISTING_ROOM];
-    text job;
-    uint32_t line;
-    size_t length;
-    int status = named_text(count, words, &job);
-    if (status != DONE) return status;
-    uint32_t number = jabulghi_list(job.bytes, job.length, listing, sizeof listing, &line, &length);
-    if (number != JABULGHI_OK) return refuse(&job, JOB, line, number);
-    note_loop(&job, false);
-    return put(listing, length);
 }
 
 int legs(int count, char **words) {
@@ -54,7 +41,7 @@ int misses(int count, char **words) {
     uint32_t number =
         (between ? jabulghi_intervals : jabulghi_misclosure)(listing.bytes, listing.length, sums, mm, &line);
     if (number != JABULGHI_OK) return refuse(&listing, LISTING, line, number);
-    note_loop(&listing, true);
+    note_loop(&listing);
     if (between)
         return put_words("EAST %" PRId64 " %" PRId64 "\nNORTH %" PRId64 " %" PRId64 "\n", mm[0], mm[1], mm[2], mm[3]);
     return put_words("EAST %" PRId64 "\nNORTH %" PRId64 "\n", mm[0], mm[1]);

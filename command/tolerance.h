@@ -52,7 +52,7 @@ typedef struct {
     traverse shots;
     uint8_t *job;
     size_t length;
-    uint64_t first, runs, jobs;
+    uint64_t first, runs, jobs, loop;
     int64_t own[2], (*misses)[2];
     vector miss;
     bool given;
@@ -73,14 +73,43 @@ typedef struct {
     double correction, remains;
 } candidate;
 
+/* What the words of the command line may ask for, in this order. */
+enum {
+    TOLERANCE_SIGMA,
+    TOLERANCE_SEEDS,
+    TOLERANCE_RUNS,
+    TOLERANCE_FIRST,
+    TOLERANCE_RUN,
+    TOLERANCE_MISS,
+    TOLERANCE_THREADS,
+    TOLERANCE_LOOP,
+    TOLERANCE_CSV,
+    TOLERANCE_JSON,
+    TOLERANCE_SVG,
+    TOLERANCE_MERGE,
+    TOLERANCE_INTO,
+    TOLERANCE_ASKED
+};
+
+/* tolerance_steps.c: takes the options out of the words; the numbers among them; reads the loop and makes the job that
+ * is played; what is kept of its runs; frees all but the
+ * source. */
+int options_of_tolerance(int *count, char **words, option asked[TOLERANCE_ASKED]);
+int numbers_of_tolerance(const option asked[TOLERANCE_ASKED], task *t);
+int prepare_tolerance(const option asked[TOLERANCE_ASKED], text source, task *t);
+int tally_runs(const task *t, tally *kept);
+void free_task(task *t);
+
 /* prepare.c: makes the job that is played and its miss without noise; whatever is refused is refused here, too large a
  * number of a run by the name of the option that gave it. Prints the job of one run. */
 int prepare(task *t, const char *given);
 int put_run(const task *t);
 
-/* plays.c: plays all runs, by as many threads as are asked for. stations.c: what the errors of stations and of the
- * clino add, and that noise for some runs; the number of a refusal. */
+/* plays.c: plays all runs, by as many threads as are asked for; room for them, and some of them. stations.c: what the
+ * errors of stations and of the clino add, and that noise for some runs; the number of a refusal. */
 int play_all(task *t);
+int room_for_runs(task *t);
+uint32_t play_some_runs(void *context, uint64_t start, size_t runs);
 covariance more_of(const task *t);
 uint32_t add_more(const task *t, uint64_t start, size_t runs);
 

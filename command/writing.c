@@ -19,10 +19,13 @@ typedef struct {
 } destination;
 static destination output = {"standard output", NULL, STDOUT_FILENO, false};
 
-/* Says what went wrong, one line on standard error. */
-int trouble(const char *what, const char *why) {
-    fprintf(stderr, "jabulghi: %s: %s\n", what, why);
-    return TROUBLE;
+void put_error_values(const char *format, va_list values) { vfprintf(stderr, format, values); }
+
+void put_error(const char *format, ...) {
+    va_list values;
+    va_start(values, format);
+    put_error_values(format, values);
+    va_end(values);
 }
 
 void write_to(const option *given) {

@@ -1,7 +1,8 @@
 /* What surveyors do wrong, each with its weight: what it would explain of the misses. The weights are a judgement, not
  * a measurement. */
 #include "inside.h"
-#include <math.h>
+
+#include "../survey/mathematics.h"
 #include <string.h>
 
 /* An edge that is explained, and who takes the explanations. */
@@ -26,8 +27,20 @@ struct case_of {
 /* The logarithm of how likely a gain is, next to that of the best explanation. Errors that are larger than they are
  * said to be make gains larger, too. */
 static double likelihood(const struct case_of *c, double gain) {
-    return (gain - c->cave->statistic) / 2 / c->cave->excess;
+    return (gain - c->cave->best_gain) / 2 / c->cave->excess;
 }
+
+/* How much likelier a length is in this cave than the leg's own, by the lengths of all legs: at most ten times, and at
+ * least a tenth. */
+#define MOST_LIKELIER 10.0
+static double likelier(const struct case_of *c, double length) {
+    double mean = c->cave->usual_length, sd = c->cave->spread_of_lengths, own = judge_leg_length(c->leg);
+    if (!(own > 0) || !(length > 0)) return own > 0 ? 1 / MOST_LIKELIER : 1;
+    double was = (log(own) - mean) / sd, is = (log(length) - mean) / sd;
+    return fmin(fmax(own / length * exp((was * was - is * is) / 2), 1 / MOST_LIKELIER), MOST_LIKELIER);
+}
+
+static double length_of(const double end[3]) { return sqrt(end[0] * end[0] + end[1] * end[1] + end[2] * end[2]); }
 
 /* A correction that is known. */
 static void offer(const struct case_of *c, struct judge_explanation e, double weight) {
@@ -44,7 +57,7 @@ static struct judge_vector difference(const double end[3], struct judge_vector f
 /* The move of the leg's end where its tapes, corrected, are something else; false where there is no tape, or one would
  * not be above 0. */
 static bool tape_move(const struct case_of *c, double (*changed)(const struct survey_reading *r, double by), double by,
-                      struct judge_vector *move) {
+                      struct judge_vector *move, double *likely) {
     double *values = c->cave->values, end[3];
     bool any = false;
     for (size_t j = 0; j < c->leg->reading_count; j++) {
@@ -57,6 +70,7 @@ static bool tape_move(const struct case_of *c, double (*changed)(const struct su
     }
     survey_vector_of(c->leg, values, end);
     *move = difference(end, c->vector);
+    *likely = any ? likelier(c, length_of(end)) : 0;
     return any;
 }
 
@@ -69,18 +83,19 @@ static void explain_distances(const struct case_of *c) {
     static const struct { double by, weight; } METRES[] = {{1, 3}, {2, 1}, {5, 2}, {10, 3}};
     static const double DECIMALS[] = {10, 0.1}, FEET[] = {0.3048, 1 / 0.3048};
     struct judge_explanation e = {0};
+    double likely;
     for (size_t j = 0; j < 2 * sizeof METRES / sizeof METRES[0]; j++) {
         e.blunder = JUDGE_DISTANCE;
         e.correction = j % 2 == 0 ? METRES[j / 2].by : -METRES[j / 2].by;
-        if (tape_move(c, longer, e.correction, &e.move)) offer(c, e, METRES[j / 2].weight);
+        if (tape_move(c, longer, e.correction, &e.move, &likely)) offer(c, e, METRES[j / 2].weight * likely);
     }
     for (size_t j = 0; j < 2; j++) {
         e.blunder = JUDGE_DECIMAL;
         e.correction = DECIMALS[j];
-        if (tape_move(c, times_as_written, DECIMALS[j], &e.move)) offer(c, e, 1);
+        if (tape_move(c, times_as_written, DECIMALS[j], &e.move, &likely)) offer(c, e, likely);
         e.blunder = JUDGE_FEET;
         e.correction = FEET[j];
-        if (tape_move(c, times_as_written, FEET[j], &e.move)) offer(c, e, 1);
+        if (tape_move(c, times_as_written, FEET[j], &e.move, &likely)) offer(c, e, likely);
     }
 }
 
@@ -138,7 +153,7 @@ static void offer_reading(const struct case_of *c, size_t reading, const char *s
     struct judge_explanation e = {
         .blunder = blunder, .reading = r, .correction = values[reading] - r->value, .move = difference(end, c->vector)};
     strcpy(e.should_be, should_be);
-    offer(c, e, weight);
+    offer(c, e, weight * likelier(c, length_of(end)));
 }
 
 /* Two neighbouring digits exchanged, a point between them or not. */
@@ -195,7 +210,8 @@ static void explain_any_distance(const struct case_of *c) {
         .blunder = JUDGE_ANY_DISTANCE, .correction = by, .move = {by * along.east, by * along.north}};
     double density = MIDDLE_DISTANCE / ((MIDDLE_DISTANCE + fabs(by)) * (MIDDLE_DISTANCE + fabs(by))) / 2;
     e.gain = judge_gain(c->pull, c->hold, e.move);
-    e.mass = log(4 * density * sqrt(TURN * c->cave->excess / hold)) + likelihood(c, e.gain);
+    double likely = likelier(c, judge_leg_length(c->leg) * (length + by) / length);
+    e.mass = log(4 * likely * density * sqrt(TURN * c->cave->excess / hold)) + likelihood(c, e.gain);
     c->take(c->to, &e);
 }
 

@@ -17,7 +17,7 @@ struct judge_graph {
 bool judge_cycles(const struct judge_graph *g, size_t count, struct judge_loop *loops, struct judge_part **parts);
 
 /* model.c: the error that a reading has, JUDGE_ERRORS where *sd alone gives it; the standard deviation of that and the
- * width of its rounding; vectors and covariances of all edges. */
+ * width of its rounding; vectors and covariances of all edges; how long a leg is, in metres. */
 enum judge_error judge_error_of(enum survey_quantity what);
 double judge_sd_of(const struct judge_cave *cave, const struct survey_reading *r);
 double judge_plumb_sd_of(const struct judge_cave *cave, const struct survey_leg *leg);
@@ -25,9 +25,10 @@ double judge_rounding_of(const struct survey_reading *r);
 bool judge_is_played(const struct survey_reading *r);
 bool judge_is_compass(const struct survey_reading *r);
 bool judge_model(struct judge_cave *cave);
+double judge_leg_length(const struct survey_leg *leg);
 
 /* solver.c: the misses of vectors of passages; u for misses; g of a passage for any u; a covariance of all misses with
- * other station errors. */
+ * other station errors; t for any u. */
 void judge_misses(const struct judge_cave *cave, const struct judge_vector *sums, double *misses);
 void judge_solved(const struct judge_cave *cave, const double *misses, double *scratch, double *u);
 struct judge_vector judge_pull(const struct judge_cave *cave, const struct judge_passage *p, const double *u);
@@ -35,6 +36,7 @@ double judge_misfit_with(const struct judge_cave *cave, double station, double *
 void judge_sums(const struct judge_cave *cave, struct judge_vector *sums);
 double judge_gain(struct judge_vector pull, struct judge_spread hold, struct judge_vector move);
 double judge_best_gain(struct judge_vector pull, struct judge_spread hold, struct judge_vector *move);
+double judge_statistic(const struct judge_cave *cave, const double *u);
 double judge_form(struct judge_spread s, struct judge_vector v);
 struct judge_spread judge_inverse(struct judge_spread s);
 

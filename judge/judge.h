@@ -54,6 +54,8 @@ struct judge_passage {
     struct judge_vector pull;  /* g: half the slope of the misfit, as the passage moves */
     struct judge_spread hold;  /* H */
     double gain;               /* of the best move */
+    double chances;            /* 2 ln of its edges, each of which may have the blunder */
+    double shows;              /* λ: what a move has to be, in standard deviations, to show */
 };
 
 /* A passage of a loop, or a loop of a passage, and the direction. */
@@ -96,12 +98,14 @@ struct judge_cave {
     double *white, *u;
     double misfit;    /* Q */
     double statistic; /* t */
+    double best_gain; /* of all moves of one passage */
     double excess;    /* k: by how much variances seem too small where the best explanation is left out, at least 1 */
-    size_t legs_in_no_loop, samples; /* samples: how many a play takes */
-    size_t most_readings;            /* that a leg has */
-    double *values;                  /* room for as many, where one thread works */
-    struct judge_off *offs;          /* of all readings that are played, in their order */
-    size_t trip_count, *trips;       /* the place of each trip of the survey among those with a leg in a loop */
+    size_t legs_in_no_loop, samples;        /* samples: how many a play takes */
+    size_t most_readings;                   /* that a leg has */
+    double *values;                         /* room for as many, where one thread works */
+    double usual_length, spread_of_lengths; /* mean and standard deviation of the logarithms of the legs' lengths */
+    struct judge_off *offs;                 /* of all readings that are played, in their order */
+    size_t trip_count, *trips;              /* the place of each trip of the survey among those with a leg in a loop */
 };
 
 /* What surveyors do wrong. */
@@ -153,7 +157,7 @@ struct judge_verdict {
     struct judge_estimate factor, station;
     double factor_without; /* the first suspect */
     double limit;          /* t05 */
-    double shows;          /* λ */
+    double shows;          /* λ of a passage of one edge */
 };
 
 /* solver.c: reads nothing but the survey; NULL where memory has run out. */
@@ -165,6 +169,10 @@ void judge_free(struct judge_cave *cave);
 uint32_t judge_play(const struct judge_cave *cave, const uint32_t seeds[6], uint64_t first, size_t count,
                     struct judge_played *played);
 
+/* The same plays, of which the misses of one loop are kept, in metres. */
+uint32_t judge_play_loop(const struct judge_cave *cave, const uint32_t seeds[6], uint64_t first, size_t count,
+                         size_t loop, struct judge_vector *misses);
+
 /* verdict.c: what the plays, whose order does not matter, say of the cave; false where memory has run out. It sorts
  * them. */
 bool judge_verdict_of(struct judge_cave *cave, uint64_t first, struct judge_played *played, size_t plays,
@@ -174,9 +182,9 @@ void judge_verdict_free(struct judge_verdict *verdict);
 /* The sum of the diagonals of H over all passages: it tells errors apart, where the statistic alone would not. */
 double judge_hold(const struct judge_cave *cave);
 
-/* The smallest blunders of a leg that would have shown in 80 % of cases: metres, and degrees or 0 for none. */
-struct judge_vector judge_smallest(const struct judge_cave *cave, const struct judge_verdict *v,
-                                   const struct judge_edge *edge);
+/* The smallest blunders of a leg that would have shown in 80 % of cases, once there is a verdict: metres, and degrees
+ * or 0 for none. */
+struct judge_vector judge_smallest(const struct judge_cave *cave, const struct judge_edge *edge);
 
 /* words.c, words_json.c, plan.c: the verdict for a person, for a program, and as a picture. */
 struct judge_told {
@@ -190,5 +198,8 @@ void judge_words(const struct judge_cave *cave, const struct judge_verdict *v, c
 void judge_json(const struct judge_cave *cave, const struct judge_verdict *v, const struct judge_told *told,
                 growing *to);
 void judge_plan(const struct judge_cave *cave, const struct judge_verdict *v, growing *to);
+
+/* plan.c: where stations stand, in metres, for one more than there are; false where memory has run out. */
+bool judge_places(const struct judge_cave *cave, struct judge_vector *at);
 
 #endif

@@ -1,6 +1,7 @@
 /* The errors of legs: what a reading may be off by, and what that does to the leg in plan. */
 #include "inside.h"
-#include <math.h>
+
+#include "../survey/mathematics.h"
 #include <stdlib.h>
 
 /* The error that a reading's standard deviation is given by, or JUDGE_ERRORS where *sd alone has it. */
@@ -85,6 +86,27 @@ static void model_leg(const struct judge_cave *cave, struct judge_edge *e) {
     add_even(&e->spread, 2 * e->station * e->station);
 }
 
+double judge_leg_length(const struct survey_leg *leg) {
+    return sqrt(leg->east * leg->east + leg->north * leg->north + leg->up * leg->up);
+}
+
+/* Legs of a cave differ in length at least as much as this, in the logarithm. */
+#define LEAST_SPREAD 0.3
+
+static void measure_lengths(struct judge_cave *cave) {
+    double count = 0, sum = 0, squares = 0;
+    for (size_t j = 0; j < cave->survey->leg_count; j++) {
+        double length = judge_leg_length(&cave->survey->legs[j]);
+        if (!(length > 0)) continue;
+        count++;
+        sum += log(length);
+        squares += log(length) * log(length);
+    }
+    cave->usual_length = count > 0 ? sum / count : 0;
+    cave->spread_of_lengths = sqrt(
+        fmax(count > 0 ? squares / count - cave->usual_length * cave->usual_length : 0, LEAST_SPREAD * LEAST_SPREAD));
+}
+
 bool judge_model(struct judge_cave *cave) {
     for (size_t j = 0; j < cave->survey->leg_count; j++) {
         if (cave->survey->legs[j].reading_count > cave->most_readings)
@@ -92,6 +114,7 @@ bool judge_model(struct judge_cave *cave) {
     }
     cave->values = malloc((cave->most_readings + 1) * sizeof *cave->values);
     if (cave->values == NULL) return false;
+    measure_lengths(cave);
     for (size_t j = 0; j < cave->edge_count; j++) {
         struct judge_edge *e = &cave->edges[j];
         if (e->kind == JUDGE_LEG) model_leg(cave, e);

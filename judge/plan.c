@@ -1,44 +1,49 @@
 /* A picture: the plan of the cave with its loops, the suspects in red. Drawn in units of which 1200 are the width. */
 #include "words.h"
-#include <math.h>
+
+#include "../survey/mathematics.h"
 #include <stdlib.h>
 #include <string.h>
 
 /* Suspects that are marked, and the margin. */
 enum { MOST_MARKED = 5, WIDTH = 1200, MARGIN = 60 };
 
-/* Where stations stand; those that no leg reaches stand nowhere. */
+/* Where stations stand, and the frame of the legs. */
 struct places {
     struct judge_vector *at, low, high;
-    bool *known;
     double scale;
 };
 
 /* Goes along legs, equates and fixed points from what is known, edge after edge, until no more becomes known. */
-static void spread_out(const struct judge_cave *cave, struct places *p) {
+static void spread_out(const struct judge_cave *cave, struct judge_vector *at, bool *known) {
     for (bool more = true; more;) {
         more = false;
         for (size_t pass = 0; pass < 2 * cave->edge_count; pass++) {
             const struct judge_edge *e = &cave->edges[pass < cave->edge_count ? pass : 2 * cave->edge_count - 1 - pass];
-            if (p->known[e->from] == p->known[e->to]) continue;
-            double sign = p->known[e->from] ? 1 : -1;
-            struct judge_vector from = p->at[sign > 0 ? e->from : e->to];
-            p->at[sign > 0 ? e->to : e->from] =
+            if (known[e->from] == known[e->to]) continue;
+            double sign = known[e->from] ? 1 : -1;
+            struct judge_vector from = at[sign > 0 ? e->from : e->to];
+            at[sign > 0 ? e->to : e->from] =
                 (struct judge_vector){from.east + sign * e->vector.east, from.north + sign * e->vector.north};
-            p->known[e->from] = p->known[e->to] = more = true;
+            known[e->from] = known[e->to] = more = true;
         }
     }
 }
 
-static void place_all(const struct judge_cave *cave, struct places *p) {
+bool judge_places(const struct judge_cave *cave, struct judge_vector *at) {
     size_t origin = cave->survey->station_count;
-    p->known[origin] = true;
-    spread_out(cave, p);
+    bool *known = calloc(origin + 1, sizeof *known);
+    if (known == NULL) return false;
+    memset(at, 0, (origin + 1) * sizeof at[0]);
+    known[origin] = true;
+    spread_out(cave, at, known);
     for (size_t j = 0; j < cave->edge_count; j++) {
-        if (p->known[cave->edges[j].from]) continue;
-        p->known[cave->edges[j].from] = true;
-        spread_out(cave, p);
+        if (known[cave->edges[j].from]) continue;
+        known[cave->edges[j].from] = true;
+        spread_out(cave, at, known);
     }
+    free(known);
+    return true;
 }
 
 /* The frame of all legs. */
@@ -97,6 +102,7 @@ static void add_name(growing *to, const char *name) {
 static void draw_suspects(const struct judge_cave *cave, const struct judge_verdict *v, const struct places *p,
                           growing *to) {
     for (size_t j = 0; j < v->suspect_count && j < MOST_MARKED; j++) {
+        if (j > 0 && v->suspects[j].share < JUDGE_LEAST_SHARE) break;
         const struct judge_edge *e = &cave->edges[v->suspects[j].edge];
         struct judge_place place = judge_place_of(cave, e);
         draw_leg(p, e, "stroke=\"#c03020\" stroke-width=\"7\" stroke-linecap=\"round\"", to);
@@ -127,11 +133,9 @@ static void draw_scale(const struct places *p, double height, growing *to) {
 }
 
 void judge_plan(const struct judge_cave *cave, const struct judge_verdict *v, growing *to) {
-    size_t nodes = cave->survey->station_count + 1;
-    struct places p = {.at = calloc(nodes, sizeof *p.at), .known = calloc(nodes, sizeof *p.known)};
-    to->failed = to->failed || p.at == NULL || p.known == NULL;
+    struct places p = {.at = malloc((cave->survey->station_count + 1) * sizeof *p.at)};
+    to->failed = to->failed || p.at == NULL || !judge_places(cave, p.at);
     if (!to->failed && cave->edge_count > 0) {
-        place_all(cave, &p);
         fit(cave, &p);
         double height = 2 * MARGIN + 40 + (p.high.north - p.low.north) * p.scale;
         add(to,
@@ -146,5 +150,4 @@ void judge_plan(const struct judge_cave *cave, const struct judge_verdict *v, gr
         add(to, "</svg>\n");
     }
     free(p.at);
-    free(p.known);
 }

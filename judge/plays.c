@@ -1,6 +1,7 @@
 /* Plays a sound cave: every reading with noise of the proved library, and rounded as its book is. */
 #include "inside.h"
-#include <math.h>
+
+#include "../survey/mathematics.h"
 #include <stdlib.h>
 #include <string.h>
 
@@ -12,6 +13,9 @@ struct stage {
     const struct judge_off *off; /* of the next reading */
     struct judge_vector *sums;
     double *misses, *scratch, *u, *values;
+    struct judge_played *played; /* what is kept: of all plays, or the misses of one loop */
+    struct judge_vector *kept;
+    size_t loop;
 };
 
 /* A sample is in units of 1/2048 of a standard deviation; its fraction is even from -1/2 to 1/2. */
@@ -121,18 +125,18 @@ static struct judge_played play(struct stage *s) {
         struct judge_vector miss = {s->misses[2 * r], s->misses[2 * r + 1]};
         worst.worst_loop = fmax(worst.worst_loop, judge_form(cave->loops[r].own, miss));
     }
-    for (size_t j = 0; j < cave->passage_count; j++) {
-        const struct judge_passage *p = &cave->passages[j];
-        worst.worst_passage = fmax(worst.worst_passage, judge_best_gain(judge_pull(cave, p, s->u), p->hold, NULL));
-    }
+    worst.worst_passage = judge_statistic(cave, s->u);
     return worst;
 }
 
-static uint32_t play_some(struct stage *s, jabulghi_record *record, size_t count, struct judge_played *played) {
+static uint32_t play_some(struct stage *s, jabulghi_record *record, size_t count) {
     uint32_t number = JABULGHI_OK;
     for (size_t j = 0; number == JABULGHI_OK && j < count; j++) {
         number = jabulghi_block(record, s->samples, s->cave->samples);
-        if (number == JABULGHI_OK) played[j] = play(s);
+        if (number != JABULGHI_OK) break;
+        struct judge_played one = play(s);
+        if (s->played != NULL) s->played[j] = one;
+        else s->kept[j] = (struct judge_vector){s->misses[2 * s->loop], s->misses[2 * s->loop + 1]};
     }
     return number;
 }
@@ -143,10 +147,9 @@ static uint32_t go_to(jabulghi_record *record, uint64_t play, uint64_t pairs) {
     return jabulghi_skip(record, play * pairs);
 }
 
-uint32_t judge_play(const struct judge_cave *cave, const uint32_t n[6], uint64_t first, size_t count,
-                    struct judge_played *played) {
+static uint32_t play_from(struct stage s, const uint32_t n[6], uint64_t first, size_t count) {
     jabulghi_record record;
-    struct stage s = {.cave = cave};
+    const struct judge_cave *cave = s.cave;
     uint32_t number = jabulghi_seed(n[0], n[1], n[2], n[3], n[4], n[5], &record);
     if (number == JABULGHI_OK) number = go_to(&record, first, cave->samples / 2);
     if (number != JABULGHI_OK) return number;
@@ -157,7 +160,7 @@ uint32_t judge_play(const struct judge_cave *cave, const uint32_t n[6], uint64_t
         s.scratch = s.misses + cave->size;
         s.u = s.scratch + cave->size;
         s.values = s.u + cave->size;
-        number = play_some(&s, &record, count, played);
+        number = play_some(&s, &record, count);
     } else {
         number = JUDGE_NO_MEMORY;
     }
@@ -165,4 +168,14 @@ uint32_t judge_play(const struct judge_cave *cave, const uint32_t n[6], uint64_t
     free(s.sums);
     free(s.misses);
     return number;
+}
+
+uint32_t judge_play(const struct judge_cave *cave, const uint32_t n[6], uint64_t first, size_t count,
+                    struct judge_played *played) {
+    return play_from((struct stage){.cave = cave, .played = played}, n, first, count);
+}
+
+uint32_t judge_play_loop(const struct judge_cave *cave, const uint32_t n[6], uint64_t first, size_t count, size_t loop,
+                         struct judge_vector *misses) {
+    return play_from((struct stage){.cave = cave, .kept = misses, .loop = loop}, n, first, count);
 }

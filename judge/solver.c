@@ -1,6 +1,7 @@
 /* All misses together: their covariance, factored by Cholesky, and what each passage could explain. */
 #include "inside.h"
-#include <math.h>
+
+#include "../survey/mathematics.h"
 #include <stdlib.h>
 #include <string.h>
 
@@ -158,6 +159,16 @@ double judge_best_gain(struct judge_vector pull, struct judge_spread hold, struc
     return judge_form(inverse, pull);
 }
 
+/* The best explanation by one passage, its number of edges counted. */
+double judge_statistic(const struct judge_cave *cave, const double *u) {
+    double most = 0;
+    for (size_t j = 0; j < cave->passage_count; j++) {
+        const struct judge_passage *p = &cave->passages[j];
+        most = fmax(most, judge_best_gain(judge_pull(cave, p, u), p->hold, NULL) + p->chances);
+    }
+    return most;
+}
+
 /* H of a passage: the columns of the whitened passage, times each other. */
 static struct judge_spread hold_of(const struct judge_cave *cave, const struct judge_passage *p) {
     struct judge_spread sum = {0, 0, 0};
@@ -190,8 +201,10 @@ static void judge_passages(struct judge_cave *cave) {
         p->pull = judge_pull(cave, p, cave->u);
         p->hold = hold_of(cave, p);
         p->gain = judge_best_gain(p->pull, p->hold, NULL);
-        cave->statistic = fmax(cave->statistic, p->gain);
+        p->chances = 2 * log((double)p->edges);
+        cave->best_gain = fmax(cave->best_gain, p->gain);
     }
+    cave->statistic = judge_statistic(cave, cave->u);
 }
 
 static void add_lengths(struct judge_cave *cave) {
@@ -221,7 +234,7 @@ static bool solve(struct judge_cave *cave) {
         judge_solved(cave, scratch, scratch + n, cave->u);
         cave->misfit = dot(scratch, cave->u, n);
         judge_passages(cave);
-        if (n > 2) cave->excess = fmax(1, (cave->misfit - cave->statistic) / (double)(n - 2));
+        if (n > 2) cave->excess = fmax(1, (cave->misfit - cave->best_gain) / (double)(n - 2));
         add_lengths(cave);
     }
     free(scratch);

@@ -1,6 +1,7 @@
 /* The legs that explain the misses best, ranked, and what remains where one is corrected. */
 #include "inside.h"
-#include <math.h>
+
+#include "../survey/mathematics.h"
 #include <stdlib.h>
 #include <string.h>
 
@@ -50,7 +51,7 @@ static void find_suspects(const struct judge_cave *cave, struct judge_verdict *v
 /* The statistic once a passage has moved; column and u have room for the size. */
 static double statistic_with(const struct judge_cave *cave, const struct judge_passage *p, struct judge_vector move,
                              double *misses, double *u) {
-    double worst = 0, *scratch = misses + cave->size;
+    double *scratch = misses + cave->size;
     memset(misses, 0, cave->size * sizeof misses[0]);
     for (size_t k = 0; k < p->loops; k++) {
         const struct judge_part *loop = &cave->passage_loops[p->at + k];
@@ -59,11 +60,7 @@ static double statistic_with(const struct judge_cave *cave, const struct judge_p
     }
     judge_solved(cave, misses, scratch, u);
     for (size_t j = 0; j < cave->size; j++) u[j] += cave->u[j];
-    for (size_t j = 0; j < cave->passage_count; j++) {
-        const struct judge_passage *other = &cave->passages[j];
-        worst = fmax(worst, judge_best_gain(judge_pull(cave, other, u), other->hold, NULL));
-    }
-    return worst;
+    return judge_statistic(cave, u);
 }
 
 /* At most so many suspects are kept, and none that no blunder explains. */

@@ -1,6 +1,7 @@
 /* What the plays say of a cave. */
 #include "inside.h"
-#include <math.h>
+
+#include "../survey/mathematics.h"
 #include <stdlib.h>
 
 static int rising(double a, double b) { return (a > b) - (a < b); }
@@ -41,6 +42,16 @@ static bool find_bad_loops(struct judge_cave *cave, const struct judge_played *p
     return true;
 }
 
+/* λ of each passage; those with as many edges have the same. */
+static void find_what_shows(struct judge_cave *cave, double limit) {
+    for (size_t j = 0; j < cave->passage_count; j++) {
+        struct judge_passage *p = &cave->passages[j];
+        size_t like = 0;
+        while (cave->passages[like].edges != p->edges) like++;
+        p->shows = like < j ? cave->passages[like].shows : judge_shows(limit - p->chances);
+    }
+}
+
 bool judge_verdict_of(struct judge_cave *cave, uint64_t first, struct judge_played *played, size_t plays,
                       struct judge_verdict *v) {
     *v = (struct judge_verdict){.first = first, .plays = plays, .p = 1, .sound = true};
@@ -53,21 +64,20 @@ bool judge_verdict_of(struct judge_cave *cave, uint64_t first, struct judge_play
     v->too_well = 1 - judge_chi_above(cave->size, cave->misfit) < JUDGE_TOO_WELL;
     v->limit = played[(95 * plays + 99) / 100 - 1].worst_passage;
     v->shows = judge_shows(v->limit);
+    find_what_shows(cave, v->limit);
     return judge_estimates(cave, v) && (v->sound || judge_suspects(cave, played, plays, v));
 }
 
 void judge_verdict_free(struct judge_verdict *v) { free(v->suspects); }
 
-struct judge_vector judge_smallest(const struct judge_cave *cave, const struct judge_verdict *v,
-                                   const struct judge_edge *e) {
+struct judge_vector judge_smallest(const struct judge_cave *cave, const struct judge_edge *e) {
     double length = hypot(e->vector.east, e->vector.north);
     if (e->passage == JUDGE_NONE || !(length > 0)) return (struct judge_vector){0, 0};
     struct judge_vector along = {e->vector.east / length, e->vector.north / length},
                         across = {along.north, -along.east};
     struct judge_spread hold = cave->passages[e->passage].hold;
-    double chord = v->shows / sqrt(judge_form(hold, across)) / (2 * length);
-    return (struct judge_vector){v->shows / sqrt(judge_form(hold, along)),
-                                 chord > 1 ? 0 : 2 * asin(chord) * (360 / TURN)};
+    double shows = cave->passages[e->passage].shows, chord = shows / sqrt(judge_form(hold, across)) / (2 * length);
+    return (struct judge_vector){shows / sqrt(judge_form(hold, along)), chord > 1 ? 0 : 2 * asin(chord) * (360 / TURN)};
 }
 
 double judge_hold(const struct judge_cave *cave) {

@@ -1,13 +1,16 @@
 /* The verdict for a person. */
 #include "words.h"
+
+#include "../survey/mathematics.h"
 #include <inttypes.h>
-#include <math.h>
 #include <stdlib.h>
 #include <string.h>
 
-/* At most so many suspects and bad loops are printed; a suspect below this share is not, but for the first. */
+/* At most so many suspects and bad loops are printed. */
 enum { MOST_SUSPECTS = 10, MOST_LOOPS = 5 };
-#define LEAST_SHARE 0.01
+
+/* Below this the share of sound loops is not told more exactly. */
+#define LEAST_P 0.001
 
 void judge_thousands(growing *to, uint64_t number) {
     if (number >= 1000) {
@@ -23,7 +26,7 @@ static void counted(growing *to, uint64_t number, const char *one, const char *m
     add(to, " %s", number == 1 ? one : many);
 }
 
-/* A share of sound caves: two digits of what is small. */
+/* A share: two digits of what is small. */
 static void percent(growing *to, double share) { add(to, share < 0.0995 ? "%.2g %%" : "%.0f %%", 100 * share); }
 
 double judge_bearing(struct judge_vector v) {
@@ -106,7 +109,7 @@ static void tell_errors(const struct judge_cave *cave, growing *to) {
             cave->sigmas.given[JUDGE_POINT] ? cave->sigmas.of[JUDGE_POINT] : JUDGE_POINT_ERROR);
     if (cave->sigmas.given[JUDGE_TRIP]) add(to, ", a trip's compass %.3g degrees", cave->sigmas.of[JUDGE_TRIP]);
     if (alike)
-        add(to, " (%s%s)", judge_source(cave, JUDGE_TAPE),
+        add(to, " (from %s%s)", judge_source(cave, JUDGE_TAPE),
             strcmp(judge_source(cave, JUDGE_TAPE), "--sigma") == 0 ? "" : "; --sigma replaces them");
     add(to, "\n");
 }
@@ -138,10 +141,11 @@ static void tell_verdict(const struct judge_verdict *v, growing *to) {
     add(to, " sound caves like this %s as here.\n",
         v->beyond == 0 ? "does the worst leg look as bad" : "the worst leg looks as bad");
     add(to, v->sound ? "That is no sign of a blunder.\n"
-                     : "That is below 5 %%: a blunder, or your errors are larger than these.\n");
+                     : "That is below 5 %%: there is a blunder, or these errors are too small.\n");
     if (v->too_well)
-        add(to, "It closes better than all but 1 in 1,000 sound caves: your errors are smaller than these, or readings "
-                "were made to fit.\n");
+        add(to,
+            "It closes better than all but 1 in 1,000 sound caves: these errors are too large, or the readings were "
+            "made to fit.\n");
 }
 
 /* ---- Suspects */
@@ -177,7 +181,7 @@ static void tell_readings(const struct survey_leg *leg, growing *to) {
                *clino = written(leg, SURVEY_CLINO);
     if (tape != NULL) add(to, ", %s", tape);
     if (compass != NULL) add(to, " at %s", compass);
-    if (clino != NULL) add(to, ", %s", clino);
+    if (clino != NULL) add(to, ", clino %s", clino);
 }
 
 void judge_blunder_words(const struct judge_explanation *e, growing *to) {
@@ -222,9 +226,10 @@ static void tell_suspect(const struct judge_cave *cave, const struct judge_verdi
     else if (e->kind == JUDGE_LEG) tell_readings(&cave->survey->legs[e->index], to);
     add(to, ": ");
     judge_blunder_words(&s->best, to);
-    add(to, " would explain it.\n      ");
-    percent(to, s->share);
-    add(to, " sure; corrected, ");
+    add(to, s->remains < JUDGE_LIMIT ? " would explain part of it.\n      " : " would explain it.\n      ");
+    if (s->share < 0.995) percent(to, s->share);
+    else add(to, "Over 99 %%");
+    add(to, " sure. Corrected, ");
     percent(to, s->remains);
     add(to, " of sound caves look as bad.");
     if (letter != 0) add(to, " [%c]", letter);
@@ -241,24 +246,28 @@ static void tell_passages(const struct judge_cave *cave, const struct judge_verd
             last = cave->edges[e].passage == passage && cave->edges[e].kind == JUDGE_LEG ? e : last;
         struct judge_place from = judge_place_of(cave, &cave->edges[cave->passages[passage].first]),
                            till = judge_place_of(cave, &cave->edges[last]);
-        add(to, "[%c]: one passage, ", told++);
+        add(to, "[%c]: one passage of ", told++);
         counted(to, cave->passages[passage].legs, "leg", "legs");
-        add(to, " from line %zu to line %zu. No loop tells its legs apart, only the size of a blunder does.\n",
-            from.line, till.line);
+        add(to, ", %s:%zu to %s:%zu.\n", cave->survey->files[from.file].name, from.line,
+            cave->survey->files[till.file].name, till.line);
     }
+    if (told > 'A') add(to, "No loop can tell the legs of one passage apart, only the size of the blunder can.\n");
 }
 
 static void tell_suspects(const struct judge_cave *cave, const struct judge_verdict *v, growing *to) {
     size_t printed = 0;
     add(to, "Look at these legs first:\n");
     while (printed < v->suspect_count && printed < MOST_SUSPECTS &&
-           (printed == 0 || v->suspects[printed].share >= LEAST_SHARE))
+           (printed == 0 || v->suspects[printed].share >= JUDGE_LEAST_SHARE))
         tell_suspect(cave, v, printed++, to);
     tell_passages(cave, v, printed, to);
     const struct judge_suspect *first = &v->suspects[0];
     if (first->remains < JUDGE_LIMIT) {
         add(to,
-            "Corrected, the first leaves the cave unsound: there may be two blunders, or your errors are larger.\n");
+            "Corrected, the first does not make the cave sound: there are several blunders, or these errors are too "
+            "small. Correct what is surely wrong, and check again.\n");
+    } else if (first->others == 0) {
+        add(to, "No other correction would make the cave sound.\n");
     } else {
         counted(to, first->others, "other correction", "other corrections");
         add(to, " would make the cave sound, too.\n");
@@ -272,16 +281,43 @@ static void tell_loop(const struct judge_cave *cave, size_t number, growing *to)
     double far = hypot(loop->miss.east, loop->miss.north);
     struct judge_place place =
         judge_place_of(cave, &cave->edges[cave->passages[cave->loop_passages[loop->at].of].first]);
-    add(to, "%5zu %5zu %9.1f %8.2f %7.2f %8.2f %8.2f %8.2g  %-8s  %s:%zu\n", number + 1, loop->legs, loop->length, far,
-        loop->length > 0 ? 100 * far / loop->length : 0, loop->miss.east, loop->miss.north, loop->p,
+    add(to, "%5zu %5zu %9.1f %8.2f %7.2f %8.2f %8.2f ", number + 1, loop->legs, loop->length, far,
+        loop->length > 0 ? 100 * far / loop->length : 0, loop->miss.east, loop->miss.north);
+    add(to, loop->p < LEAST_P ? "  <%.3f" : "%8.2g", loop->p < LEAST_P ? LEAST_P : loop->p);
+    add(to, "  %-8s  %s:%zu\n",
         loop->bad        ? "bad"
         : loop->too_well ? "too well"
                          : "",
         cave->survey->files[place.file].name, place.line);
 }
 
-static void tell_loops(const struct judge_cave *cave, const struct judge_verdict *v, bool all, growing *to) {
+/* The bad loop that is worst of those that miss by less than `below`; JUDGE_NONE where there is none. */
+static size_t worst_loop(const struct judge_cave *cave, double below) {
+    size_t worst = JUDGE_NONE;
+    for (size_t r = 0; r < cave->loop_count; r++) {
+        const struct judge_loop *loop = &cave->loops[r];
+        if (loop->bad && loop->reach < below && (worst == JUDGE_NONE || loop->reach > cave->loops[worst].reach))
+            worst = r;
+    }
+    return worst;
+}
+
+/* All loops, or the worst of those that are bad. */
+static void list_loops(const struct judge_cave *cave, const struct judge_verdict *v, bool all, growing *to) {
     size_t told = 0;
+    add(to,
+        " loop  legs    length   misses     %%     east    north        p  (m; p: sound loops that miss by as much)\n");
+    for (size_t r = 0; all && r < cave->loop_count; r++) tell_loop(cave, r, to);
+    if (all) return;
+    for (size_t r = worst_loop(cave, INFINITY); r != JUDGE_NONE && told < MOST_LOOPS; told++) {
+        tell_loop(cave, r, to);
+        r = worst_loop(cave, cave->loops[r].reach);
+    }
+    if (v->bad_loops > told) add(to, "and %zu more. ", v->bad_loops - told);
+    if (cave->loop_count > 1) add(to, "--loops lists them all.\n");
+}
+
+static void tell_loops(const struct judge_cave *cave, const struct judge_verdict *v, bool all, growing *to) {
     if (cave->loop_count == 1) {
         add(to, "The loop is %s", v->bad_loops == 0 ? "sound" : "not sound");
     } else {
@@ -292,14 +328,7 @@ static void tell_loops(const struct judge_cave *cave, const struct judge_verdict
         add(to, " are sound");
     }
     add(to, !all && v->bad_loops == 0 ? ".\n" : ":\n");
-    if (!all && v->bad_loops == 0) return;
-    add(to,
-        " loop  legs    length   misses     %%     east    north        p  (m; p: sound loops that miss by as much)\n");
-    for (size_t r = 0; r < cave->loop_count; r++) {
-        if (!all && (!cave->loops[r].bad || told++ >= MOST_LOOPS)) continue;
-        tell_loop(cave, r, to);
-    }
-    if (!all && cave->loop_count > 1) add(to, "--loops lists them all.\n");
+    if (all || v->bad_loops > 0) list_loops(cave, v, all, to);
 }
 
 static void tell_too_well(const struct judge_cave *cave, growing *to) {
@@ -318,15 +347,15 @@ static void tell_sigmas(const struct judge_cave *cave, const struct judge_verdic
     const struct judge_estimate *f = &v->factor, *s = &v->station;
     struct judge_range given = judge_range_of(cave, JUDGE_STATION);
     bool agrees = f->low <= 1 && f->high >= 1;
-    add(to, "Your loops %s these errors: they fit ",
-        agrees       ? "agree with"
-        : f->low > 1 ? "want more than"
-                     : "want less than");
-    add(to, "%.0f mm a station (%.0f to %.0f)", 1000 * s->value, 1000 * s->low, 1000 * s->high);
-    if (!agrees) add(to, ", not %.0f", 1000 * given.high);
-    add(to, ", or all errors times %.2f (%.2f to %.2f).", f->value, f->low, f->high);
-    if (!v->sound && v->factor_without > 0)
-        add(to, " Without the leg that explains most: times %.2f.", v->factor_without);
+    add(to, "%s fit%s ", cave->loop_count == 1 ? "Your loop" : "Your loops", cave->loop_count == 1 ? "s" : "");
+    if (agrees) add(to, "these errors; best would be ");
+    if (agrees || s->value > 0)
+        add(to, "%.0f mm a station (%.0f to %.0f)", 1000 * s->value, 1000 * s->low, 1000 * s->high);
+    if (!agrees && s->value > 0) add(to, ", not %.0f", 1000 * given.high);
+    add(to, "%s times %.2f (%.2f to %.2f).",
+        agrees || s->value > 0 ? ", or all errors" : "smaller errors than these: all of them", f->value, f->low,
+        f->high);
+    if (!v->sound && v->factor_without > 0) add(to, " Without the worst leg: times %.2f.", v->factor_without);
     add(to, "\n");
 }
 
@@ -334,27 +363,35 @@ static int rising(const void *a, const void *b) {
     return (*(const double *)a > *(const double *)b) - (*(const double *)a < *(const double *)b);
 }
 
+/* A distance, and a bearing where one would show at all. */
+static void add_size(double metres, double degrees, growing *to) {
+    add(to, metres < 9.95 ? "%.1f m" : "%.0f m", metres);
+    if (degrees < INFINITY) add(to, degrees < 9.95 ? " or %.1f degrees" : " or %.0f degrees", degrees);
+}
+
 /* Half of the legs, and nine of ten, show blunders from these sizes on. */
-static void tell_sizes(const struct judge_cave *cave, const struct judge_verdict *v, growing *to) {
+static void tell_sizes(const struct judge_cave *cave, growing *to) {
     size_t count = 0;
     double *metres = malloc(cave->edge_count * sizeof *metres), *degrees = malloc(cave->edge_count * sizeof *degrees);
     to->failed = to->failed || metres == NULL || degrees == NULL;
     if (!to->failed) {
         for (size_t j = 0; j < cave->edge_count; j++) {
             const struct judge_edge *e = &cave->edges[j];
-            struct judge_vector smallest = judge_smallest(cave, v, e);
+            struct judge_vector smallest = judge_smallest(cave, e);
             if (e->kind != JUDGE_LEG || !(smallest.east > 0)) continue;
             metres[count] = smallest.east;
-            degrees[count++] = smallest.north > 0 ? smallest.north : 180;
+            degrees[count++] = smallest.north > 0 ? smallest.north : INFINITY;
         }
         qsort(metres, count, sizeof metres[0], rising);
         qsort(degrees, count, sizeof degrees[0], rising);
     }
-    if (count > 0)
-        add(to,
-            "A blunder shows (4 times in 5) from %.1f m or %.0f degrees on in half of the legs, from %.1f m or %.0f "
-            "degrees on in nine of ten.\n",
-            metres[count / 2], degrees[count / 2], metres[count * 9 / 10], degrees[count * 9 / 10]);
+    if (count > 0) {
+        add(to, "A blunder of ");
+        add_size(metres[count / 2], degrees[count / 2], to);
+        add(to, " would show (4 times in 5) in half of the legs in loops, one of ");
+        add_size(metres[count * 9 / 10], degrees[count * 9 / 10], to);
+        add(to, " in nine of ten.\n");
+    }
     free(metres);
     free(degrees);
 }
@@ -363,8 +400,9 @@ static void tell_unseen(const struct judge_cave *cave, growing *to) {
     if (cave->legs_in_no_loop == 0) return;
     judge_thousands(to, cave->legs_in_no_loop);
     add(to, " of ");
-    counted(to, cave->survey->leg_count, "leg is", "legs are");
-    add(to, " in no loop: nothing is known of them.\n");
+    counted(to, cave->survey->leg_count, "leg", "legs");
+    add(to, cave->legs_in_no_loop == 1 ? " is in no loop: nothing is known of it.\n"
+                                       : " are in no loop: nothing is known of them.\n");
 }
 
 void judge_words(const struct judge_cave *cave, const struct judge_verdict *v, const struct judge_told *told,
@@ -381,7 +419,7 @@ void judge_words(const struct judge_cave *cave, const struct judge_verdict *v, c
     tell_too_well(cave, to);
     tell_sigmas(cave, v, to);
     tell_unseen(cave, to);
-    tell_sizes(cave, v, to);
+    tell_sizes(cave, to);
     add(to, "Plan only: heights are not judged. The noise is proved, the check is not.\n");
     add(to,
         "(seeds (a %" PRIu32 " %" PRIu32 " %" PRIu32 ") (b %" PRIu32 " %" PRIu32 " %" PRIu32 ")), plays %" PRIu64

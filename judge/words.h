@@ -4,6 +4,9 @@
 
 #include "inside.h"
 
+/* A suspect below this share is neither printed nor drawn, but for the first. */
+#define JUDGE_LEAST_SHARE 0.01
+
 /* Where an edge stands in the survey. */
 struct judge_place {
     size_t file, line;

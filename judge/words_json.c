@@ -8,17 +8,6 @@ struct judge_next {
     size_t *start, *count, *edges, *node;
 };
 
-/* A text between quotation marks. */
-static void add_string(growing *to, const char *text) {
-    add(to, "\"");
-    for (; *text != '\0'; text++) {
-        if (*text == '"' || *text == '\\') add(to, "\\%c", *text);
-        else if ((unsigned char)*text < 32) add(to, "\\u%04x", *text);
-        else add(to, "%c", *text);
-    }
-    add(to, "\"");
-}
-
 static void add_place(const struct judge_cave *cave, const struct judge_edge *e, growing *to) {
     struct judge_place place = judge_place_of(cave, e);
     add(to, "\"file\": ");
@@ -151,12 +140,12 @@ static void add_suspects(const struct judge_cave *cave, const struct judge_verdi
 }
 
 /* For each leg in a loop what would have shown. */
-static void add_smallest(const struct judge_cave *cave, const struct judge_verdict *v, growing *to) {
+static void add_smallest(const struct judge_cave *cave, growing *to) {
     bool first = true;
     add(to, "  \"would_show\": [");
     for (size_t j = 0; j < cave->edge_count; j++) {
         const struct judge_edge *e = &cave->edges[j];
-        struct judge_vector smallest = judge_smallest(cave, v, e);
+        struct judge_vector smallest = judge_smallest(cave, e);
         if (e->kind != JUDGE_LEG || !(smallest.east > 0)) continue;
         add(to, "%s\n    {", first ? "" : ",");
         add_place(cave, e, to);
@@ -204,7 +193,7 @@ void judge_json(const struct judge_cave *cave, const struct judge_verdict *v, co
         v->factor_without);
     tell_loops(cave, to);
     add_suspects(cave, v, to);
-    add_smallest(cave, v, to);
+    add_smallest(cave, to);
     add_plays(v, told, to);
     add(to, "}\n");
 }

@@ -1,105 +1,135 @@
-// The page: what is typed, pasted, opened or dropped is played, and what was found is shown.
-import { csvOf, pictureOf } from './draw.js';
+// The page: what is pasted, opened or dropped is checked, and what was found is shown.
 import { EXAMPLES } from './examples.js';
-import { load } from './jabulghi.js';
-import { judge } from './judge.js';
-import { survex } from './example.js';
-import { loadLevel } from './level.js';
-import { takeText } from './ordinary.js';
-import { atLine, doing, filledIn, lacksPlay, taken, unread } from './sentences.js';
-import { drawSeeds, sixSeeds, wholeMillimetres, wholePlays, wholeSteps } from './settings.js';
-import { $, grey, show, showLoops, showWords } from './show.js';
-import { jobOf, jobOfPlay, kindOf } from './survey.js';
-import { Player } from './worker.js';
+import { optionsOf } from './fields.js';
+import { bytesOf } from './files.js';
+import { fileOf, given, takeFiles, writtenAt } from './given.js';
+import { listenToFiles } from './incoming.js';
+import { worstLoops } from './loops.js';
+import { Plan } from './plan.js';
+import { $, grey, nameLoop, showLoop, showLoops, showVerdict, showWords } from './show.js';
+import { doing, noText } from './words.js';
+import { Checker } from './worker.js';
+import { clearWrong, FIELDS, tellWrong, trouble } from './wrong.js';
 
-const bytesOf = id => Uint8Array.from(atob($(id).textContent.trim()), letter => letter.charCodeAt(0)), bytes = bytesOf('wasm');
-let jabulghi, level, player, judged, name = '', number = 1, turn = 0;
+const wasm = Uint8Array.from(atob($('wasm').textContent.trim()), letter => letter.charCodeAt(0));
+// The plan's box on paper, in pixels: style.css gives it 165 mm.
+const PAPER = { width: 700, height: 620 };
+let checker, plan, turn = 0, found = {}, order = { key: 'p', up: true };
 
-// A box of text has lines; the last one's line feed is added.
-const textOf = () => $('text').value.replace(/[^\n]$/, '$&\n');
+// ---- What was found
 
-function settings() {
-  const sigma = [wholeMillimetres($('mm').value.trim(), $('unit').value), wholeSteps($('degrees').value.trim())];
-  return { name, sigma, plays: wholePlays($('plays').value.trim()), seeds: sixSeeds($('seeds').value) };
+function chooseSuspect(rank) {
+  found.rank = rank;
+  [...$('suspectRows').querySelectorAll('button')].forEach((button, j) => button.setAttribute('aria-pressed', String(j + 1 === rank)));
+  plan.mark(found.indices[rank - 1]);
 }
 
-function tellTaken() {
-  try {
-    $('taken').textContent = taken(settings().sigma);
-  } catch (error) {
-    $('taken').textContent = '';
+function chooseLoop(number) {
+  found.chosen = number;
+  plan.choose(number);
+  for (const button of $('loopRows').querySelectorAll('button')) {
+    button.setAttribute('aria-pressed', String(Number(button.dataset.loop) === number));
+    button.closest('tr').classList.toggle('picked', Number(button.dataset.loop) === number);
   }
+  nameLoop(found.rows[number - 1]);
+  checker.loop(number);
 }
 
-// Says what is wrong, and marks the line.
-function tellWrong(error) {
-  $('said').textContent = atLine(error.line ?? 0, error.sentence ?? String(error));
-  const lines = textOf().split('\n'), start = lines.slice(0, error.line - 1).join('\n').length + (error.line > 1 ? 1 : 0);
-  $('badLine').textContent = error.line > 0 ? `${error.line} | ${lines[error.line - 1] ?? ''}` : '';
-  if (!(error.line > 0)) return;
-  $('text').focus();
-  $('text').setSelectionRange(start, start + (lines[error.line - 1] ?? '').length);
-  $('text').scrollTop = Math.max(0, (error.line - 4) * parseFloat(getComputedStyle($('text')).lineHeight));
+function sortBy(key) {
+  order = { key, up: order.key === key ? !order.up : true };
+  showLoops(found, order, sortBy, chooseLoop);
+  $('loopHead').querySelector(`[data-key="${key}"]`).focus();
 }
+
+const lineOf = ({ file, line }) => writtenAt(found.verdict.files[file] ?? file, line);
+
+// What a person has chosen stays chosen while more plays come in.
+function hearVerdict(message, seconds) {
+  const before = found.turn === turn ? found : {}, { rank, loop, key } = document.activeElement.dataset;
+  found = { verdict: message.verdict, turn };
+  Object.assign(found, showVerdict(message, seconds, plan, { same: before.turn === turn, lineOf, chooseSuspect }));
+  Object.assign(found, { chosen: before.chosen ?? worstLoops(found.rows, 1)[0], open: before.open });
+  showLoops(found, order, sortBy, chooseLoop);
+  $('seeds').placeholder = found.verdict.json.seeds.join(', ');
+  grey(false);
+  if (!$('suspects').hidden) chooseSuspect(Math.min(before.rank ?? 1, $('suspectRows').children.length));
+  for (const [name, value] of Object.entries({ rank, loop, key })) if (value !== undefined) $('found').querySelector(`[data-${name}="${value}"]`)?.focus();
+  if (found.chosen === undefined) return;
+  plan.choose(found.chosen);
+  nameLoop(found.rows[found.chosen - 1]);
+  if (message.last) checker.loop(found.chosen);
+}
+
+// ---- Checking
 
 function busy(is) {
+  $('busy').hidden = !is;
   $('go').disabled = is;
-  $('stop').hidden = $('progress').hidden = !is;
-  $('doing').textContent = '';
-  $('progress').value = 0;
+  $('progress').removeAttribute('value');
+  $('doing').textContent = doing(0, 0);
 }
 
-async function playLoop() {
-  const mine = ++turn, start = performance.now();
-  player.stop();
+// A check is over.
+function end() {
+  busy(false);
+  $('results').hidden = found.verdict === undefined;
+  document.body.dataset.done = turn;
+}
+
+function endWrong(troubles, names) {
+  end();
+  tellWrong(troubles, names);
+}
+
+// What the Worker says of the cave that was given last.
+function hear(message, start) {
+  const hearing = {
+    progress: ({ done, all }) => {
+      $('progress').value = done / all;
+      $('doing').textContent = doing(done, all);
+    },
+    verdict: ({ last }) => {
+      hearVerdict(message, (performance.now() - start) / 1000);
+      if (last) end();
+    },
+    refused: ({ troubles, files }) => endWrong(troubles, files),
+    failed: ({ text }) => endWrong([trouble(text)]),
+    loop: ({ number }) => { if (number === found.chosen) showLoop(found.rows[number - 1], message); },
+  };
+  hearing[message.kind](message);
+}
+
+// Where the results stand below the form, they come into view.
+function comeIntoView() {
+  const form = document.querySelector('.input').getBoundingClientRect(), results = $('results').getBoundingClientRect();
+  if (results.top >= form.bottom - 1) $('results').scrollIntoView({ block: 'start' });
+}
+
+function startCheck(options, byHand) {
+  const mine = turn, start = performance.now();
+  $('results').hidden = false;
+  $('found').hidden = found.verdict === undefined;
+  busy(true);
+  checker.check(given.files.filter(({ bytes }) => bytes.length > 0), { ...options, main: given.begin }, message => { if (mine === turn) hear(message, start); });
+  if (byHand) comeIntoView();
+}
+
+function checkCave(byHand = true) {
+  turn++;
+  checker.end();
+  clearWrong();
   grey(true);
-  $('said').textContent = $('badLine').textContent = '';
   try {
-    const asked = settings(), taking = takeText(jabulghi, level, textOf(), asked, number), { loop } = taking;
-    busy(true);
-    const misses = await player.play(jobOf(loop), asked.plays, done => {
-      $('progress').value = done / asked.plays;
-      $('doing').textContent = doing(done, asked.plays);
-    });
-    if (mine !== turn || misses.length === 0) return;
-    judged = judge(loop, misses);
-    showLoops(jabulghi, taking, asked.plays, chosen => { number = chosen; playLoop(); });
-    show(jabulghi, judged, asked.plays, (performance.now() - start) / 1000);
-    grey(false);
+    const options = optionsOf(id => $(id).value);
+    if (fileOf(given.begin)?.bytes.length > 0) startCheck(options, byHand);
+    else endWrong([trouble(noText)]);
   } catch (error) {
-    if (mine === turn) tellWrong(error);
-  } finally {
-    if (mine === turn) busy(false);
-    document.body.dataset.done = turn;
+    if (error.name !== 'Wrong') throw error;
+    endWrong([{ ...trouble(error.sentence), option: '--sigma', field: error.field }]);
   }
 }
 
-// A job that comes in fills in its own sigmas and seeds.
-function fillIn(text) {
-  const [seeds, sigma] = kindOf(text, name) === 'JOB' ? text.split('\n', 2) : [];
-  const found = /^\(sigma (\d+) (\d+)\)$/.exec(sigma ?? '');
-  $('filled').textContent = found === null ? '' : filledIn;
-  if (found === null) return;
-  [$('seeds').value, $('mm').value, $('unit').value, $('degrees').value] = [seeds, found[1], 'mm', (found[2] * 360 / 65536).toFixed(4)];
-}
-
-function take(text, from = '') {
-  $('text').value = text;
-  name = from;
-  number = 1;
-  fillIn($('text').value);
-  tellTaken();
-  playLoop();
-}
-
-async function takeFile(file) {
-  if (file === undefined) return;
-  try {
-    take(await file.text(), file.name);
-  } catch (error) {
-    tellWrong({ sentence: unread(file.name) });
-  }
-}
+// ---- What goes out, and the rest of the controls
 
 function save(text, as, type) {
   const address = URL.createObjectURL(new Blob([text], { type })), link = Object.assign(document.createElement('a'), { href: address, download: as });
@@ -107,51 +137,39 @@ function save(text, as, type) {
   setTimeout(() => URL.revokeObjectURL(address), 60000);
 }
 
-function saveJob() {
-  const play = /^\d+$/.test($('play').value.trim()) ? Number($('play').value) : -1, last = judged.kept.runs - 1, fits = play >= 0 && play <= last;
-  $('playSaid').textContent = fits ? '' : lacksPlay(last);
-  if (fits) save(jobOfPlay(jabulghi, judged.loop, play), `play-${play}.job`, 'text/plain');
+function listenToResults() {
+  $('json').addEventListener('click', () => save(found.verdict.jsonText, 'verdict.json', 'application/json'));
+  $('svg').addEventListener('click', () => save(found.verdict.svg, 'plan.svg', 'image/svg+xml'));
+  $('print').addEventListener('click', () => print());
+  $('allLoops').addEventListener('click', () => { found.open = true; showLoops(found, order, sortBy, chooseLoop); });
+  for (const [id, by] of [['closer', 1.4], ['farther', 1 / 1.4]]) $(id).addEventListener('click', () => plan.zoom(by));
+  $('whole').addEventListener('click', () => plan.whole());
+  addEventListener('beforeprint', () => plan.paper(PAPER));
+  addEventListener('afterprint', () => plan.paper());
 }
 
-function listen() {
-  const changed = () => { grey(true); tellTaken(); };
-  for (const id of ['text', 'mm', 'unit', 'degrees', 'plays', 'seeds']) $(id).addEventListener('input', changed);
-  $('text').addEventListener('input', () => { name = ''; number = 1; });
-  $('text').addEventListener('paste', () => setTimeout(() => take($('text').value)));
-  $('play').addEventListener('keydown', event => { if (event.key === 'Enter') saveJob(); });
-  document.querySelector('.input').addEventListener('keydown', event => { if (event.key === 'Enter' && (event.ctrlKey || event.metaKey || event.target.matches('input'))) playLoop(); });
-  document.addEventListener('dragover', event => { event.preventDefault(); $('text').classList.add('over'); });
-  document.addEventListener('dragleave', () => $('text').classList.remove('over'));
-  document.addEventListener('drop', event => {
-    event.preventDefault();
-    $('text').classList.remove('over');
-    const { files } = event.dataTransfer, text = event.dataTransfer.getData('text');
-    if (files.length > 0) takeFile(files[0]);
-    else if (text !== '') take(text);
+function listenToForm() {
+  for (const id of [...FIELDS, 'tapeUnit', 'stationUnit', 'fixUnit']) $(id).addEventListener('input', () => grey(true));
+  document.querySelector('.input').addEventListener('keydown', event => {
+    if (event.key === 'Enter' && (event.ctrlKey || event.metaKey || event.target.matches('input'))) checkCave();
   });
-  $('open').addEventListener('click', () => $('file').click());
-  $('file').addEventListener('change', () => takeFile($('file').files[0]).then(() => { $('file').value = ''; }));
-  $('example').addEventListener('change', () => example($('example').value));
-  $('go').addEventListener('click', playLoop);
-  $('stop').addEventListener('click', () => player.stop());
-  $('fresh').addEventListener('click', () => { $('seeds').value = drawSeeds(jabulghi).join(','); playLoop(); });
-  $('csv').addEventListener('click', () => save(csvOf(judged), 'plays.csv', 'text/csv'));
-  $('svg').addEventListener('click', () => save(pictureOf(judged), 'plays.svg', 'image/svg+xml'));
-  $('job').addEventListener('click', saveJob);
+  $('go').addEventListener('click', () => checkCave());
+  $('stop').addEventListener('click', () => checker.stop());
+  $('keep').addEventListener('click', () => { $('seeds').value = $('seeds').placeholder; });
 }
 
-function example(which) {
-  const texts = { sound: () => EXAMPLES['loop.svx'], forty: () => survex(40, 0), blunder: () => survex(40, 10), ordinary: () => EXAMPLES['dotted.svx'],
-    several: () => survex(12, 0) + survex(16, 14).replace(/S(?!0 )(\d+)/g, 'T$1'), job: () => EXAMPLES['loop.job'], listing: () => jabulghi.list(EXAMPLES['loop.job']) };
-  if (texts[which] !== undefined) take(texts[which]());
-}
-
-async function begin() {
+function start() {
   showWords();
-  [jabulghi, level] = [await load(bytes), await loadLevel(bytesOf('levelWasm'))];
-  player = new Player(`${$('engine').textContent}\nworker_js.serve(self);`, bytes);
-  $('seeds').value = drawSeeds(jabulghi).join(',');
-  listen();
-  example('sound');
+  checker = new Checker(`${$('engine').textContent}\nworker_js.serve(self);`, wasm);
+  plan = new Plan($('plan'), ({ whole, metres, scale }) => {
+    $('scale').style.width = `${metres / scale}px`;
+    $('scale').textContent = metres >= 1000 ? `${metres / 1000} km` : `${metres} m`;
+    $('whole').disabled = whole;
+  });
+  listenToFiles(wasm, checkCave);
+  listenToResults();
+  listenToForm();
+  takeFiles([{ name: 'cave.svx', bytes: bytesOf(EXAMPLES['cave.svx']) }]);
+  checkCave(false);
 }
-begin();
+start();

@@ -1,14 +1,15 @@
 /* Lines of data: their readings, and the legs that they make. */
 #include "reader.h"
-#include <math.h>
+
+#include "mathematics.h"
 #include <string.h>
 
 /* ---- Readings */
 
 static struct survey_reading reading_of(reader *r, enum survey_quantity what, part word) {
     const quantity *q = &now(r)->of[quantity_of(what)];
-    struct survey_reading made = {what,    q->form, copy_of(r, word), r->at.file, r->at.number, 0, -1, 0,
-                                  q->unit, q->zero, q->scale,         0,          q->sd};
+    struct survey_reading made = {what,    q->form, copy_of(r, word), r->at.file, r->at.number, 0,      -1, 0,
+                                  q->unit, q->zero, q->scale,         0,          q->sd,        q->form};
     made.at = (size_t)(word.bytes - r->s->files[r->at.file].bytes);
     return made;
 }

@@ -25,7 +25,7 @@ size_t add_file(reader *r, const char *name, const uint8_t *bytes, size_t length
     if (!room_for_one(r, &s->files, s->file_count, &r->file_room, sizeof *s->files)) return SURVEY_NONE;
     char *called = copy_of(r, (part){(const uint8_t *)name, strlen(name)}), *copied = copy_of(r, (part){bytes, length});
     if (called == NULL || copied == NULL) return SURVEY_NONE;
-    s->files[s->file_count] = (struct survey_file){called, (const uint8_t *)copied, length};
+    s->files[s->file_count] = (struct survey_file){called, (const uint8_t *)copied, length, false};
     return s->file_count++;
 }
 
@@ -35,7 +35,7 @@ static void start_file(reader *r, size_t file) {
     const uint8_t *start = f->bytes, *end = start + f->length;
     if (f->length >= sizeof MARK && memcmp(start, MARK, sizeof MARK) == 0) start += sizeof MARK;
     r->at = (cursor){file, 0, now(r)->prefix, r->depth, start, start, start, start, end};
-    r->latin1 = !is_utf8(start, end);
+    r->latin1 = r->s->files[file].latin1 = !is_utf8(start, end);
 }
 
 static void take_line(reader *r) {
@@ -127,6 +127,18 @@ static bool is_open(const reader *r, size_t file) {
     return false;
 }
 
+/* Reads a file, and notes where. */
+static void read_included(reader *r, size_t file) {
+    struct survey *s = r->s;
+    const uint8_t *bytes = s->files[r->at.file].bytes;
+    size_t number = s->include_count;
+    if (!room_for_one(r, &s->includes, number, &r->include_room, sizeof *s->includes)) return;
+    s->includes[s->include_count++] = (struct survey_include){
+        r->at.file, (size_t)(r->at.line - bytes), (size_t)(r->at.next - bytes), file, s->leg_count, 0};
+    read_file(r, file);
+    s->includes[number].last = s->leg_count;
+}
+
 void take_include(reader *r) {
     part word = next_string(r);
     if (word.length == 0) {
@@ -150,5 +162,5 @@ void take_include(reader *r) {
         complain(r, CYCLE, word);
         return;
     }
-    if (ends_here(r)) read_file(r, file);
+    if (ends_here(r)) read_included(r, file);
 }

@@ -1,6 +1,7 @@
 /* What a leg's readings come to: length, bearing, slope and vector. */
 #include "reader.h"
-#include <math.h>
+
+#include "mathematics.h"
 #include <string.h>
 
 /* Degrees. */

@@ -1,6 +1,7 @@
 /* Units, corrections and standard deviations of what is measured. */
 #include "reader.h"
-#include <math.h>
+
+#include "mathematics.h"
 
 /* Degrees. */
 #define RADIAN (180 / 3.14159265358979323846)

@@ -242,7 +242,7 @@ typedef struct reader {
     size_t depth, scope_room;
     name_node *names;
     size_t name_count, name_room, *slots, slot_count;
-    size_t leg_room, station_room, equate_room, sight_room, fix_room, trip_room, file_room, note_room;
+    size_t leg_room, station_room, equate_room, sight_room, fix_room, trip_room, file_room, include_room, note_room;
     traverse run;
     bool bad_line, no_memory, latin1;
     noted notes[NOTES];

@@ -5,8 +5,8 @@
 
 void survey_free(struct survey *s) {
     if (s == NULL) return;
-    free(s->files), free(s->legs), free(s->stations), free(s->equates), free(s->sights), free(s->fixes), free(s->trips),
-        free(s->notes), free(s->troubles);
+    free(s->files), free(s->includes), free(s->legs), free(s->stations), free(s->equates), free(s->sights),
+        free(s->fixes), free(s->trips), free(s->notes), free(s->troubles);
     free_chunks((struct kept *)s);
     free(s);
 }

@@ -45,6 +45,7 @@ struct survey_reading {
     double scale;
     double value; /* corrected, in metres or degrees; a word has its meaning (up 90, level 0), an omitted reading 0 */
     double sd;    /* standard deviation in force, in metres or degrees */
+    enum survey_form as; /* how its numbers are written, whatever stands here: SURVEY_NUMBER, _PERCENT or _QUADRANT */
 };
 
 /* What legs are measured by. */
@@ -131,6 +132,14 @@ struct survey_file {
     const char *name;
     const uint8_t *bytes;
     size_t length;
+    bool latin1; /* it is no UTF-8 */
+};
+
+/* *include, in the order of reading: its line is the bytes of `file` from `at` to before `end`, its line feed included.
+ * The legs from `first` to before `last` were read of `included`, and of what that includes. */
+struct survey_include {
+    size_t file, at, end;
+    size_t included, first, last;
 };
 
 /* What a user should know of a survey that is taken ("3 splays are left out"), or why it is refused. Line 0 means the
@@ -145,6 +154,7 @@ struct survey_message {
 #define SURVEY_MOST_TROUBLES 20
 struct survey {
     struct survey_file *files;
+    struct survey_include *includes;
     struct survey_leg *legs;
     struct survey_station *stations;
     struct survey_equate *equates;
@@ -152,7 +162,8 @@ struct survey {
     struct survey_fix *fixes;
     struct survey_trip *trips;
     struct survey_message *notes, *troubles;
-    size_t file_count, leg_count, station_count, equate_count, sight_count, fix_count, trip_count, note_count;
+    size_t file_count, include_count, leg_count, station_count, equate_count, sight_count, fix_count, trip_count,
+        note_count;
     size_t trouble_count; /* all of them */
     size_t told_count;    /* those in `troubles` */
 };

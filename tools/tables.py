@@ -102,7 +102,7 @@ RECIPROCALS = [-(-(2**39) // h) for h in range(256, 512)]
 COARSE = [(a >> 32, a % 2**32, reciprocal) for a, reciprocal in zip(ENTRIES["LOG_COARSE"], RECIPROCALS)]
 COARSE_ROWS = [a << 32 | reciprocal for a, reciprocal in zip(ENTRIES["LOG_COARSE"], RECIPROCALS)]
 # (crate, function, first key, how an arm is written, entries)
-MATCHES = [
+MATCHES: list[tuple] = [
     ("log_coarse_lookup", "nth", 256, row("Row", 2, 8, 8), COARSE),
     ("log_fine_lookup", "nth", 0, "0x{0[0]:08x}".format, [(b,) for b in ENTRIES["LOG_FINE"]]),
     (
@@ -211,11 +211,11 @@ def compare():
         bad = [i for i in range(max(len(numbers), len(entries))) if numbers[i : i + 1] != entries[i : i + 1]]
         wrong += len(bad)
         print(f"{where}: {len(numbers)} entries, {len(bad)} differ {bad[:5] or ''}")
-    found = {
+    single = {
         "LN_TWO": read(path("logarithms").read_text(), "LN_TWO: u64 =", ";"),
         "lnTwoValue": read(antt, "\nlnTwoValue =", "\n"),
     }
-    for where, numbers in found.items():
+    for where, numbers in single.items():
         wrong += numbers != [LN_TWO]
         print(f"{where}: {numbers}, {'equal' if numbers == [LN_TWO] else 'differs'}")
     return wrong

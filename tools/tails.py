@@ -78,11 +78,16 @@ def least(b):
     return 2 * (peak + 2 * total)
 
 
+def sought(pattern: str, text: str, flags: int = re.M) -> re.Match[str]:
+    """What a pattern fits in a text that has it."""
+    found = re.search(pattern, text, flags)
+    assert found is not None, pattern
+    return found
+
+
 def largest(f):
     """The largest size: that of the largest F, with a sine or cosine of 1."""
-    limit = int(
-        re.search(r"^radiusLimit = (\d+)$", (CRATES / "radius" / "specs" / "Steps.antt").read_text(), re.M).group(1)
-    )
+    limit = int(sought(r"^radiusLimit = (\d+)$", (CRATES / "radius" / "specs" / "Steps.antt").read_text())[1])
     return (limit - 1 << 30) + (1 << 49 - f) >> 50 - f
 
 
@@ -94,7 +99,7 @@ def rows(f):
 
 def found(text, name):
     """The text of a list of rows."""
-    return re.search(rf"^{name} =\n.*?∷ \[\]\n", text, re.M | re.S).group()
+    return sought(rf"^{name} =\n.*?∷ \[\]\n", text, re.M | re.S).group()
 
 
 def stored(path, name):

@@ -1,39 +1,65 @@
-/* What the command's sources call of C's library, for WebAssembly. Memory is handed out once and taken back all at
- * once. */
+/* What the command's sources call of C's library, for WebAssembly: memory, strings, sorting and reading. */
 #include "c.h"
+
+/* ---- Memory: what is taken last is given back first; a block that is freed earlier waits for those above it. */
 
 /* WebAssembly's memory grows by pages of so many bytes. */
 #define PAGE 65536u
 extern uint8_t __heap_base;
-static size_t used;
 
-void free_all(void) { used = ((size_t)&__heap_base + 15) & ~(size_t)15; }
+/* Stands before the bytes of a block, which have so many, and knows the block below it. */
+typedef struct block {
+    struct block *below;
+    size_t size;
+    bool freed;
+} block;
+enum { HEAD = 16 };
+static block *top;
 
-/* The size stands before the bytes. */
+static size_t end_of_top(void) {
+    size_t end = top == NULL ? (size_t)&__heap_base : (size_t)top + HEAD + top->size;
+    return (end + 15) & ~(size_t)15;
+}
+
+static bool has_room(size_t end) {
+    size_t have = __builtin_wasm_memory_size(0) * (size_t)PAGE;
+    return end <= have || __builtin_wasm_memory_grow(0, (end - have + PAGE - 1) / PAGE) != SIZE_MAX;
+}
+
 void *malloc(size_t size) {
-    size_t need = ((size + 15) & ~(size_t)15) + 16, have = __builtin_wasm_memory_size(0) * (size_t)PAGE;
-    if (need < size || used + need < used) return NULL;
-    if (used + need > have && __builtin_wasm_memory_grow(0, (used + need - have + PAGE - 1) / PAGE) == SIZE_MAX)
-        return NULL;
-    uint8_t *at = (uint8_t *)used;
-    used += need;
-    memcpy(at, &size, sizeof size);
-    return at + 16;
+    size_t at = end_of_top(), end = at + HEAD + size;
+    if (end < size || end < at || end > SIZE_MAX - PAGE || !has_room(end)) return NULL;
+    block *made = (block *)at;
+    *made = (block){top, size, false};
+    top = made;
+    return (uint8_t *)made + HEAD;
+}
+
+void free(void *old) {
+    if (old == NULL) return;
+    ((block *)(void *)((uint8_t *)old - HEAD))->freed = true;
+    while (top != NULL && top->freed) top = top->below;
 }
 
 void *calloc(size_t count, size_t size) {
+    if (size > 0 && count > SIZE_MAX / size) return NULL;
     void *made = malloc(count * size);
     return made == NULL ? NULL : memset(made, 0, count * size);
 }
 
+/* The last block grows where it stands. */
 void *realloc(void *old, size_t size) {
-    size_t before = 0;
+    if (old == NULL) return malloc(size);
+    block *before = (block *)(void *)((uint8_t *)old - HEAD);
+    if (before == top && size < SIZE_MAX - PAGE - (size_t)old) {
+        if (!has_room((size_t)old + size)) return NULL;
+        return before->size = size, old;
+    }
     void *made = malloc(size);
-    if (old != NULL) memcpy(&before, (uint8_t *)old - 16, sizeof before);
-    return made == NULL || old == NULL ? made : memcpy(made, old, before < size ? before : size);
+    if (made == NULL) return NULL;
+    memcpy(made, old, before->size < size ? before->size : size);
+    return free(old), made;
 }
-
-void free(void *old) { (void)old; }
 
 void *memcpy(void *to, const void *from, size_t length) {
     for (size_t j = 0; j < length; j++) ((uint8_t *)to)[j] = ((const uint8_t *)from)[j];
@@ -64,6 +90,8 @@ int memcmp(const void *one, const void *other, size_t length) {
     return at < length ? a[at] - b[at] : 0;
 }
 
+/* ---- Strings */
+
 size_t strlen(const char *string) {
     size_t length = 0;
     while (string[length] != '\0') length++;
@@ -75,66 +103,121 @@ int strcmp(const char *one, const char *other) {
     return (uint8_t)*one - (uint8_t)*other;
 }
 
-char *strerror(int number) { return (void)number, (char *)""; }
-
-/* ---- Printing: %s and %-12s, and %u, %zu, %llu, %lld with zeros in front, which is all that level prints. */
-
-typedef struct {
-    char *to;
-    size_t room, length;
-} printed;
-
-static void print_byte(printed *p, char byte) {
-    if (p->length + 1 < p->room) p->to[p->length] = byte;
-    p->length++;
+int strncmp(const char *one, const char *other, size_t length) {
+    while (length > 1 && *one != '\0' && *one == *other) one++, other++, length--;
+    return length == 0 ? 0 : (uint8_t)*one - (uint8_t)*other;
 }
 
-static void print_string(printed *p, const char *string, size_t width) {
-    size_t length = strlen(string);
-    for (size_t j = 0; j < length; j++) print_byte(p, string[j]);
-    for (; length < width; length++) print_byte(p, ' ');
+char *strchr(const char *string, int wanted) {
+    while (*string != '\0' && *string != (char)wanted) string++;
+    return *string == (char)wanted ? (char *)string : NULL;
 }
 
-static void print_number(printed *p, uint64_t number, bool negative, size_t width) {
-    char digits[24];
-    size_t count = 0;
-    do digits[count++] = (char)('0' + number % 10);
-    while ((number /= 10) > 0);
-    if (negative) print_byte(p, '-');
-    for (size_t j = count + negative; j < width; j++) print_byte(p, '0');
-    while (count > 0) print_byte(p, digits[--count]);
-}
+char *strcpy(char *to, const char *from) { return memcpy(to, from, strlen(from) + 1); }
 
-/* What follows a %; the place after it. */
-static const char *print_value(printed *p, const char *at, va_list *values) {
-    size_t width = 0;
-    at += *at == '-';
-    for (; *at >= '0' && *at <= '9'; at++) width = width * 10 + (size_t)(*at - '0');
-    if (*at == 's') return print_string(p, va_arg(*values, const char *), width), at + 1;
-    if (*at == 'u') return print_number(p, va_arg(*values, unsigned), false, width), at + 1;
-    if (*at == 'z') return print_number(p, va_arg(*values, size_t), false, width), at + 2;
-    if (at[2] == 'u') return print_number(p, va_arg(*values, uint64_t), false, width), at + 3;
-    int64_t number = va_arg(*values, int64_t);
-    return print_number(p, number < 0 ? 0 - (uint64_t)number : (uint64_t)number, number < 0, width), at + 3;
-}
-
-int vsnprintf(char *to, size_t room, const char *format, va_list values) {
-    printed p = {to, room, 0};
-    va_list rest;
-    va_copy(rest, values);
-    while (*format != '\0') {
-        if (*format == '%') format = print_value(&p, format + 1, &rest);
-        else print_byte(&p, *format++);
-    }
-    va_end(rest);
-    if (room > 0) to[p.length < room ? p.length : room - 1] = '\0';
-    return (int)p.length;
-}
-
-int snprintf(char *to, size_t room, const char *format, ...) {
-    va_list values;
-    va_start(values, format);
-    int length = vsnprintf(to, room, format, values);
-    va_end(values);
+size_t strspn(const char *string, const char *accepted) {
+    size_t length = 0;
+    while (string[length] != '\0' && strchr(accepted, string[length]) != NULL) length++;
     return length;
+}
+
+size_t strcspn(const char *string, const char *refused) {
+    size_t length = 0;
+    while (string[length] != '\0' && strchr(refused, string[length]) == NULL) length++;
+    return length;
+}
+
+char *strerror(int number) { return number == ENOMEM ? (char *)"Cannot allocate memory" : (char *)""; }
+
+/* ---- Sorting: merges, so that what is equal keeps its order */
+
+typedef int compared(const void *one, const void *other);
+
+static void merge(uint8_t *bytes, size_t middle, size_t count, size_t size, compared *compare, uint8_t *room) {
+    size_t left = 0, right = middle;
+    for (size_t j = 0; j < count; j++) {
+        bool first = right == count || (left < middle && compare(bytes + left * size, bytes + right * size) <= 0);
+        memcpy(room + j * size, bytes + (first ? left++ : right++) * size, size);
+    }
+    memcpy(bytes, room, count * size);
+}
+
+static void sort(uint8_t *bytes, size_t count, size_t size, compared *compare, uint8_t *room) {
+    if (count < 2) return;
+    sort(bytes, count / 2, size, compare, room);
+    sort(bytes + count / 2 * size, count - count / 2, size, compare, room);
+    merge(bytes, count / 2, count, size, compare, room);
+}
+
+/* Without room nothing is sorted by halves: each goes down to its place. */
+void qsort(void *bytes, size_t count, size_t size, compared *compare) {
+    uint8_t *room = malloc(count * size), *at = bytes;
+    if (room != NULL) sort(bytes, count, size, compare, room);
+    for (size_t j = 1; room == NULL && j < count; j++) {
+        for (size_t k = j; k > 0 && compare(at + (k - 1) * size, at + k * size) > 0; k--) {
+            for (size_t byte = 0; byte < size; byte++) {
+                uint8_t swapped = at[k * size + byte];
+                at[k * size + byte] = at[(k - 1) * size + byte];
+                at[(k - 1) * size + byte] = swapped;
+            }
+        }
+    }
+    free(room);
+}
+
+/* ---- Reading: names (%12s), numbers of 32 bits (%u), blanks, and all else as it stands */
+
+static bool is_blank(char sign) { return sign == ' ' || (sign >= '\t' && sign <= '\r'); }
+static bool is_digit(char sign) { return sign >= '0' && sign <= '9'; }
+
+static const char *read_word(const char *at, size_t most, char *word) {
+    size_t length = 0;
+    while (length < most && at[length] != '\0' && !is_blank(at[length])) word[length] = at[length], length++;
+    word[length] = '\0';
+    return length == 0 ? NULL : at + length;
+}
+
+static const char *read_whole(const char *at, uint32_t *number) {
+    *number = 0;
+    if (!is_digit(*at)) return NULL;
+    for (; is_digit(*at); at++) *number = *number * 10 + (uint32_t)(*at - '0');
+    return at;
+}
+
+static const char *skip_blanks(const char *at) {
+    while (is_blank(*at)) at++;
+    return at;
+}
+
+int sscanf(const char *at, const char *format, ...) {
+    va_list values;
+    int read = 0;
+    va_start(values, format);
+    for (; *format != '\0' && at != NULL; format++) {
+        if (is_blank(*format)) {
+            at = skip_blanks(at);
+        } else if (*format != '%') {
+            at = *at == *format ? at + 1 : NULL;
+        } else {
+            size_t most = 0;
+            for (format++; is_digit(*format); format++) most = most * 10 + (size_t)(*format - '0');
+            at = skip_blanks(at);
+            at = *format == 's' ? read_word(at, most, va_arg(values, char *))
+                                : read_whole(at, va_arg(values, uint32_t *));
+            read += at != NULL;
+        }
+    }
+    va_end(values);
+    return read;
+}
+
+/* ---- What the compiler asks for: a product of 128 bits, by halves of 32 */
+
+__int128 __multi3(__int128 one, __int128 other) {
+    uint64_t a = (uint64_t)one, b = (uint64_t)other, low_a = (uint32_t)a, low_b = (uint32_t)b;
+    uint64_t low = low_a * low_b, middle = (a >> 32) * low_b + (low >> 32),
+             other_middle = low_a * (b >> 32) + (uint32_t)middle;
+    uint64_t high = (a >> 32) * (b >> 32) + (middle >> 32) + (other_middle >> 32) + (uint64_t)(one >> 64) * b +
+                    a * (uint64_t)(other >> 64);
+    return (__int128)((unsigned __int128)high << 64 | (other_middle << 32 | (uint32_t)low));
 }

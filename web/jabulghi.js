@@ -7,6 +7,7 @@
 // Each call does what jabulghi.h says of it. A refusal is thrown, and leaves every array as it was. Numbers of 64 bits are given as numbers or, from 2^53
 // on, as BigInt. Texts are strings or Uint8Array. For samples give the array that they are written to, or how many you want.
 import { CODES, LISTING_ROOM, SUBJECTS, WORDS } from './constants.js';
+import { Judge } from './check.js';
 export { CODES };
 
 export class Refusal extends Error {
@@ -129,8 +130,13 @@ class Marks extends Kept {
 }
 
 class Jabulghi {
+  #judge;
   // The library's calls and its memory, of which it uses nothing beyond the first size.
-  constructor(exports) { this.exports = exports, this.start = exports.memory.buffer.byteLength; }
+  constructor(exports, judge) { this.exports = exports, this.start = exports.memory.buffer.byteLength, this.#judge = judge; }
+
+  // Whether a cave is sound, and how one loop of a survey compares; check.js says more.
+  check(files, options) { return this.#judge.check(files, options); }
+  tolerance(files, options) { return this.#judge.tolerance(files, options); }
 
   seed(a0, a1, a2, b0, b1, b2) {
     const record = new Record(this);
@@ -175,4 +181,7 @@ class Jabulghi {
   }
 }
 
-export async function load(bytes) { return new Jabulghi((await WebAssembly.instantiate(bytes)).instance.exports); }
+export async function load(bytes) {
+  const module = await WebAssembly.compile(bytes);
+  return new Jabulghi((await WebAssembly.instantiate(module)).exports, new Judge(module));
+}

@@ -12,7 +12,7 @@ TAG = "py3-none-manylinux_2_17_x86_64"
 METADATA = """Metadata-Version: 2.1
 Name: jabulghi
 Version: {version}
-Summary: Gaussian noise for simulated survey instruments: the calls of libjabulghi
+Summary: Proved Gaussian noise for simulated survey instruments, and a judge of cave surveys
 Requires-Python: >=3.8
 """
 
@@ -25,7 +25,7 @@ def read(path):
 def shared_library():
     with tempfile.TemporaryDirectory() as folder:
         file = os.path.join(folder, "libjabulghi.so")
-        subprocess.run([os.path.join(HERE, "../../tools/shared"), file], check=True)
+        subprocess.run([os.path.join(HERE, "../../tools/shared_judge"), file], check=True)
         return read(file)
 
 
@@ -34,10 +34,10 @@ def digest(content):
 
 
 def build_wheel(wheel_directory, config_settings=None, metadata_directory=None):
-    names = ["__init__.py", "py.typed", "refusals.py"]
+    names = ["__init__.py", "_library.py", "judging.py", "py.typed", "refusals.py"]
     files = {f"jabulghi/{name}": read(os.path.join(HERE, "jabulghi", name)) for name in names}
     files["jabulghi/libjabulghi.so"] = shared_library()
-    made = {}
+    made: dict[str, str] = {}
     exec(files["jabulghi/refusals.py"], made)
     version = made["VERSION"]
     info = f"jabulghi-{version}.dist-info"

@@ -20,35 +20,31 @@ END
 
 # bare_row ROW: takes the row's columns, and writes the layout of the machine's memory.
 bare_row() {
-    local memory flash flash_size ram ram_size
-    IFS=';' read -r name options machine memory <<<"$1"
+    local words memory flash flash_size ram ram_size
+    IFS=';' read -r name words machine memory <<<"$1"
+    read -ra options <<<"$words"
     read -r flash flash_size ram ram_size <<<"$memory"
     bare=target/tests/bare
     mkdir -p "$bare"
     printf 'MEMORY { FLASH (rx) : ORIGIN = %s, LENGTH = %s  RAM (rwx) : ORIGIN = %s, LENGTH = %s }\nINCLUDE sections.ld\n' "$flash" "$flash_size" "$ram" "$ram_size" >"$bare/$machine.ld"
     case $name in
-    riscv32*) compiler="riscv64-unknown-elf-gcc --specs=picolibc.specs" emulator="qemu-system-riscv32 -bios none" ;;
-    *) compiler="arm-none-eabi-gcc -D__int64_t_defined=1" emulator=qemu-system-arm ;; # Debian's newlib tells of its formats for 64 bits only then
+    riscv32*) compiler=(riscv64-unknown-elf-gcc --specs=picolibc.specs) emulator=(qemu-system-riscv32 -bios none) ;;
+    *) compiler=(arm-none-eabi-gcc -D__int64_t_defined=1) emulator=(qemu-system-arm) ;; # Debian's newlib tells of its formats for 64 bits only then
     esac
 }
 
 # bare_compile FILE PROGRAM [OPTION..]: compiles a test of the row with its library.
 bare_compile() {
-    # shellcheck disable=SC2086
-    $compiler $options -std=gnu99 -O2 -Wall -Wextra -ffunction-sections -fdata-sections -Iinclude -Iexamples/firmware -Itests/bare "${@:3}" \
+    "${compiler[@]}" "${options[@]}" -std=gnu99 -O2 -Wall -Wextra -ffunction-sections -fdata-sections -Iinclude -Iexamples/firmware -Itests/bare "${@:3}" \
         examples/firmware/start.c tests/bare/system.c "$1" "target/$name/libjabulghi.a" \
         -nostartfiles -Wl,--gc-sections -Wl,--wrap=main -Wl,-z,noexecstack -Lexamples/firmware -T "$bare/$machine.ld" -o "$2"
 }
 
-# bare_once FILE PROGRAM [OPTION..]: runs it, at most 200 s; what it prints goes into FILE.
+# bare_once PROGRAM [OPTION..]: runs it, at most 200 s.
 bare_once() {
-    # shellcheck disable=SC2086
-    timeout 200 $emulator -M "$machine" -display none -monitor none -serial none -chardev stdio,id=text,signal=off \
-        -semihosting-config enable=on,target=native,chardev=text "${@:3}" -kernel "$2" </dev/null >"$1"
+    timeout 200 "${emulator[@]}" -M "$machine" -display none -monitor none -serial none -chardev stdio,id=text,signal=off \
+        -semihosting-config enable=on,target=native,chardev=text "${@:2}" -kernel "$1" </dev/null
 }
 
 # bare_run PROGRAM [OPTION..]: runs it, once more if the emulator fails; what it prints comes on standard output.
-bare_run() {
-    twice bare_once "$1.printed" "$@"
-    cat "$1.printed"
-}
+bare_run() { emulated "$1.printed" bare_once "$@"; }

@@ -145,6 +145,6 @@ while place < len(content):
             if code != returned
             else f"DIFFERENT: {name} {numbers}: memory, text or line"
         )
-assert set(seen) == set(jabulghi._CALLS), set(jabulghi._CALLS) - set(seen)
+assert set(seen) == set(jabulghi.CALLS), set(jabulghi._CALLS) - set(seen)
 print(f"Python: {sum(seen.values())} calls, {wrong} wrong ({left_out} left out: texts refused for the caller's room)")
 sys.exit(wrong != 0)

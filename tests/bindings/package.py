@@ -27,9 +27,9 @@ def refused(number, call, *values):
 
 def names():
     declared = set(re.findall(r"^uint32_t jabulghi_([a-z0-9_]*)\(", header, re.M))
-    assert declared == set(jabulghi._CALLS), declared ^ set(jabulghi._CALLS)
+    assert declared == set(jabulghi.CALLS), declared ^ set(jabulghi._CALLS)
     for name, words in re.findall(r"^uint32_t jabulghi_([a-z0-9_]*)\(([^;]*)\);", header, re.M):
-        assert len(words.split(",")) == len(jabulghi._CALLS[name]), name
+        assert len(words.split(",")) == len(jabulghi.CALLS[name]), name
     numbers = {name: int(n) for name, n in re.findall(r"^    JABULGHI_([A-Z0-9_]*) = (\d+)", header, re.M) if n != "0"}
     assert numbers == {r.name: r.value for r in jabulghi.Refusal}
     assert [ctypes.sizeof(kept._kind) for kept in (Generator, Window, Marks)] == [40, 8224, 960]
@@ -77,9 +77,9 @@ def refusals():
     ]
     for number, call, *values in rows:
         kept = getattr(call, "__self__", None)
-        before = bytes(kept) if isinstance(kept, (Generator, Marks)) else None
+        before = bytes(kept) if isinstance(kept, (Generator, Marks)) else b""
         error = refused(number, call, *values)
-        assert before is None or bytes(kept) == before, number
+        assert not isinstance(kept, (Generator, Marks)) or bytes(kept) == before, number
         assert str(error).endswith(f"{error.sentence} ({number})") and error.sentence in header
     assert refused(23, jabulghi.play, JOB.replace(b"B A", b"C A"), 1).line == 4
     assert {row[0] for row in rows} | {10} == {int(r) for r in jabulghi.Refusal}
@@ -191,7 +191,10 @@ def kept():
     growing.append(1)  # nothing is held after a call
     total = Generator(SEEDS)
     threads = [threading.Thread(target=lambda: [total.block(20000) for _ in range(100)]) for _ in range(4)]
-    [t.start() for t in threads], [t.join() for t in threads]
+    for thread in threads:
+        thread.start()
+    for thread in threads:
+        thread.join()
     after = Generator(SEEDS)
     after.skip(4 * 100 * 10000)
     assert total == after
@@ -199,14 +202,14 @@ def kept():
 
 def beside(count):
     """Random calls through the package and straight through the C interface: numbers, records and samples are the same."""
-    numbers, seen = random.Random(1996), {}
+    numbers, seen = random.Random(1996), dict[tuple[str, int], int]()
     raw = (ctypes.c_uint32 * 10)(*SEEDS, 0, 0, 0, 0)
     ours = Generator(SEEDS)
     names = ["pair", "pair18", "block", "block18", "look", "look18", "take", "take18", "skip", "ask", "give_up"]
     for done in range(count):
         if done % 1000 == 0:  # another record, of any kind
             unfit = numbers.randrange(48)
-            words = (
+            words: list = (
                 [1 if j == unfit else numbers.randrange(16, 2**32) for j in range(6)]
                 + numbers.choice(([0, 0], [2**32 - 9, 2**32 - 1], [5, 7]))
                 + numbers.choice(([0, 0], [1, 3]))
@@ -247,6 +250,6 @@ misuse()
 kept()
 beside(calls)
 print(
-    f"Python {'with numpy ' + numpy.__version__ if numpy else 'without numpy'}: {len(jabulghi._CALLS)} calls bound, {rows} refusals, margins, "
+    f"Python {'with numpy ' + numpy.__version__ if numpy else 'without numpy'}: {len(jabulghi.CALLS)} calls bound, {rows} refusals, margins, "
     f"misuse, threads; {calls} random calls as through the C interface"
 )

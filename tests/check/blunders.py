@@ -33,7 +33,23 @@ class Suspect:
     remains: float = 0.0
 
 
-def tape_corrections(leg: Leg, v: Array) -> Iterator[tuple[str, float, Array]]:
+class Lengths:
+    """How long the legs of a cave are, by a Gaussian distribution of their logarithms."""
+
+    def __init__(self, legs: list[Leg]) -> None:
+        logs = numpy.log([leg.length for leg in legs if leg.length > 0])
+        self.mean, self.sd = float(logs.mean()), max(float(logs.std()), 0.3)
+
+    def density(self, x: float) -> float:
+        return math.exp(-(((math.log(x) - self.mean) / self.sd) ** 2) / 2) / x if x > 0 else 0.0
+
+    def likelier(self, leg: Leg, length: float) -> float:
+        """How much likelier a length is than the leg's own."""
+        own = self.density(leg.length)
+        return min(max(self.density(length) / own, 0.1), 10.0) if leg.length > 0 else 1.0
+
+
+def tape_corrections(leg: Leg, v: Array, lengths: Lengths) -> Iterator[tuple[str, float, Array]]:
     """Distances changed in the tape, and in the backtape with it."""
     tapes = [r for r in leg.numbers if r.what in ("tape", "backtape")]
     by_written = [("decimal place", 1, f) for f in (10, 0.1)] + [("feet", 1, f) for f in (0.3048, 1 / 0.3048)]
@@ -41,7 +57,7 @@ def tape_corrections(leg: Leg, v: Array) -> Iterator[tuple[str, float, Array]]:
     changes += [(name, w, {r.what: r.corrected(float(r.text) * f) for r in tapes}) for name, w, f in by_written]
     for name, weight, changed in changes:
         if all(value > 0 for value in changed.values()):
-            yield name, weight, leg.vector(changed) - v
+            yield name, weight * lengths.likelier(leg, leg.length_with(changed)), leg.vector(changed) - v
 
 
 def rewritten(text: str) -> Iterator[tuple[str, float, str]]:
@@ -62,8 +78,8 @@ def allowed(r: Reading, text: str) -> bool:
     return 0 <= written <= 360 if r.what.endswith("compass") else -90 <= written <= 90
 
 
-def known(leg: Leg, v: Array) -> Iterator[tuple[str, float, Array]]:
-    yield from tape_corrections(leg, v)
+def known(leg: Leg, v: Array, lengths: Lengths) -> Iterator[tuple[str, float, Array]]:
+    yield from tape_corrections(leg, v, lengths)
     for angle, weight in TURNS.items():
         for sign in (1, -1):
             yield "bearing", weight, turns(v, sign * angle)
@@ -71,19 +87,24 @@ def known(leg: Leg, v: Array) -> Iterator[tuple[str, float, Array]]:
     for r in leg.numbers:
         for name, share, text in rewritten(r.text):
             if allowed(r, text):
-                yield name, share, leg.vector({r.what: r.corrected(float(text))}) - v
+                changed = {r.what: r.corrected(float(text))}
+                likelier = lengths.likelier(leg, leg.length_with(changed))
+                yield name, share * likelier, leg.vector(changed) - v
 
 
 def gain(g: Array, H: Array, d: Array) -> float:
     return float(-(2 * d @ g + d @ H @ d))
 
 
-def another_distance(v: Array, g: Array, H: Array, k: float) -> Hypothesis:
+def another_distance(leg: Leg, lengths: Lengths, v: Array, g: Array, H: Array, k: float) -> Hypothesis:
     P = math.hypot(*v)
     e = v / P
     curve = float(e @ H @ e)
     x = max(float(-(e @ g)) / curve, -P)
-    mass = math.log(4 / (2 + abs(x)) ** 2) + gain(g, H, x * e) / (2 * k) + math.log(2 * math.pi * k / curve) / 2
+    likelier = lengths.likelier(leg, leg.length * (P + x) / P)
+    mass = (
+        math.log(4 * likelier / (2 + abs(x)) ** 2) + gain(g, H, x * e) / (2 * k) + math.log(2 * math.pi * k / curve) / 2
+    )
     return Hypothesis("another distance", mass, x * e)
 
 
@@ -116,32 +137,35 @@ def log_sum(logs: Any) -> float:
     return float(most + math.log(numpy.exp(numpy.array(logs) - most).sum()))
 
 
-def hypotheses(cave: Cave, j: int, g: Array, H: Array, k: float) -> list[Hypothesis]:
+def hypotheses(cave: Cave, lengths: Lengths, j: int, g: Array, H: Array, k: float) -> list[Hypothesis]:
     edge, v = cave.edges[j], cave.v[j]
     if edge.kind != "leg":
         return [free({"equate": "equated wrongly", "fix": "fixed wrongly"}[edge.kind], 4, g, H, k)]
     leg = cave.survey.legs[edge.leg]
-    moves = [(name, w, d) for name, w, d in known(leg, v) if math.hypot(*d) >= LEAST_MOVE]
+    moves = [(name, w, d) for name, w, d in known(leg, v, lengths) if math.hypot(*d) >= LEAST_MOVE]
     found = [Hypothesis(name, math.log(w) + gain(g, H, d) / (2 * k), d) for name, w, d in moves]
-    return found + ([another_distance(v, g, H, k), another_bearing(v, g, H, k)] if math.hypot(*v) > 0 else [])
+    return found + (
+        [another_distance(leg, lengths, v, g, H, k), another_bearing(v, g, H, k)] if math.hypot(*v) > 0 else []
+    )
 
 
 def unsureness(cave: Cave) -> float:
     """How much larger the errors look than they are said to be, without the edge that explains most."""
     n = 2 * len(cave.loops)
-    return max(1.0, (cave.Q - cave.t) / (n - 2)) if n > 2 else 1.0
+    return max(1.0, (cave.Q - cave.most_gain) / (n - 2)) if n > 2 else 1.0
 
 
 def suspects(cave: Cave) -> list[Suspect]:
     """All edges and passages by their share, the largest first."""
     gradients = cave.gradients(cave.u[None])[0]
     k = unsureness(cave)
+    lengths = Lengths(cave.survey.legs)
     rows = []
     for p, passage in enumerate(cave.passages):
         H = cave.H[p]
         for j in passage:
             sign = 1 if numpy.array_equal(cave.B[:, j], cave.columns[p]) else -1
-            rows.append((j, p, hypotheses(cave, j, sign * gradients[p], H, k)))
+            rows.append((j, p, hypotheses(cave, lengths, j, sign * gradients[p], H, k)))
         if any(cave.edges[j].kind == "leg" for j in passage):
             rows.append((-1, p, [free("left out", 3, gradients[p], H, k)]))
     masses = [log_sum([h.log_mass for h in row[2]]) if row[2] else -math.inf for row in rows]

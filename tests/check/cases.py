@@ -1,6 +1,7 @@
 """`jabulghi check` on made surveys: beside the other implementation, at its limits, with bad input. cases.py COMMAND"""
 
 import json
+import math
 import os
 import subprocess
 import sys
@@ -101,6 +102,18 @@ def sizes_and_blunders() -> Iterator[Case]:
     yield "5 loops, coarse and steep, 2 m", book(5, "2m", (1, 0, 0), steep=45.0).text(), {}
 
 
+SAME_LENGTH = """*data normal from to tape compass clino
+a b 10.00 0 0
+b c 10.05 90 0
+c d 10.00 180 0
+d e 10.05 90 0
+e f 10.00 0 0
+f a 10.00 270 0
+f g 10.00 90 0
+g b 11.00 270 0
+"""
+
+
 def other_surveys() -> Iterator[Case]:
     yield "backsights", with_backsights(book(6, "5m")), {}
     yield "feet and corrections", in_feet(book(5, "10m")), {}
@@ -110,6 +123,7 @@ def other_surveys() -> Iterator[Case]:
     yield "fixed wrongly", with_fixes(book(3), 30, "0.5 0.4 1"), {}
     yield "plumbed legs", with_plumbs(4), {}
     yield "Survex's defaults", book(5, "10m").text({}), {}
+    yield "legs of one length", SAME_LENGTH, {}
 
 
 def other_errors() -> Iterator[Case]:
@@ -251,6 +265,124 @@ def threads_and_parts() -> str:
     return "threads and parts make no difference"
 
 
+def holds(what: str, said: str, *words: str) -> None:
+    for word in words:
+        if word not in said:
+            raise Differs(f"{what}: '{word}' is not said: {said}")
+
+
+def verdicts(text: str, *words: str) -> tuple[str, Any]:
+    """What is said of a survey, and what JSON tells of it, with the same seeds."""
+    words = ("--seeds", SEEDS, *words)
+    return run("-", *words, text=text).stdout, json.loads(run("-", "--json", *words, text=text).stdout)
+
+
+def percent(share: float) -> str:
+    return f"{100 * share:.2g} %" if share < 0.0995 else f"{100 * share:.0f} %"
+
+
+def told_of_suspects() -> None:
+    """Printed are ten at most, and all but the first have 1 % or more; what remains decides the last sentence."""
+    several = 0
+    for loops, kinds in ((10, ["180deg"]), (10, ["10m", "180deg", "180deg"]), (24, ["10m", "100deg", "180deg"])):
+        b = book(loops)
+        for kind in kinds:
+            caves.blunder(RNG, b, kind)
+        said, told = verdicts(b.text())
+        shown = [s for j, s in enumerate(told["suspects"][:10]) if j == 0 or s["share"] >= 0.01]
+        rows = said.split("Look at these legs first:\n")[1].split("\n")
+        for j, s in enumerate(shown):
+            sure = "Over 99 %" if s["share"] >= 0.995 else percent(s["share"])
+            holds("a suspect", rows[2 * j], f"standard input:{s['line']}  {s['from']} - {s['to']}", s["blunder"])
+            holds("a suspect", rows[2 * j + 1], f"{sure} sure. Corrected, {percent(s['remains'])} of sound caves")
+        same("suspects printed", said.count(" would explain "), len(shown))
+        well = sum(s["remains"] >= 0.05 for s in shown)
+        same("suspects that explain all", said.count(" would explain it."), well)
+        first = told["suspects"][0]
+        several += first["remains"] < 0.05
+        same("several blunders", "there are several blunders" in said, first["remains"] < 0.05)
+        same("other corrections", "make the cave sound, too" in said, first["remains"] >= 0.05 and first["others"] > 0)
+    same("caves of several blunders", several > 0, True)
+
+
+def told_of_loops() -> None:
+    """The worst bad loops first, five at most, and all with --loops; a p below 0.001 is said so, and given by JSON."""
+    b = book(30)
+    for _ in range(12):
+        caves.blunder(RNG, b, "180deg")
+    said, told = verdicts(b.text())
+    bad = sorted((r["q"], j + 1) for j, r in enumerate(told["loops"]) if not r["sound"])[::-1]
+    rows = [line for line in said.split("\n") if "  bad   " in line]
+    same("bad loops", [int(row.split()[0]) for row in rows], [number for _, number in bad[:5]])
+    holds("loops", said, f"Loops: {30 - len(bad)} of 30 are sound", f"and {len(bad) - 5} more. --loops lists them all.")
+    every = run("-", "--seeds", SEEDS, "--loops", text=b.text()).stdout
+    table = [line.split() for line in every.split(" loop  legs ")[1].split("\n")[1:31]]
+    for number, (row, loop) in enumerate(zip(table, told["loops"]), 1):
+        far = math.hypot(loop["east_mm"], loop["north_mm"]) / 1000
+        p = "<0.001" if loop["p"] < 0.001 else f"{loop['p']:.2g}"
+        wanted = [str(number), str(loop["legs"]), f"{loop['length_m']:.1f}", f"{far:.2f}"]
+        wanted += [f"{100 * far / loop['length_m']:.2f}"]
+        same(f"row of loop {number}", row[:5] + row[7:8], wanted + [p])
+    same("p below 0.001", "<0.001" in every and all(loop["p"] >= 0 for loop in told["loops"]), True)
+
+
+def sentences() -> str:
+    """What the answer says in words is what JSON tells."""
+    told_of_suspects()
+    told_of_loops()
+    said, told = verdicts(book(3).text(), "--sigma", "tape=1.5mm,station=1cm,compass=0.25deg")
+    holds(
+        "errors",
+        said,
+        "tape 1.5 mm (--sigma), compass 0.25 degrees (--sigma)",
+        "clino 0.5 degrees (*sd), stations 10 mm",
+    )
+    same("sigma", [told["sigma"][n]["high"] for n in ("tape_mm", "station_mm")], [1.5, 10])
+    holds("errors", verdicts(book(3).text({}))[0], "(from Survex's defaults; --sigma replaces them)")
+    said, told = verdicts(book(3).text())
+    lost = told["legs_in_no_loop"]
+    holds(
+        "a cave",
+        said,
+        f"{told['legs']} legs",
+        f"{lost} of {told['legs']} legs {'is' if lost == 1 else 'are'} in no loop",
+    )
+    holds("a cave", said, "Plan only: heights are not judged. The noise is proved, the check is not.", "(from *sd; ")
+    holds("seeds", said, "(seeds (a 3141592653 2718281828 1618033988) (b 1414213562 1732050807 2236067977))")
+    half = sorted(row["distance_m"] for row in told["would_show"])[len(told["would_show"]) // 2]
+    holds("what would show", said, f"A blunder of {half:.{1 if half < 9.95 else 0}f} m")
+    fit = [f"{told['station_mm'][n]:.0f}" for n in ("value", "low", "high")]
+    if told["factor"]["low"] <= 1 <= told["factor"]["high"]:
+        holds("errors that fit", said, f"best would be {fit[0]} mm a station ({fit[1]} to {fit[2]})")
+    few, told = verdicts(book(8).text(), "--sigma", "tape=1mm,compass=0.1deg,clino=0.1deg,station=2mm")
+    fit = [f"{told['station_mm'][n]:.0f}" for n in ("value", "low", "high")]
+    holds("errors too small", few, f"Your loops fit {fit[0]} mm a station ({fit[1]} to {fit[2]}), not 2, or all errors")
+    return "the sentences say what JSON tells"
+
+
+def jobs_and_listings() -> str:
+    """A job, its listing and the same legs as a survey: one verdict with the same errors and seeds."""
+    legs = [("A", "B", 12345, 0), ("B", "C", 20000, 16384), ("C", "D", 12300, 32768), ("D", "A", 20090, 49152)]
+    shots = "".join(f"{a} {b} {d} {w}\n" for a, b, d, w in legs)
+    listed = "".join(f"(shot {a} {b} {d} {w})\n" for a, b, d, w in legs)
+    seeds = "(seeds (a {} {} {}) (b {} {} {}))\n".format(*SEEDS.split(","))
+    units = "*units tape 0.001 metres\n*units compass 0.0054931640625 degrees\n*data normal from to tape compass\n"
+    with open("a.job", "w") as file:
+        file.write(seeds + "(sigma 4 91)\n" + listed)
+    listing = subprocess.run([COMMAND, "list", "a.job"], capture_output=True, text=True)
+    sigma = "tape=4mm,compass=91steps,clino=0deg,station=0mm"
+    if listing.returncode != 0:
+        raise Differs(f"the job has no listing: {listing.stderr}")
+    job = json.loads(run("a.job", "--json").stdout)
+    survey = json.loads(run("-", "--seeds", SEEDS, "--sigma", sigma, "--json", text=units + shots).stdout)
+    for name in ("p", "sound", "legs", "statistic", "seeds", "played", "legs_in_no_loop"):
+        same(f"a job: {name}", job[name], survey[name])
+    same("a job's sigma", job["sigma"]["tape_mm"]["from"], "the job")
+    read = json.loads(run("-", "--sigma", sigma, "--json", text=listing.stdout).stdout)
+    same("a listing's legs", (read["legs"], len(read["loops"])), (4, 1))
+    return "jobs and listings are judged as the same legs of a survey"
+
+
 def pictures() -> str:
     for name, text in (
         ("sound", book(10).text()),
@@ -362,6 +494,8 @@ def main() -> None:
             at_five_percent,
             closing_too_well,
             threads_and_parts,
+            sentences,
+            jobs_and_listings,
             pictures,
             bad_input,
             strange_surveys,

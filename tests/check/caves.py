@@ -34,7 +34,8 @@ def made(rng: Array, loops: int, most_legs: int = 8, steep: float = 20.0, branch
     for _ in range(loops - 1):
         names = list(places)
         start = names[rng.integers(len(names))]
-        far = [n for n in names if n != start and 8 < numpy.linalg.norm(places[n] - places[start]) < 90]
+        away = numpy.linalg.norm(numpy.array(list(places.values())) - places[start], axis=1)
+        far = [n for n, metres in zip(names, away) if 8 < metres < 90]
         passage(rng, places, legs, start, far[rng.integers(len(far))], int(rng.integers(2, most_legs + 1)), steep)
     inside = list(range(len(legs)))
     for _ in range(branches):
@@ -68,30 +69,27 @@ def passage(
 
 
 def real(path: str) -> Geometry:
-    """The plan of a survey as Survex's cavern adjusts it, which closes; stations within 5 cm of each other in plan are one."""
+    """The plan of a survey as Survex's cavern adjusts it, which closes. Stations are moved by some centimetres, so that plumbed legs have a length in plan."""
     with tempfile.TemporaryDirectory() as room:
         out = os.path.join(room, "cave.3d")
         subprocess.run(["cavern", "-q", "-s", "-o", out, path], check=True, capture_output=True)
         text = subprocess.run(["dump3d", out], check=True, capture_output=True, text=True).stdout
     lines = [line.split() for line in text.split("\n") if line]
-    same = {tuple(words[1:4]): tuple(words[1:4]) for words in lines if words[0] == "NODE"}
-
-    def one(at: tuple[str, ...]) -> tuple[str, ...]:
-        while same[at] != at:
-            at = same[at]
-        return at
+    rng = numpy.random.default_rng(1)
 
     def place(at: tuple[str, ...]) -> Array:
-        return numpy.array([float(at[0]), float(at[1]), 0.0])
+        return numpy.array([float(at[0]), float(at[1]), 0.0]) + rng.normal(0, 0.03, 3) * numpy.array([1.0, 1.0, 0.0])
 
     shots = [(tuple(a[1:4]), tuple(b[1:4])) for a, b in zip(lines, lines[1:]) if b[0] == "LINE" and "SPLAY" not in b]
-    for a, b in shots:
-        if numpy.linalg.norm(place(a) - place(b)) < 0.05:
-            same[one(a)] = one(b)
-    ends = [(one(a), one(b)) for a, b in shots if one(a) != one(b)]
+    ends = [(a, b) for a, b in shots if a != b]
     names = {at: f"s{j}" for j, at in enumerate(dict.fromkeys(at for pair in ends for at in pair))}
     legs = [(names[a], names[b]) for a, b in ends]
     return Geometry({name: place(at) for at, name in names.items()}, legs, bridgeless(legs))
+
+
+def in_loops(geometry: Geometry) -> Geometry:
+    legs = [geometry.legs[j] for j in geometry.in_loop]
+    return Geometry(geometry.places, legs, list(range(len(legs))))
 
 
 def bridgeless(legs: list[tuple[str, str]]) -> list[int]:

@@ -276,7 +276,9 @@ class Cave:
         parts = self.inverse.reshape(L, 2, L, 2)
         self.H = numpy.einsum("pr,ranb,pn->pab", self.columns, parts, self.columns, optimize=True)
         self.H_inverse = numpy.linalg.inv(self.H)
+        self.chances = 2 * numpy.log([len(p) for p in self.passages])
         self.t = float(self.statistic(self.u[None])[0])
+        self.most_gain = float(self.gains(self.u[None]).max())
 
     def gradients(self, u: Array) -> Array:
         """g of each passage, for many u at once."""
@@ -287,7 +289,7 @@ class Cave:
         return numpy.einsum("kpa,pab,kpb->kp", g, self.H_inverse, g, optimize=True)
 
     def statistic(self, u: Array) -> Array:
-        return self.gains(u).max(1)
+        return (self.gains(u) + self.chances).max(1)
 
     def loop_sizes(self, m: Array) -> Array:
         """q of each loop, for many m at once."""
@@ -364,7 +366,7 @@ class Cave:
         return {
             "factor": [math.sqrt(self.Q / x) for x in (n, low, high)],
             "station": [self.station_error(x) for x in (n, low, high)],
-            "without": math.sqrt((self.Q - self.t) / (n - 2)) if n > 2 else None,
+            "without": math.sqrt((self.Q - self.most_gain) / (n - 2)) if n > 2 else None,
         }
 
     def closes_too_well(self) -> bool:
@@ -376,9 +378,10 @@ class Cave:
 
     def smallest(self) -> dict[int, tuple[float, float | None]]:
         """For each leg the smallest blunder of distance (m) and bearing (degrees) that would have shown."""
-        size = farther(self.limit())
+        sizes = {len(p): farther(self.limit() - 2 * math.log(len(p))) for p in self.passages}
         found: dict[int, tuple[float, float | None]] = {}
         for p, passage in enumerate(self.passages):
+            size = sizes[len(passage)]
             for j in passage:
                 P = math.hypot(*self.v[j])
                 if self.edges[j].kind == "leg" and P > 0:

@@ -78,11 +78,15 @@ class Leg:
         bearing = numpy.radians(mean_bearing(v) + self.declination)
         return numpy.array([plan * numpy.sin(bearing), plan * numpy.cos(bearing)])
 
-    @property
-    def length(self) -> float:
-        v = self.values
+    def length_with(self, changed: dict[str, Any]) -> float:
+        """The tape with other values for some readings."""
+        v = {**self.values, **changed}
         both = [v[name] for name in ("tape", "backtape") if name in v]
         return float(sum(both) / len(both))
+
+    @property
+    def length(self) -> float:
+        return self.length_with({})
 
 
 def mean_bearing(v: dict[str, Any]) -> Any:

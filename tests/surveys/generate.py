@@ -139,7 +139,8 @@ class Cave:
             )
             return
         if style == 'nosurvey':
-            own, shared = [], []
+            own: list[str] = []
+            shared: list[str] = []
         elif style == 'cartesian':
             own, shared = ['dx', 'dy', 'dz'], []
         else:

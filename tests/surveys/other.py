@@ -104,10 +104,11 @@ class Refused(Exception):
 
 class Settings:
     def __init__(self):
-        self.prefix, self.signs, self.case, self.truncate = (), dict(SIGNS), 'tolower', None
+        self.prefix: tuple[str, ...] = ()
+        self.signs, self.case, self.truncate = dict(SIGNS), 'tolower', None
         self.flags, self.plumbs, self.equates = set(), False, False
-        self.unit = {q: (1, 'number') for q in QUANTITIES.values()}
-        self.calibration = {q: (0, 1) for q in QUANTITIES.values()}
+        self.unit = {q: (1.0, 'number') for q in QUANTITIES.values()}
+        self.calibration = {q: (0.0, 1.0) for q in QUANTITIES.values()}
         self.sd = {q: 0.25 if q in ('level', 'plumb') else 0.5 if q in ANGLES else 0.05 for q in QUANTITIES.values()}
         self.declination, self.style, self.order, self.system = (
             0.0,
@@ -134,6 +135,7 @@ class Reader:
         self.now, self.scopes, self.names, self.same = Settings(), [], {}, {}
         self.legs, self.equated, self.fixes, self.sights, self.bad = [], [], {}, [], []
         self.out, self.nowhere, self.open, self.run = '', False, [], None
+        self.depths = [0]
 
     # ---- signs, words and numbers
     def has(self, sign, use):
@@ -174,8 +176,8 @@ class Reader:
             if not label or not all(s.isascii() and s.isalnum() or s > '\x7f' or self.has(s, 'names') for s in label):
                 raise Refused
             label = label[: self.now.truncate]
-            key = {'tolower': lower, 'toupper': upper, 'preserve': str}[self.now.case](label)
-            prefix += (key,)
+            changed = {'tolower': lower(label), 'toupper': upper(label), 'preserve': label}
+            prefix += (changed[self.now.case],)
             self.names.setdefault(prefix, label)
             if sum(len(k) + 1 for k in prefix) - 1 > 1000:
                 raise Refused
@@ -245,9 +247,8 @@ class Reader:
     # ---- commands
     def do_begin(self, words, line):
         inside = copy.copy(self.now)
-        inside.signs, inside.flags, inside.unit, inside.calibration, inside.sd = (
-            type(x)(x) for x in (self.now.signs, self.now.flags, self.now.unit, self.now.calibration, self.now.sd)
-        )
+        inside.signs, inside.flags, inside.unit = dict(self.now.signs), set(self.now.flags), dict(self.now.unit)
+        inside.calibration, inside.sd = dict(self.now.calibration), dict(self.now.sd)
         self.scopes.append((self.now, words[0] if words else '', self.line))
         outside, self.now = self.now, inside
         if words:
@@ -324,11 +325,7 @@ class Reader:
         rest = line[line.lower().index('set') + 3 :]
         rest = rest[rest.lower().index(lower(words[0])) + len(words[0]) :]
         rest = rest.lstrip(self.now.signs['blank'])
-        word = (
-            re.match('[^' + re.escape(self.now.signs['blank']) + ']*', rest).group()
-            if self.now.signs['blank']
-            else rest
-        )
+        word = re.split('[' + re.escape(self.now.signs['blank']) + ']', rest)[0] if self.now.signs['blank'] else rest
         signs = re.sub(r'[xX]([0-9a-fA-F]{2})', lambda found: chr(int(found[1], 16)), word)
         if any(s.isascii() and s.isalnum() for s in signs):
             raise Refused
@@ -382,7 +379,7 @@ class Reader:
 
     def do_calibrate(self, words, line):
         if words and lower(words[0]) == 'default':
-            self.now.calibration, self.now.declination = {q: (0, 1) for q in self.now.calibration}, 0.0
+            self.now.calibration, self.now.declination = {q: (0.0, 1.0) for q in self.now.calibration}, 0.0
             return
         quantities = self.quantities(words)
         if {'level', 'plumb', 'position'} & set(quantities) or len({q in ANGLES for q in quantities}) > 1 or not words:
@@ -446,7 +443,7 @@ class Reader:
     def do_data(self, words, line):
         if not words:
             return
-        style, fields = lower(words[0]), []
+        style, fields = lower(words[0]), list[str]()
         if style == 'default':
             self.now.style, self.now.order = 'normal', ['from', 'to', 'tape', 'compass', 'clino']
         elif style in ('passage', 'ignore'):
@@ -801,7 +798,6 @@ def upper(word):
 
 def read(path):
     reader = Reader()
-    reader.depths = [0]
     with open(path, encoding='latin-1', newline='') as file:
         reader.read(path, file.read())
     return reader

@@ -3,7 +3,7 @@
 import assert from 'node:assert/strict';
 import { readFileSync } from 'node:fs';
 
-const MARK = 0xa5, STACK = 32768, ROOM = 4 * 65536; // the stack has the memory's first bytes
+const MARK = 0xa5, STACK = 262144, ROOM = 4 * 65536; // the stack has the memory's first bytes
 // The calls that leave every byte as it was where they are refused. The others then write zeros, or a line and a length.
 const STILL = /^(block|look|take|skip|ask|give_up|marks_)/;
 

@@ -186,7 +186,7 @@ def drawn_with(folder, seeds):
     return {
         'samples': n,
         'moments': four,
-        'largest': max(map(abs, counts)),
+        'largest': max(abs(value) for value in counts),
         'tails': beyond,
         'zero': counts[0],
         'tests': tests_of(counts),
@@ -245,7 +245,8 @@ def within(counts, plays, share):
 
 
 def played(path):
-    counts, points = {'distance': {}, 'ellipse': {}}, {'first': [], 'far': []}
+    counts: dict[str, dict[int, int]] = {'distance': {}, 'ellipse': {}}
+    points: dict[str, list] = {'first': [], 'far': []}
     for name, *numbers in rows(path):
         numbers = [int(each) for each in numbers]
         if name in counts:
@@ -305,7 +306,7 @@ def wasm(folder):
 
 def memory(folder):
     """Of the archive and its code, and the stack of each call, in bytes. A call that is measured twice counts by the larger."""
-    stack = {}
+    stack: dict[str, int] = {}
     for line in rows(f'{folder}/stack.txt'):
         name, taken = line[0].split()
         stack[name] = max(int(taken), stack.get(name, 0))

@@ -43,7 +43,7 @@ def normal_at(s):
 def noises(sigma):
     """Probabilities of the noise in whole mm or steps: sigma × |sample| / 2048 to the nearest, halves away from zero (document 01), the sample being a normal number
     that is rounded to units."""
-    found = {}
+    found: dict[int, float] = {}
     for s in range(LARGEST + 1):
         noise = (sigma * s + UNITS // 2) // UNITS
         for signed in (noise, -noise) if s else (noise,):

@@ -67,7 +67,7 @@ def pages_of(path):
 def main(sheet, path):
     with open(sheet, encoding='utf-8') as file:
         text = file.read()
-    title = re.search(r'^# (.*)$', text, re.M).group(1)
+    title = next(line[2:] for line in text.split('\n') if line.startswith('# '))
     folder = os.path.dirname(os.path.abspath(sheet))
     page = (
         f'<!doctype html><meta charset="utf-8"><base href="file://{folder}/"><title>{html.escape(title)}</title><style>{STYLE}</style>'

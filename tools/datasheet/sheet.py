@@ -93,7 +93,7 @@ def other_rows():
 def variance(name):
     """The bounds of the variance, in σ², of specs/."""
     text = (tail_rows.CRATES / 'tails' / 'specs' / 'Variances.antt').read_text(encoding='utf-8')
-    return ' to '.join(f'{int(n) / 100000:g}' for n in re.search(rf'^{name} = \((\w+), (\w+)\)$', text, re.M).groups())
+    return ' to '.join(f'{int(n) / 100000:g}' for n in tail_rows.sought(rf'^{name} = \((\w+), (\w+)\)$', text).groups())
 
 
 # ---- the distribution
@@ -258,7 +258,7 @@ def stacks():
         for name, taken in numbers['memory']['stack'].items()
         if not (name.endswith('18') and taken <= numbers['memory']['stack'][name[:-2]])
     }
-    groups = {}
+    groups: dict[int, list[str]] = {}
     for name, taken in sorted(stack.items(), key=lambda each: (each[1], each[0])):
         groups.setdefault(taken, []).append(f'`{name}`')
     return '; '.join(f'{", ".join(names)} {plain(taken)}' for taken, names in groups.items())
@@ -433,7 +433,7 @@ def of_speed_and_seeds():
         'processors': processors,
         'stacks': stacks(),
         'firsts': firsts,
-        'engines': ', '.join(re.match(r'\D*[\d.]+', engine).group() for engine in numbers['wasm']['engines']),
+        'engines': ', '.join(tail_rows.sought(r'^\D*[\d.]+', engine).group() for engine in numbers['wasm']['engines']),
         'small-first': f'{seeds["small"]["squares"][0]:.1f}',
         'common-b': both('{:.3f}', [each[0] for each in seeds['common']['b']]),
         'common-a': both('{:.3f}', [each[1] for each in seeds['common']['a']]),
@@ -466,7 +466,7 @@ def claims():
 
 def version():
     with open('include/jabulghi.h', encoding='utf-8') as file:
-        return re.search(r'^#define JABULGHI_VERSION "(.*)"$', file.read(), re.M).group(1)
+        return tail_rows.sought(r'^#define JABULGHI_VERSION "(.*)"$', file.read())[1]
 
 
 def filled():

@@ -1,4 +1,4 @@
-"""Gaussian noise for simulated survey instruments: the calls of libjabulghi.
+"""Proved Gaussian noise for simulated survey instruments, and a judge of cave surveys.
 
 >>> import jabulghi
 >>> rig = jabulghi.Generator((3770694558, 3532774216, 2901327257, 4093209576, 2137023497, 2889436789))
@@ -7,31 +7,71 @@
 >>> rig.count
 2
 
+`check` says whether a cave is sound, `tolerance` how one loop compares; both are the command's own sources, and not proved. The rest are the calls of libjabulghi.
+
 A sample s is s / 2048 standard deviations; of 18 bits, s / 8192. Each call does what jabulghi.h says of it. A refusal is raised as Refused, and leaves
 generator, marks and buffers as they were; an unfit window becomes zeros.
 """
 import ctypes
 import operator
-import os
 import threading
 from array import array
-from typing import Any, NamedTuple, Sequence, SupportsIndex, Tuple, Union
+from typing import (
+    TYPE_CHECKING,
+    List,
+    NamedTuple,
+    Optional,
+    Sequence,
+    SupportsIndex,
+    Tuple,
+    Type,
+    TypeVar,
+    Union,
+    cast,
+)
 
+from ._library import CALLS, library
+from .judging import (
+    Candidate,
+    Estimate,
+    Loop,
+    Message,
+    NotJudged,
+    Sigma,
+    Suspect,
+    Tolerance,
+    Verdict,
+    check,
+    seeds,
+    tolerance,
+)
 from .refusals import LISTING_ROOM, MOST_ASKED, VERSION, WORDS, Refusal
 
 try:
     import numpy
 except ImportError:
     numpy = None  # type: ignore[assignment]
+if TYPE_CHECKING:
+    from numpy.typing import NDArray
 
 __all__ = [
+    "Candidate",
+    "Estimate",
     "Generator",
     "Intervals",
+    "Loop",
     "Marks",
+    "Message",
     "Miss",
+    "NotJudged",
     "Refusal",
     "Refused",
+    "Sigma",
+    "Suspect",
+    "Tolerance",
+    "Verdict",
     "Window",
+    "check",
     "intervals",
     "legs",
     "list_job",
@@ -39,9 +79,13 @@ __all__ = [
     "play",
     "sample",
     "sample18",
+    "seeds",
+    "tolerance",
 ]
 __version__ = VERSION
 Text = Union[str, bytes, bytearray, memoryview]
+Buffer = Union["array[int]", bytearray, memoryview, "NDArray[numpy.int16]", "NDArray[numpy.int32]"]
+Misses = Union[List[Tuple[int, int]], "NDArray[numpy.int64]"]
 
 
 class Refused(ValueError):
@@ -51,7 +95,7 @@ class Refused(ValueError):
         self.number, self.line, self.sentence = Refusal(number), line, WORDS[number]
         super().__init__(f"{f'line {line}: ' if line else ''}{self.sentence} ({number})")
 
-    def __reduce__(self) -> Tuple[Any, ...]:
+    def __reduce__(self) -> Tuple[Type["Refused"], Tuple[int, int]]:
         return Refused, (int(self.number), self.line)
 
 
@@ -85,54 +129,15 @@ class _Marks(ctypes.Structure):
     ]
 
 
-_P, _SIZE, _U32, _U64 = ctypes.c_void_p, ctypes.c_size_t, ctypes.c_uint32, ctypes.c_uint64
-_FILL, _LINES, _SUMS = [_P, _P, _SIZE], [_P, _SIZE, _P, _SIZE, _P, _P], [_P, _SIZE, _P, _P, _P]
-_CALLS = {
-    "seed": [_U32] * 6 + [_P],
-    "skip": [_P, _U64],
-    "ask": [_P, _U32],
-    "give_up": [_P],
-    "sample": [_U64, _U32, _P],
-    "pair": [_P, _P],
-    "block": _FILL,
-    "look": _FILL,
-    "take": _FILL,
-    "sample18": [_U64, _U32, _P],
-    "pair18": [_P, _P],
-    "block18": _FILL,
-    "look18": _FILL,
-    "take18": _FILL,
-    "list": _LINES,
-    "legs": _LINES,
-    "misclosure": _SUMS,
-    "intervals": _SUMS,
-    "play": [_P, _SIZE, _U64, _P, _SIZE, _P],
-    "window_make_members": [_P] * 6 + [_U32],
-    "window_push_members": [_P] * 6 + [ctypes.c_int16],
-    "window_push_all_members": [_P] * 7 + [_SIZE],
-    "marks_save_members": [_P] * 6 + [_SIZE],
-    "marks_return_members": [_P] * 6 + [_SIZE],
-    "marks_drop_members": [_P] * 5 + [_SIZE],
-}
+_SIZE, _U32 = ctypes.c_size_t, ctypes.c_uint32
 
 
-def _load() -> Any:
-    """The library of JABULGHI_LIBRARY, else the one in this folder, else the system's."""
-    beside = os.path.join(os.path.dirname(__file__), "libjabulghi.so")
-    library = ctypes.CDLL(
-        os.environ.get("JABULGHI_LIBRARY") or (beside if os.path.exists(beside) else "libjabulghi.so.1")
-    )
-    for name, types in _CALLS.items():
-        call = getattr(library, "jabulghi_" + name)
-        call.argtypes, call.restype = types, _U32
-    return library
+_Line = Union[ctypes.c_uint32, ctypes.c_size_t]
+_Sample = Union[Type[ctypes.c_int16], Type[ctypes.c_int32]]
 
 
-_library = _load()
-
-
-def _call(name: str, *values: Any, line: Any = None) -> None:
-    number = getattr(_library, "jabulghi_" + name)(*values)
+def _call(name: str, *values: object, line: Optional[_Line] = None) -> None:
+    number = getattr(library, "jabulghi_" + name)(*values)
     if number:
         raise Refused(number, line.value if line is not None else 0)
 
@@ -157,15 +162,15 @@ def _bytes(text: Text) -> bytes:
     return text.encode() if isinstance(text, str) else memoryview(text).tobytes()
 
 
-def _samples_of(buffer: Any, size: int) -> memoryview:
+def _samples_of(buffer: Buffer, size: int) -> memoryview:
     """A buffer of numbers of so many bytes, in this machine's order."""
-    view = memoryview(buffer)
+    view = memoryview(cast(bytes, buffer))
     if view.itemsize != size or view.format.lstrip("@=<^") not in (("h",) if size == 2 else ("i", "l")):
         raise TypeError(f"samples are signed numbers of {8 * size} bits, not '{view.format}'")
     return view
 
 
-def _lent(buffer: Any, size: int) -> Any:
+def _lent(buffer: Buffer, size: int) -> "ctypes.Array[ctypes.c_char]":
     """The memory of a buffer that can be written; it cannot be resized while this lives."""
     view = _samples_of(buffer, size)
     memory = (ctypes.c_char * view.nbytes).from_buffer(view)
@@ -174,29 +179,35 @@ def _lent(buffer: Any, size: int) -> Any:
     return memory
 
 
-def _room(samples: Any, size: int) -> Any:
+def _room(samples: Union[int, Buffer], size: int) -> Buffer:
     """The buffer given, or a new one of that many samples."""
     if not isinstance(samples, int if numpy is None else (int, numpy.integer)):
-        return samples
+        return cast(Buffer, samples)
     length = _whole(samples, 0, 2**62)
-    return (
-        numpy.zeros(length, dtype=f"i{size}")
-        if numpy is not None
-        else array("h" if size == 2 else "i", bytes(size * length))
-    )
+    if numpy is None:
+        return array("h" if size == 2 else "i", bytes(size * length))
+    return numpy.zeros(length, dtype=numpy.int16) if size == 2 else numpy.zeros(length, dtype=numpy.int32)
+
+
+_K = TypeVar("_K", bound="_Kept")
+
+
+def _kept_from(kind: Type[_K], saved: bytes) -> _K:
+    return kind.from_bytes(saved)
 
 
 class _Kept:
     """A struct of C. bytes(it) can be saved, and from_bytes gives it back. Calls on one go one after another, in whatever threads."""
 
-    _kind: Any
+    _kind: Type[ctypes.Structure]
     __hash__ = None  # type: ignore[assignment]
 
     def __init__(self) -> None:
         self._kept, self._lock = self._kind(), threading.Lock()
 
     @classmethod
-    def from_bytes(cls, saved: bytes) -> Any:
+    def from_bytes(cls: Type[_K], saved: bytes) -> _K:
+        """What bytes() saved."""
         if len(saved) != ctypes.sizeof(cls._kind):
             raise ValueError(f"{cls.__name__} has {ctypes.sizeof(cls._kind)} bytes")
         new = cls.__new__(cls)
@@ -208,8 +219,8 @@ class _Kept:
         with self._lock:
             return bytes(self._kept)
 
-    def __reduce__(self) -> Tuple[Any, ...]:
-        return type(self).from_bytes, (bytes(self),)
+    def __reduce__(self) -> Tuple[object, Tuple[Type["_Kept"], bytes]]:
+        return _kept_from, (type(self), bytes(self))
 
     def __eq__(self, other: object) -> bool:
         return type(other) is type(self) and bytes(self) == bytes(other)  # type: ignore[call-overload]
@@ -230,19 +241,23 @@ class Generator(_Kept):
 
     @property
     def registers(self) -> Tuple[int, ...]:
+        """The six registers of its record."""
         return (*self._kept.a, *self._kept.b)
 
     @property
     def count(self) -> int:
-        return self._kept.count
+        """How many pairs were drawn since the seeds."""
+        return int(self._kept.count)
 
     @property
     def open(self) -> bool:
-        return self._kept.open != 0
+        """Whether pairs are asked for and not taken."""
+        return bool(self._kept.open)
 
     @property
     def asked(self) -> int:
-        return self._kept.asked
+        """How many pairs are asked for."""
+        return int(self._kept.asked)
 
     def __repr__(self) -> str:
         return f"<jabulghi.Generator {self.registers}, count {self.count}>"
@@ -250,58 +265,66 @@ class Generator(_Kept):
     def _at(self) -> int:
         return ctypes.addressof(self._kept)
 
-    def _run(self, name: str, *values: Any) -> None:
+    def _run(self, name: str, *values: object) -> None:
         with self._lock:
             _call(name, self._at(), *values)
 
-    def _pair(self, name: str, kind: Any) -> Tuple[int, int]:
+    def _pair(self, name: str, kind: _Sample) -> Tuple[int, int]:
         two = (kind * 2)()
         self._run(name, two)
         return two[0], two[1]
 
-    def _fill(self, name: str, samples: Any, size: int) -> Any:
-        samples = _room(samples, size)
-        memory = _lent(samples, size)
+    def _fill(self, name: str, samples: Union[int, Buffer], size: int) -> Buffer:
+        filled = _room(samples, size)
+        memory = _lent(filled, size)
         self._run(name, ctypes.addressof(memory), ctypes.sizeof(memory) // size)
-        return samples
+        return filled
 
     def _all_asked(self) -> int:
         return 2 * min(self.asked, MOST_ASKED)
 
     def pair(self) -> Tuple[int, int]:
+        """The next two samples."""
         return self._pair("pair", ctypes.c_int16)
 
     def pair18(self) -> Tuple[int, int]:
+        """The next two samples of 18 bits."""
         return self._pair("pair18", ctypes.c_int32)
 
-    def block(self, samples: Any) -> Any:
+    def block(self, samples: Union[int, Buffer]) -> Buffer:
         """The next samples, first and second of each pair alternating."""
         return self._fill("block", samples, 2)
 
-    def block18(self, samples: Any) -> Any:
+    def block18(self, samples: Union[int, Buffer]) -> Buffer:
+        """The same of 18 bits."""
         return self._fill("block18", samples, 4)
 
-    def look(self, samples: Any) -> Any:
+    def look(self, samples: Union[int, Buffer]) -> Buffer:
         """The samples that block would give; the generator stays."""
         return self._fill("look", samples, 2)
 
-    def look18(self, samples: Any) -> Any:
+    def look18(self, samples: Union[int, Buffer]) -> Buffer:
+        """The same of 18 bits."""
         return self._fill("look18", samples, 4)
 
     def skip(self, pairs: int) -> None:
+        """Moves on by so many pairs at once."""
         self._run("skip", _u64(pairs))
 
     def ask(self, pairs: int) -> None:
+        """Asks for pairs, to be taken or given up before the next call."""
         self._run("ask", _u32(pairs))
 
-    def take(self, samples: Any = None) -> Any:
+    def take(self, samples: Union[None, int, Buffer] = None) -> Buffer:
         """What was asked for: two samples for each pair."""
         return self._fill("take", self._all_asked() if samples is None else samples, 2)
 
-    def take18(self, samples: Any = None) -> Any:
+    def take18(self, samples: Union[None, int, Buffer] = None) -> Buffer:
+        """The same of 18 bits."""
         return self._fill("take18", self._all_asked() if samples is None else samples, 4)
 
     def give_up(self) -> None:
+        """Gives up what was asked for: the pairs are the next ones."""
         self._run("give_up")
 
 
@@ -314,17 +337,33 @@ class Window(_Kept):
         super().__init__()
         _call("window_make_members", *self._members(), _u32(size))
 
-    size = property(lambda self: self._kept.size)
-    held = property(lambda self: self._kept.held)
-    sum = property(lambda self: self._kept.sum)
-    squares = property(lambda self: self._kept.squares)
+    @property
+    def size(self) -> int:
+        """How many samples it holds at most."""
+        return int(self._kept.size)
+
+    @property
+    def held(self) -> int:
+        """How many samples it holds."""
+        return int(self._kept.held)
+
+    @property
+    def sum(self) -> int:
+        """Their sum."""
+        return int(self._kept.sum)
+
+    @property
+    def squares(self) -> int:
+        """The sum of their squares."""
+        return int(self._kept.squares)
 
     def push(self, sample: int) -> None:
+        """Adds a sample; the oldest goes once the window is full."""
         sample = _whole(sample, -(2**15), 2**15 - 1)
         with self._lock:
             _call("window_push_members", *self._members(), sample)
 
-    def push_all(self, samples: Any) -> None:
+    def push_all(self, samples: Buffer) -> None:
         """Samples of 16 bits in a buffer."""
         memory = _samples_of(samples, 2).tobytes()
         with self._lock:
@@ -336,30 +375,42 @@ class Window(_Kept):
             )
 
 
+def _is_generator(given: Generator) -> Generator:
+    if not isinstance(given, Generator):
+        raise TypeError("a Generator is needed")
+    return given
+
+
 class Marks(_Kept):
     """Up to 16 generators' places, under names."""
 
     _kind = _Marks
 
-    def _run(self, name: str, mark: Text, generator: Any = None) -> None:
+    def _run(self, name: str, mark: Text, generator: Optional[Generator]) -> None:
         word = _bytes(mark)
         if generator is None:
             with self._lock:
                 return _call(f"marks_{name}_members", *self._members(), word, len(word))
-        if not isinstance(generator, Generator):
-            raise TypeError("a Generator is needed")
         with self._lock, generator._lock:
-            _call(f"marks_{name}_members", *self._members(), generator._at(), word, len(word))
+            _call(
+                f"marks_{name}_members",
+                *self._members(),
+                generator._at(),
+                word,
+                len(word),
+            )
 
     def save(self, generator: Generator, name: Text) -> None:
-        self._run("save", name, generator)
+        """Keeps where the generator is, under a name of 1 to 12 letters or digits."""
+        self._run("save", name, _is_generator(generator))
 
     def return_to(self, generator: Generator, name: Text) -> None:
         """The generator goes back to where it was saved."""
-        self._run("return", name, generator)
+        self._run("return", name, _is_generator(generator))
 
     def drop(self, name: Text) -> None:
-        self._run("drop", name)
+        """Forgets a name."""
+        self._run("drop", name, None)
 
 
 class Miss(NamedTuple):
@@ -378,7 +429,7 @@ class Intervals(NamedTuple):
     sums: Tuple[int, ...]
 
 
-def _sample(name: str, k: int, v: int, kind: Any) -> Tuple[int, int]:
+def _sample(name: str, k: int, v: int, kind: _Sample) -> Tuple[int, int]:
     two = (kind * 2)()
     _call(name, _u64(k), _u32(v), two)
     return two[0], two[1]
@@ -390,12 +441,22 @@ def sample(k: int, v: int) -> Tuple[int, int]:
 
 
 def sample18(k: int, v: int) -> Tuple[int, int]:
+    """The same of 18 bits."""
     return _sample("sample18", k, v, ctypes.c_int32)
 
 
-def _lines(name: str, text: bytes, room: int, line: Any) -> str:
+def _lines(name: str, text: bytes, room: int, line: _Line) -> str:
     lines, length = ctypes.create_string_buffer(room), _SIZE()
-    _call(name, text, len(text), lines, room, ctypes.byref(line), ctypes.byref(length), line=line)
+    _call(
+        name,
+        text,
+        len(text),
+        lines,
+        room,
+        ctypes.byref(line),
+        ctypes.byref(length),
+        line=line,
+    )
     return lines.raw[: length.value].decode("ascii")
 
 
@@ -410,10 +471,15 @@ def legs(survey: Text) -> str:
     return _lines("legs", text, 3 * len(text) + 1, _SIZE())  # a leg of 10 bytes gives a shot line of at most 21
 
 
-def _sums(name: str, listing: Text, count: int) -> Tuple[Any, Tuple[int, ...]]:
-    text, sums, millimetres, line = _bytes(listing), (ctypes.c_int64 * count)(), (ctypes.c_int64 * count)(), _U32()
+def _sums(name: str, listing: Text, count: int) -> Tuple[List[int], Tuple[int, ...]]:
+    text, sums, millimetres, line = (
+        _bytes(listing),
+        (ctypes.c_int64 * count)(),
+        (ctypes.c_int64 * count)(),
+        _U32(),
+    )
     _call(name, text, len(text), sums, millimetres, ctypes.byref(line), line=line)
-    return millimetres, tuple(sums)
+    return list(millimetres), tuple(sums)
 
 
 def misclosure(listing: Text) -> Miss:
@@ -428,12 +494,23 @@ def intervals(listing: Text) -> Intervals:
     return Intervals((east_low, east_high), (north_low, north_high), sums)
 
 
-def play(job: Text, runs: int, first: int = 0) -> Any:
+def play(job: Text, runs: int, first: int = 0) -> Misses:
     """How far a job's loop misses in each of so many plays: rows of east and north in millimetres."""
-    text, misses, line = _bytes(job), ((ctypes.c_int64 * 2) * _whole(runs, 0, 2**58))(), _U32()
-    _call("play", text, len(text), _u64(first), misses, len(misses), ctypes.byref(line), line=line)
-    return (
-        numpy.array(misses, dtype="i8").reshape(-1, 2)
-        if numpy is not None
-        else [(east, north) for east, north in misses]
+    text, misses, line = (
+        _bytes(job),
+        ((ctypes.c_int64 * 2) * _whole(runs, 0, 2**58))(),
+        _U32(),
     )
+    _call(
+        "play",
+        text,
+        len(text),
+        _u64(first),
+        misses,
+        len(misses),
+        ctypes.byref(line),
+        line=line,
+    )
+    if numpy is None:
+        return [(east, north) for east, north in misses]
+    return numpy.array(misses, dtype=numpy.int64).reshape(-1, 2)

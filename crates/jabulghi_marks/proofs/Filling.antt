@@ -9,8 +9,8 @@ use lib.Dec.{eqb}
 use lib.ListN.{length, getD, take, drop, set, replicate, length-set, length-replicate, length-drop, drop-of-length-le}
 use lib.Seq.{drop-cons, drop-drop, length-take-le, take-suc-set, take-all, append-snoc}
 use Rattle.text.specs.Limits.{nameLength}
-use Rattle.buffer.specs.Buffer.{written}
-use Rattle.buffer.proofs.Writing.{written-fits}
+use Rattle.text.specs.Buffer.{written}
+use Rattle.text.proofs.Writing.{written-fits}
 use Rattle.marks.specs.declared.label.Label.{Label}
 use Rattle.marks.specs.Marks.{places}
 use Rattle.jabulghi_marks.specs.Members.{labelsOf}

@@ -11,9 +11,9 @@ use lib.Seq.{sets, sets-eq, take-set-le, drop-set-add, take-append-seam, drop-ap
 use borrow.Author.Tests.{eqb-true}
 use Rattle.streams.specs.declared.Generator.{Generator}
 use Rattle.text.specs.Limits.{nameLength}
-use Rattle.buffer.specs.Buffer.{written}
+use Rattle.text.specs.Buffer.{written}
 use Rattle.streams.specs.Streams.{seedOf, recordCode, fit}
-use Rattle.buffer.proofs.Writing.{written-length}
+use Rattle.text.proofs.Writing.{written-length}
 use Rattle.jabulghi.specs.Words.{generatorOf}
 use Rattle.marks.specs.declared.label.Label.{Label}
 use Rattle.marks.specs.Marks.{places, labelOf, noLabel, noRecord, placeToSave, placeToReturn, placeToDrop, stored, savedOf, returnedOf, droppedOf}

@@ -7,7 +7,7 @@ use lib.ListN.{take, drop, set, replicate}
 use Rattle.streams.specs.declared.Generator.{Generator}
 use Rattle.streams.specs.Streams.{ifAccepted}
 use Rattle.text.specs.Limits.{nameLength}
-use Rattle.buffer.specs.Buffer.{written}
+use Rattle.text.specs.Buffer.{written}
 use Rattle.jabulghi.specs.Words.{generatorOf}
 use Rattle.marks.specs.declared.label.Label.{Label}
 use Rattle.marks.specs.declared.call.Placed.{Placed}

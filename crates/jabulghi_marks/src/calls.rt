@@ -8,7 +8,6 @@ use crate::members::WORDS;
 use crate::members::labels_of;
 use crate::members::put_words;
 use crate::members::words_at;
-use buffer::put;
 use jabulghi::words::unpacked;
 use marks::PLACES;
 use marks::call::place_to_drop;
@@ -17,6 +16,7 @@ use marks::call::place_to_save;
 use marks::label::Label;
 use marks::label::label_of;
 use marks::label::no_label;
+use text::buffer::put;
 use text::limits::NAME_LENGTH;
 
 // A label and the words of a record in a place.

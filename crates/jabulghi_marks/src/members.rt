@@ -3,13 +3,13 @@ ghost use mathlib.Core.Path.{_≡_};
 ghost use Prim.Native.Nat.{_+_, _<_, _≤_};
 ghost use lib.ListN.{length, take, drop, set};
 ghost use Rattle.text.specs.Limits.{nameLength};
-ghost use Rattle.buffer.specs.Buffer.{written};
+ghost use Rattle.text.specs.Buffer.{written};
 ghost use Rattle.marks.specs.Marks.{places};
 ghost use Rattle.jabulghi_marks.specs.Members.{recordWords, recordsLength, namesLength, labelsOf};
-use buffer::put;
 use marks::PLACES;
 use marks::label::Label;
 use marks::label::no_label;
+use text::buffer::put;
 use text::limits::NAME_LENGTH;
 
 // The words of a record.

@@ -8,17 +8,17 @@ use mathlib.Core.List.{List, [], _∷_}
 use lib.ListN.{length}
 use lib.Dec.{leb, ltb, eqb}
 use borrow.Author.Tests.{lt-ltb, le-ltb, le-leb, lt-leb, leb-true, eqb-false}
-use Rattle.buffer.specs.Buffer.{Puts}
-use Rattle.buffer.proofs.Writing.{position-fits, written-fits}
-use Rattle.job_refusals.specs.Limits.{mostBytes}
-use Rattle.job_setting.specs.Setting.{start}
+use Rattle.text.specs.Buffer.{Puts}
+use Rattle.text.proofs.Writing.{position-fits, written-fits}
+use Rattle.job_reader.specs.Limits.{mostBytes}
+use Rattle.job_reader.specs.Setting.{start}
 use Rattle.job.specs.Job.{Outcome, refused, listed, onto, outcome, listingOf, jobOf, answerOf, bufferAfter, outputOf}
 use Rattle.job.specs.Job.{printed, settingAfter}
 use Rattle.job_lines.specs.Forms.{readLine}
-use Rattle.job_refusals.specs.Refusals.{refusal, firstBad}
-use Rattle.job_refusals.specs.declared.first_bad.BadLine.{BadLine}
-use Rattle.listing_writer.specs.Listing.{header, endRow, refusedRow}
-use Rattle.job_setting.specs.declared.Setting.{Setting}
+use Rattle.job_reader.specs.Refusals.{refusal, firstBad}
+use Rattle.job_reader.specs.declared.walk.BadLine.{BadLine}
+use Rattle.listing_rows.specs.Rows.{header, endRow, refusedRow}
+use Rattle.job_reader.specs.declared.walk.Setting.{Setting}
 use Rattle.text.specs.Scan.{lines}
 use Rattle.job.specs.Private.{Wrote, Decided}
 use Rattle.job.specs.declared.JobAnswer.{JobAnswer}
@@ -78,7 +78,7 @@ judged-lines (l ∷ ls) k s = go (eqb (refusal k (readLine l)) 0) refl (judged-l
     go true e j = judged-onto (firstBad (k + 1) ls) (printed (readLine l) s) (outcome (k + 1) (settingAfter (readLine l) s) ls) j
     go false e j = (refl, pos-of-ne-zero (eqb-false (refusal k (readLine l)) 0 e))
 
-judged-text : (text : List ℕ) → Judged (firstBad 1 (lines text)) (listingOf text)
+pub judged-text : (text : List ℕ) → Judged (firstBad 1 (lines text)) (listingOf text)
 unfolding listingOf
 judged-text text = judged-onto (firstBad 1 (lines text)) header (outcome 1 start (lines text)) (judged-lines (lines text) 1 start)
 

@@ -15,25 +15,25 @@ use Rattle.noise.proofs.Theorems.{pair-sizes}
 use Rattle.box_muller.specs.Steps.{fractionBits}
 use Rattle.noise.specs.Noise.{PairAnswer, pairOf, samplesIn}
 use Rattle.signs.proofs.Sizes.{size-reads}
-use Rattle.job_refusals.specs.Limits.{lastLine, mostSigma, mostDistance, mostBearing}
+use Rattle.job_reader.specs.Limits.{lastLine, mostSigma, mostDistance, mostBearing}
 use Rattle.job_lines.specs.Forms.{Form, seeds, sigma, shot, noForm, shotIn, readLine}
 use Rattle.job_lines.specs.declared.Shot.{Shot as ShotFields}
-use Rattle.buffer.specs.Buffer.{written, positionAfter, Puts}
-use Rattle.buffer.proofs.Writing.{written-out, room-holds}
-use Rattle.listing_writer.specs.declared.Row.{Row}
-use Rattle.listing_writer.specs.Rounding.{noiseSize, noisyDistance, noisyBearing}
-use Rattle.listing_writer.specs.Listing.{shotRow, endRow, noisyRow, rowRoom}
+use Rattle.text.specs.Buffer.{written, positionAfter, Puts}
+use Rattle.text.proofs.Writing.{written-out, room-holds}
+use Rattle.listing_rows.specs.declared.write.Row.{Row}
+use Rattle.noisy_shot.specs.Rounding.{noiseSize, noisyDistance, noisyBearing}
+use Rattle.listing_rows.specs.Rows.{shotRow, endRow, rowRoom}
 use Rattle.text.specs.Limits.{nameLength}
 use Rattle.text.specs.Fields.{partOf}
 use Rattle.text.proofs.Decimal.{decimal-length}
-use Rattle.job.specs.Private.{Steady, rowOf, Ready, Printing}
-use Rattle.job_refusals.specs.Refusals.{formless, misplaced, refusal}
-use Rattle.job_setting.specs.Setting.{settingOn}
-use Rattle.job.specs.Job.{settingAfter, printed}
-use Rattle.job_setting.specs.declared.Setting.{Setting}
+use Rattle.job.specs.Private.{rowOf, Ready, Printing}
+use Rattle.job_reader.specs.Refusals.{formless, misplaced, refusal}
+use Rattle.job_reader.specs.Setting.{settingOn, Steady}
+use Rattle.job.specs.Job.{settingAfter, printed, noisyRow}
+use Rattle.job_reader.specs.declared.walk.Setting.{Setting}
 use Rattle.job.specs.declared.state.State.{State}
-use Rattle.job_refusals.proofs.Accepted.{accepted-line, line-few, sigma-within, shot-within}
-use Rattle.listing_writer.proofs.Rows.{row-length, end-length}
+use Rattle.job_reader.proofs.Accepted.{accepted-line, line-few, sigma-within, shot-within}
+use Rattle.listing_rows.proofs.Rows.{row-length, end-length}
 use Rattle.job.proofs.Names.{names-short}
 
 -- the most that 16 bits hold in size, and the noise that they give
@@ -108,8 +108,8 @@ steps k l s steady h = go (readLine l) refl h (line-few k (readLine l) h)
     go noForm e a few = absurd (true≢false (accepted-line k noForm a .formed))
 
 -- an accepted line of a job half way prints no more than a row
-pub printing : (s : State) (l : List ℕ) → Ready s → refusal (s .line) (readLine l) ≡ 0 → Printing (s .line) (s .used) (s .setting) (readLine l)
-printing s l r e = record { accepted = e; row = steps (s .line) l (s .setting) (r .steady) e .row; short = r .short }
+pub printing : (s : State) (l : List ℕ) → Ready s → refusal (s .read .line) (readLine l) ≡ 0 → Printing (s .read .line) (s .used) (s .read .setting) (readLine l)
+printing s l r e = record { accepted = e; row = steps (s .read .line) l (s .read .setting) (r .steady) e .row; short = r .short }
 
 -- the row of a shot with its noise; the samples as 16 bits hold them
 pub noise-on : (line : List ℕ) (x : ShotFields) (s : Setting) (samples : List ℤ) (mm step : ℕ) → samples ≡ samplesIn (pairOf fractionBits (s .generator))

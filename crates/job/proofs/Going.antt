@@ -3,26 +3,28 @@ use Prim.Native.Nat.{ℕ, _+_, _-_, _≤_, _<_}
 use native.Mathlib.Omega.{arith}
 use native.Mathlib.Nat.{pos-of-ne-zero}
 use mathlib.Core.Path.{_≡_, refl, sym, ap, ap₂, subst, _∙_}
+use mathlib.Core.Logic.{_⊎_, inl, inr}
 use mathlib.Core.Bool.{Bool, true, false, cond}
 use mathlib.Core.List.{List, _∷_, _++_, append-assoc}
 use lib.Dec.{ltb, eqb}
 use lib.ListN.{length, take, drop, replicate, length-append, drop-of-length-le}
 use borrow.Author.Tests.{eq-eqb, ne-eqb, eqb-true, lt-ltb, le-ltb}
 use Rattle.text.specs.Scan.{lines, firstLine}
-use Rattle.buffer.specs.Buffer.{written, Puts}
+use Rattle.text.specs.Buffer.{written, Puts}
 use Rattle.text.proofs.Split.{lines-from, end-within, part-line}
-use Rattle.buffer.proofs.Writing.{written-length, written-on, room-holds}
+use Rattle.text.proofs.Writing.{written-length, written-on, room-holds}
 use Rattle.job_lines.specs.Forms.{Form, readLine}
-use Rattle.listing_writer.specs.Listing.{header, endRow, rowRoom}
-use Rattle.listing_writer.specs.declared.Row.{Row}
-use Rattle.job_refusals.specs.Refusals.{refusal}
-use Rattle.job_setting.specs.Setting.{start}
+use Rattle.listing_rows.specs.Rows.{header, endRow, rowRoom}
+use Rattle.listing_rows.specs.declared.write.Row.{Row}
+use Rattle.job_reader.specs.Refusals.{refusal}
+use Rattle.job_reader.specs.Setting.{start, begun, verdictOf}
 use Rattle.job.specs.Job.{Outcome, refused, listed, onto, outcome, listingOf, settingAfter, printed}
 use Rattle.job.specs.Private.{refusedState, nextState, acceptedState, acceptedBuffer, takenOf, bufferOf, Ready, Adds, Going, Ended, Wrote}
-use Rattle.job_setting.specs.declared.Setting.{Setting}
+use Rattle.job_reader.specs.declared.walk.Setting.{Setting}
 use Rattle.job.specs.declared.state.State.{State}
+use Rattle.job_reader.proofs.Walking.{verdict-bad}
 use Rattle.job.proofs.Bounds.{end-short, steps}
-use Rattle.listing_writer.proofs.Rows.{header-length}
+use Rattle.listing_rows.proofs.Rows.{header-length}
 
 pub onto-onto : (a b : List ℕ) (o : Outcome) → onto a (onto b o) ≡ onto (a ++ b) o
 onto-onto a b (refused n k) = refl
@@ -59,16 +61,16 @@ module _ (text out₀ out : List ℕ) (s : State) (at : ℕ) (g : Going text out
     x = readLine l
 
     abbrev row : List ℕ
-    row = printed (readLine (firstLine (drop at text))) (s .setting)
+    row = printed (readLine (firstLine (drop at text))) (s .read .setting)
 
-    taken-yes : refusal (s .line) x ≡ 0 → takenOf s x ≡ nextState (s .line) (s .used + length row) (settingAfter x (s .setting))
+    taken-yes : refusal (s .read .line) x ≡ 0 → takenOf s x ≡ nextState (s .read .line) (s .used + length row) (settingAfter x (s .read .setting))
     unfolding takenOf acceptedState
     taken-yes e = rw e
 
-    pub going-on : refusal (s .line) x ≡ 0 → Going text out₀ (bufferOf s x out) (takenOf s x) next
+    pub going-on : refusal (s .read .line) x ≡ 0 → Going text out₀ (bufferOf s x out) (takenOf s x) next
     unfolding bufferOf acceptedBuffer
     going-on e =
-        let t = steps (s .line) l (s .setting) (g .steady) e in
+        let t = steps (s .read .line) l (s .read .setting) (g .steady) e in
         let n = length-append (g .bytes) row in
         rw (taken-yes e, e)
         (record {
@@ -83,38 +85,38 @@ module _ (text out₀ out : List ℕ) (s : State) (at : ℕ) (g : Going text out
           wrote = row-on row;
           so-far =
               g .so-far
-              ∙ rw (lines-from text at h, outcome-yes (s .line) (s .setting) l (lines (drop next text)) e, onto-onto);
+              ∙ rw (lines-from text at h, outcome-yes (s .read .line) (s .read .setting) l (lines (drop next text)) e, onto-onto);
         })
 
-    pub stopped : (refusal (s .line) (readLine l) ≡ 0 → ⊥) → listingOf text ≡ refused (refusal (s .line) (readLine l)) (s .line)
-    stopped e = g .so-far ∙ rw (lines-from text at h, outcome-no (s .line) (s .setting) l (lines (drop next text)) e)
+    pub stopped : (refusal (s .read .line) (readLine l) ≡ 0 → ⊥) → listingOf text ≡ refused (refusal (s .read .line) (readLine l)) (s .read .line)
+    stopped e = g .so-far ∙ rw (lines-from text at h, outcome-no (s .read .line) (s .read .setting) l (lines (drop next text)) e)
 
   -- no line is left
   module _ (h : length text ≤ at) where
-    ended : listingOf text ≡ onto (g .bytes) (cond (ltb (s .line) 3) (refused 8 (s .line)) (listed (endRow (s .line - 3))))
+    ended : listingOf text ≡ onto (g .bytes) (cond (ltb (s .read .line) 3) (refused 8 (s .read .line)) (listed (endRow (s .read .line - 3))))
     unfolding outcome lines
     ended = g .so-far ∙ rw (drop-of-length-le text {i = at} h)
 
-    pub missing : s .line < 3 → listingOf text ≡ refused 8 (s .line)
-    missing e = ended ∙ rw (lt-ltb (s .line) 3 e)
+    pub missing : s .read .line < 3 → listingOf text ≡ refused 8 (s .read .line)
+    missing e = ended ∙ rw (lt-ltb (s .read .line) 3 e)
 
-    pub complete : 3 ≤ s .line → listingOf text ≡ listed (g .bytes ++ endRow (s .line - 3))
-    complete e = ended ∙ rw (le-ltb (s .line) 3 e)
+    pub complete : 3 ≤ s .read .line → listingOf text ≡ listed (g .bytes ++ endRow (s .read .line - 3))
+    complete e = ended ∙ rw (le-ltb (s .read .line) 3 e)
 
 -- the code that is returned is the line's, and so is the line where it is refused
 module _ (s : State) (x : Form) where
-  taken-code : takenOf s x .code ≡ refusal (s .line) x
+  taken-code : takenOf s x .read .code ≡ refusal (s .read .line) x
   unfolding takenOf acceptedState
-  taken-code = go (eqb (refusal (s .line) x) 0) refl
+  taken-code = go (eqb (refusal (s .read .line) x) 0) refl
     where
-      go : (b : Bool) → eqb (refusal (s .line) x) 0 ≡ b
-          → _≡_ {A = ℕ} (cond {A = State} b (acceptedState (s .line) (s .used) (s .setting) x) (refusedState s (refusal (s .line) x)) .code) (refusal (s .line) x)
-      go true e = sym (eqb-true (refusal (s .line) x) 0 e)
+      go : (b : Bool) → eqb (refusal (s .read .line) x) 0 ≡ b
+          → _≡_ {A = ℕ} (cond {A = State} b (acceptedState (s .read .line) (s .used) (s .read .setting) x) (refusedState s (refusal (s .read .line) x)) .read .code) (refusal (s .read .line) x)
+      go true e = sym (eqb-true (refusal (s .read .line) x) 0 e)
       go false e = refl
 
-  taken-line : (refusal (s .line) x ≡ 0 → ⊥) → takenOf s x .line ≡ s .line
+  taken-line : (refusal (s .read .line) x ≡ 0 → ⊥) → takenOf s x .read .line ≡ s .read .line
   unfolding takenOf
-  taken-line h = rw (ne-eqb (refusal (s .line) x) 0 h)
+  taken-line h = rw (ne-eqb (refusal (s .read .line) x) 0 h)
 
 -- one round of the loop, on the part of the text from a line's start to its end
 module _ (text out₀ out : List ℕ) (s : State) (at end : ℕ) (r : State) (out′ : List ℕ)
@@ -124,16 +126,16 @@ module _ (text out₀ out : List ℕ) (s : State) (at end : ℕ) (r : State) (ou
   line-part : take (end - at) (drop at text) ≡ firstLine (drop at text)
   line-part = rw e (part-line text at h)
 
-  code : r .code ≡ refusal (s .line) (readLine (firstLine (drop at text)))
-  code = ap (λ (t : State). t .code) er ∙ taken-code s _ ∙ ap (λ (l : List ℕ). refusal (s .line) (readLine l)) line-part
+  code : r .read .code ≡ refusal (s .read .line) (readLine (firstLine (drop at text)))
+  code = ap (λ (t : State). t .read .code) er ∙ taken-code s _ ∙ ap (λ (l : List ℕ). refusal (s .read .line) (readLine l)) line-part
 
-  line : (r .code ≡ 0 → ⊥) → r .line ≡ s .line
-  line z = ap (λ (t : State). t .line) er ∙ taken-line s _ (λ u. z (ap (λ (t : State). t .code) er ∙ taken-code s _ ∙ u))
+  line : (r .read .code ≡ 0 → ⊥) → r .read .line ≡ s .read .line
+  line z = ap (λ (t : State). t .read .line) er ∙ taken-line s _ (λ u. z (ap (λ (t : State). t .read .code) er ∙ taken-code s _ ∙ u))
 
-  pub line-on : r .code ≡ 0 → Going text out₀ out′ r end
+  pub line-on : r .read .code ≡ 0 → Going text out₀ out′ r end
   line-on z = rw (er, eo, line-part, e) (going-on text out₀ out s at g h (sym code ∙ z))
 
-  pub line-off : (r .code ≡ 0 → ⊥) → Ended text out₀ out′ r
+  pub line-off : (r .read .code ≡ 0 → ⊥) → Ended text out₀ out′ r
   line-off z =
       record {
         yes = λ t. absurd (z t);
@@ -146,8 +148,8 @@ all-taken text out₀ out s at g h =
     record { yes = λ t. subst (λ (n : ℕ). Going text out₀ out s n) e g; no = λ t. absurd (t (g .code)) }
 
 -- the start: the header is in the buffer
-pub going-start : (text out : List ℕ) (s : State) → s ≡ record { code = 0; line = 1; used = length header; setting = start } → Going text out out s 0
-unfolding start listingOf
+pub going-start : (text out : List ℕ) (s : State) → s ≡ record { read = begun; used = length header } → Going text out out s 0
+unfolding start begun listingOf
 going-start text out s f =
     rw f
     (record {
@@ -164,32 +166,35 @@ going-start text out s f =
     })
 
 module _ (text before out₀ out : List ℕ) (s : State) (h : out₀ ≡ written before 0 header) where
-  pub wrote-refused : Ended text out₀ out s → (s .code ≡ 0 → ⊥)
-      → Wrote (listingOf text) (record { code = s .code; line = s .line; length = 0 }) before out
-  wrote-refused e z = rw (e .no z) (refl, pos-of-ne-zero z)
+  pub wrote-bad : Ended text out₀ out s → (verdictOf (s .read) .code ≡ 0 → ⊥)
+      → Wrote (listingOf text) (record { code = verdictOf (s .read) .code; line = verdictOf (s .read) .line; length = 0 }) before out
+  wrote-bad e z = by-cause (verdict-bad (s .read) z)
+    where
+      by-cause : ((s .read .code ≡ 0 → ⊥) × (verdictOf (s .read) ≡ record { code = s .read .code; line = s .read .line }))
+          ⊎ ((s .read .code ≡ 0) × (s .read .line < 3) × (verdictOf (s .read) ≡ record { code = 8; line = s .read .line }))
+          → Wrote (listingOf text) (record { code = verdictOf (s .read) .code; line = verdictOf (s .read) .line; length = 0 }) before out
+      by-cause (inl (c, v)) = rw (v, e .no c) (refl, pos-of-ne-zero c)
+      by-cause (inr (c, k, v)) = rw (v, missing text out₀ out s (length text) (e .yes c) (omega arith) k) (refl, omega arith)
 
   module _ (g : Going text out₀ out s (length text)) where
-    pub wrote-missing : s .line < 3 → Wrote (listingOf text) (record { code = 8; line = s .line; length = 0 }) before out
-    wrote-missing k = rw (missing text out₀ out s (length text) g (omega arith) k) (refl, omega arith)
-
-    pub wrote-listed : (out′ : List ℕ) (n : ℕ) → 3 ≤ s .line → n ≡ s .used + length (endRow (s .line - 3)) → out′ ≡ written out (s .used) (endRow (s .line - 3))
+    pub wrote-listed : (out′ : List ℕ) (n : ℕ) → 3 ≤ s .read .line → n ≡ s .used + length (endRow (s .read .line - 3)) → out′ ≡ written out (s .used) (endRow (s .read .line - 3))
         → Wrote (listingOf text) (record { code = 0; line = 0; length = n }) before out′
     wrote-listed out′ n k e f =
-        let m : n ≡ length (g .bytes ++ endRow (s .line - 3)) = omega
-        (arith, e, g .used, length-append (g .bytes) (endRow (s .line - 3))) in
+        let m : n ≡ length (g .bytes ++ endRow (s .read .line - 3)) = omega
+        (arith, e, g .used, length-append (g .bytes) (endRow (s .read .line - 3))) in
         rw (complete text out₀ out s (length text) g (omega arith) k)
-        (ap (λ (i : ℕ). record { code = 0; line = 0; length = i }) m, f ∙ row-on text out₀ out s (length text) g (endRow (s .line - 3)) before h)
+        (ap (λ (i : ℕ). record { code = 0; line = 0; length = i }) m, f ∙ row-on text out₀ out s (length text) g (endRow (s .read .line - 3)) before h)
 
     -- the last row holds the count of shots
-    pub end-holds : (row : Row) → Puts (replicate rowRoom 0) 0 (endRow (s .line - 3)) (row .length) (row .bytes)
-        → (row .length ≡ length (endRow (s .line - 3))) × (take (row .length - 0) (drop 0 (row .bytes)) ≡ endRow (s .line - 3))
-    end-holds row p = room-holds rowRoom (endRow (s .line - 3)) p (omega (arith, end-short (s .line) (g .line)))
+    pub end-holds : (row : Row) → Puts (replicate rowRoom 0) 0 (endRow (s .read .line - 3)) (row .length) (row .bytes)
+        → (row .length ≡ length (endRow (s .read .line - 3))) × (take (row .length - 0) (drop 0 (row .bytes)) ≡ endRow (s .read .line - 3))
+    end-holds row p = room-holds rowRoom (endRow (s .read .line - 3)) p (omega (arith, end-short (s .read .line) (g .line)))
 
-    pub end-adds : (row : Row) → Puts (replicate rowRoom 0) 0 (endRow (s .line - 3)) (row .length) (row .bytes) → row .length ≤ length (row .bytes)
+    pub end-adds : (row : Row) → Puts (replicate rowRoom 0) 0 (endRow (s .read .line - 3)) (row .length) (row .bytes) → row .length ≤ length (row .bytes)
         → Adds (s .used) row
     end-adds row p w =
         record {
           short = ready text out₀ out s (length text) g .short;
           whole = w;
-          room = omega (arith, end-holds row p .0, end-short (s .line) (g .line));
+          room = omega (arith, end-holds row p .0, end-short (s .read .line) (g .line));
         }

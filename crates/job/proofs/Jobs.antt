@@ -27,12 +27,12 @@ use Rattle.job_lines.specs.Forms.{
   printLine,
   Printable,
 }
-use Rattle.listing_writer.specs.Listing.{header, endRow}
-use Rattle.job_refusals.specs.Refusals.{formless, refusal}
-use Rattle.job_setting.specs.Setting.{start}
+use Rattle.listing_rows.specs.Rows.{header, endRow}
+use Rattle.job_reader.specs.Refusals.{formless, refusal}
+use Rattle.job_reader.specs.Setting.{start}
 use Rattle.job.specs.Job.{Outcome, refused, listed, onto, outcome, listingOf, settingAfter, printed}
 use Rattle.job.specs.Theorems.{textOf, rows, Accepts}
-use Rattle.job_setting.specs.declared.Setting.{Setting}
+use Rattle.job_reader.specs.declared.walk.Setting.{Setting}
 use Rattle.job_lines.proofs.RoundTrip.{all-marks, read-printed, printed-read}
 use Rattle.job.proofs.Going.{outcome-yes, outcome-no}
 

@@ -2,13 +2,13 @@
 use Prim.Native.Nat.{ℕ, _≤_}
 use native.Mathlib.Omega.{arith}
 use native.Mathlib.Nat.{add-zero}
-use mathlib.Core.Path.{_≡_, refl, sym, subst, _∙_}
+use mathlib.Core.Path.{_≡_, refl, sym, ap, subst, _∙_}
 use mathlib.Core.Logic.{inl, inr}
 use mathlib.Core.List.{List, [], _∷_}
 use lib.ListN.{length}
 use Rattle.text.specs.Limits.{nameLength}
 use Rattle.text.proofs.Plain.{name-length}
-use Rattle.buffer.proofs.Writing.{written-none}
+use Rattle.text.proofs.Writing.{written-none}
 use Rattle.job_lines.specs.Forms.{Form, seeds, sigma, shot, noForm, said, readLine, Printable}
 use Rattle.job_lines.specs.declared.Line.{Line}
 use Rattle.job_lines.specs.declared.Line.the-variants.{Seeds, Sigma, Shot, NoForm}
@@ -16,11 +16,13 @@ use Rattle.job_lines.proofs.Line.{the-type}
 use denote.Enum.Declared.{tagOf}
 use types.Run.{OneOf}
 use borrow.Author.Tests.{ne-eqb}
-use Rattle.job_refusals.specs.Refusals.{refusal}
-use Rattle.job_setting.specs.Setting.{settingOn}
+use Rattle.job_reader.specs.Refusals.{refusal}
+use Rattle.job_reader.specs.Setting.{settingOn, progressOn}
 use Rattle.job.specs.Job.{printed, settingAfter}
-use Rattle.job.specs.Private.{refusedState, nextState, acceptedState, acceptedBuffer, takenOf, bufferOf}
-use Rattle.job_setting.specs.declared.Setting.{Setting}
+use Rattle.job.specs.Private.{nextState, acceptedState, acceptedBuffer, takenOf, bufferOf}
+use Rattle.job_reader.specs.declared.walk.Setting.{Setting}
+use Rattle.job_reader.specs.declared.walk.Progress.{Progress}
+use Rattle.job_reader.proofs.Walking.{code-on, after-yes, after-no}
 use Rattle.job.specs.declared.state.State.{State}
 use Rattle.job_lines.proofs.RoundTrip.{printed-read, shot-not-none}
 
@@ -41,17 +43,30 @@ unprinted text (Shot x) s (inr (inl e)) = absurd (omega (arith, e))
 unprinted text (Shot x) s (inr (inr e)) = absurd (omega (arith, e))
 unprinted text NoForm s h = (refl, refl)
 
--- a line, accepted or refused with the code n
+-- a line, accepted or refused
 module _ (s : State) (x : Form) (out : List ℕ) where
-  pub taken-on : (y : Form) (r : State) (out′ : List ℕ) → y ≡ x → refusal (s .line) x ≡ 0
-      → (r ≡ acceptedState (s .line) (s .used) (s .setting) y) × (out′ ≡ acceptedBuffer (s .used) (s .setting) y out)
+  pub taken-shot : (y : Form) (r : State) (out′ : List ℕ) → y ≡ x → refusal (s .read .line) x ≡ 0
+      → (r ≡ acceptedState (s .read .line) (s .used) (s .read .setting) y) × (out′ ≡ acceptedBuffer (s .used) (s .read .setting) y out)
       → (r ≡ takenOf s x) × (out′ ≡ bufferOf s x out)
   unfolding takenOf bufferOf
-  taken-on y r out′ f z h = rw z (rw f at h)
+  taken-shot y r out′ f z h = rw z (rw f at h)
 
-  pub taken-off : (n : ℕ) → n ≡ refusal (s .line) x → (n ≡ 0 → ⊥) → (refusedState s n ≡ takenOf s x) × (out ≡ bufferOf s x out)
-  unfolding takenOf bufferOf
-  taken-off n e z = rw (← e, ne-eqb n 0 z) (refl, refl)
+  module _ (next : Progress) (e : next ≡ progressOn x (s .read)) where
+    pub taken-off : (next .code ≡ 0 → ⊥) → (record { read = next; used = s .used } ≡ takenOf s x) × (out ≡ bufferOf s x out)
+    unfolding takenOf bufferOf
+    taken-off z =
+        rw (ne-eqb (refusal (s .read .line) x) 0 (λ h. z (code-on x (s .read) next e ∙ h)))
+        (ap (λ (p : Progress). record { read = p; used = s .used }) (after-no x (s .read) next e z), refl)
+
+    pub taken-on : (text : List ℕ) (y : Line) → said text y ≡ x → OneOf (0 ∷ 1 ∷ 3 ∷ []) (tagOf the-type y) → next .code ≡ 0
+        → (record { read = next; used = s .used } ≡ takenOf s x) × (out ≡ bufferOf s x out)
+    taken-on text y f h z =
+        let same = unprinted text y (s .read .setting) h in
+        let none : printed x (s .read .setting) ≡ [] = rw f at (same .0) in
+        let set : settingAfter x (s .read .setting) ≡ settingOn x (s .read .setting) = rw f at (same .1) in
+        taken-shot x _ _ refl (sym (code-on x (s .read) next e) ∙ z)
+        (state-same (s .read .line) (s .used) (s .read .setting) (settingOn x (s .read .setting)) x out _ none (sym set)
+        (ap (λ (p : Progress). record { read = p; used = s .used }) (after-yes x (s .read) next e z)))
 
 -- the names of a shot that was read
 pub names-short : (l from to : List ℕ) (d b : ℕ) → readLine l ≡ shot from to d b → (length from ≤ nameLength) × (length to ≤ nameLength)

@@ -15,13 +15,13 @@ use Rattle.streams.proofs.Theorems.{after-add, seeded}
 use Rattle.box_muller.specs.Steps.{fractionBits}
 use Rattle.noise.specs.Noise.{pairOf}
 use Rattle.noise.proofs.Theorems.{pair-accepted}
-use Rattle.job_refusals.specs.Limits.{lastLine}
-use Rattle.job_refusals.specs.Refusals.{formless, misplaced, seedCode, refusal}
-use Rattle.job_refusals.proofs.Refused.{seeds-within}
-use Rattle.job_refusals.proofs.Accepted.{accepted-line, line-few}
+use Rattle.job_reader.specs.Limits.{lastLine}
+use Rattle.job_reader.specs.Refusals.{formless, misplaced, seedCode, refusal}
+use Rattle.job_reader.proofs.Refused.{seeds-within}
+use Rattle.job_reader.proofs.Accepted.{accepted-line, line-few}
 use Rattle.job_lines.specs.Forms.{Form, seeds, sigma, shot, noForm}
-use Rattle.listing_writer.specs.Listing.{header, endRow}
-use Rattle.job_setting.specs.Setting.{start, settingOn}
+use Rattle.listing_rows.specs.Rows.{header, endRow}
+use Rattle.job_reader.specs.Setting.{start, settingOn}
 use Rattle.job.specs.Job.{printed, settingAfter}
 use Rattle.job.specs.Theorems.{Accepts, textOf, rows, ShotLine, formOf, rowsFrom, Drawn}
 

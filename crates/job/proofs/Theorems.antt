@@ -8,23 +8,28 @@ use mathlib.Core.List.{List, map, [], _∷_, _++_}
 use mathlib.Core.Logic.{_↔_}
 use lib.Dec.{eqb, leb, ltb}
 use lib.ListN.{length, length-append}
+use lib.IntN.{ℤ}
 use borrow.Author.Tests.{eqb-true, eqb-false, leb-true, leb-false, lt-leb, lt-ltb, ltb-false, not-false}
+use Rattle.text.specs.Ascii.{byte}
+use Rattle.text.specs.Fields.{decimal}
+use Rattle.text.specs.Forms.{printForm}
 use Rattle.text.specs.Scan.{lines}
-use Rattle.job_refusals.specs.Limits.{mostBytes, lastLine, listingRoom, longestListing}
+use Rattle.noisy_shot.specs.Rounding.{noisyDistance, noisyBearing}
+use Rattle.job.specs.Limits.{listingRoom, longestListing}
+use Rattle.job_reader.specs.Limits.{mostBytes, lastLine}
 use Rattle.job_lines.specs.Forms.{Form, seeds, sigma, shot, noForm, readLine, printLine, Printable}
-use Rattle.listing_writer.specs.Listing.{header, endRow, rowRoom}
-use Rattle.job_refusals.specs.Refusals.{formless, misplaced, tooMany, beyond, seedCode, refusal}
-use Rattle.job_setting.specs.Setting.{start}
-use Rattle.job.specs.Job.{Outcome, refused, listed, onto, outcome, listingOf, jobOf, answerOf, settingAfter, printed}
+use Rattle.listing_rows.specs.Rows.{header, rowForm, shotRow, endRow, rowRoom}
+use Rattle.job_reader.specs.Refusals.{formless, misplaced, tooMany, beyond, seedCode, refusal}
+use Rattle.job_reader.specs.Setting.{start, Steady}
+use Rattle.job.specs.Job.{Outcome, refused, listed, onto, outcome, listingOf, jobOf, answerOf, noisyRow, settingAfter, printed}
 use Rattle.job.specs.Theorems.{Theorems, Accepts, textOf, rows, isShot, shots, Drawn}
-use Rattle.job.specs.Private.{Steady}
-use Rattle.job_setting.specs.declared.Setting.{Setting}
+use Rattle.job_reader.specs.declared.walk.Setting.{Setting}
 use Rattle.job.specs.declared.JobAnswer.{JobAnswer}
-use Rattle.listing_writer.proofs.Rows.{header-length}
+use Rattle.listing_rows.proofs.Rows.{header-length}
 use Rattle.job_lines.proofs.RoundTrip.{read-printed}
-use Rattle.job_refusals.proofs.Theorems as refusals
-use Rattle.job_refusals.proofs.Refused.{seed-apart}
-use Rattle.job_refusals.proofs.Accepted.{accepted-line}
+use Rattle.job_reader.proofs.Theorems as refusals
+use Rattle.job_reader.proofs.Refused.{seed-apart}
+use Rattle.job_reader.proofs.Accepted.{accepted-line}
 use Rattle.job.proofs.Bounds.{end-short, steps}
 use Rattle.job.proofs.Going.{outcome-yes, outcome-no}
 use Rattle.job.proofs.Answered.{job-short}
@@ -276,6 +281,12 @@ shot-pairs text bytes e =
     let (xs, a, n, t, b) = listed-says text bytes (short-job text bytes e) in
     drawn-pairs text bytes xs a n t b
 
+row : (sigmaMm sigmaStep : ℕ) (from to : List ℕ) (mm step : ℕ) (first second : ℤ) → noisyRow sigmaMm sigmaStep from to mm step first second
+    ≡ from ++ (byte " " ∷ (to ++ (byte " " ∷ (decimal (noisyDistance sigmaMm mm first)
+    ++ (byte " " ∷ (decimal (noisyBearing sigmaStep step second) ++ (byte "\n" ∷ [])))))))
+unfolding noisyRow rowForm shotRow printForm
+row sigmaMm sigmaStep from to mm step first second = refl
+
 pub theorems : Theorems
 theorems = record {
   listed-job = listed-job;
@@ -288,6 +299,7 @@ theorems = record {
   told-5 = λ text room. told-5 room text;
   told-10 = λ text room. told-10 room text;
   shot-501 = shot-501;
+  row = row;
   longest = longest;
   fits = fits;
   never-too-long = never-too-long;

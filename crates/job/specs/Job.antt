@@ -3,16 +3,18 @@ use Prim.Native.Nat.{ℕ, _+_, _-_}
 use mathlib.Core.Bool.{cond}
 use mathlib.Core.List.{List, [], _∷_, _++_}
 use lib.Dec.{leb, ltb, eqb}
+use lib.IntN.{ℤ}
 use lib.ListN.{length, drop}
 use Rattle.box_muller.specs.Steps.{fractionBits}
 use Rattle.noise.specs.Noise.{pairOf}
 use Rattle.text.specs.Scan.{lines}
-use Rattle.job_refusals.specs.Limits.{mostBytes}
+use Rattle.job_reader.specs.Limits.{mostBytes}
 use Rattle.job_lines.specs.Forms.{Form, seeds, sigma, shot, noForm, readLine}
-use Rattle.listing_writer.specs.Listing.{header, endRow, refusedRow, noisyRow}
-use Rattle.job_refusals.specs.Refusals.{refusal}
-use Rattle.job_setting.specs.Setting.{start, settingOn}
-use Rattle.job_setting.specs.declared.Setting.{Setting}
+use Rattle.noisy_shot.specs.Rounding.{noisyDistance, noisyBearing}
+use Rattle.listing_rows.specs.Rows.{header, shotRow, endRow, refusedRow}
+use Rattle.job_reader.specs.Refusals.{refusal}
+use Rattle.job_reader.specs.Setting.{start, settingOn}
+use Rattle.job_reader.specs.declared.walk.Setting.{Setting}
 use Rattle.job.specs.declared.JobAnswer.{JobAnswer}
 
 -- What a line leaves for those after it: "each shot takes one pair", and every other line leaves what it sets
@@ -22,6 +24,11 @@ settingAfter (sigma d b) s = settingOn (sigma d b) s
 settingAfter (shot from to d b) s = record
     { generator = pairOf fractionBits (s .generator) .next; distance = s .distance; bearing = s .bearing }
 settingAfter noForm s = settingOn noForm s
+
+-- "every line printed for a job is the shot with that noise": the row of a shot with the samples of one pair
+unfoldable pub noisyRow : ℕ → ℕ → List ℕ → List ℕ → ℕ → ℕ → ℤ → ℤ → List ℕ
+noisyRow sigmaMm sigmaStep from to mm step first second =
+    shotRow from to (noisyDistance sigmaMm mm first) (noisyBearing sigmaStep step second)
 
 -- What a line prints: of the one pair "First sample to distance (below 0 becomes 0), second to bearing (mod 65536)"
 unfoldable pub printed : Form → Setting → List ℕ

@@ -7,24 +7,21 @@ use lib.Dec.{eqb}
 use lib.ListN.{length, drop}
 use Rattle.text.specs.Fields.{partOf}
 use Rattle.text.specs.Scan.{lines}
-use Rattle.buffer.specs.Buffer.{written}
-use Rattle.job_refusals.specs.Limits.{lastLine, listingRoom, mostSigma}
+use Rattle.text.specs.Buffer.{written}
+use Rattle.job_reader.specs.Limits.{lastLine}
+use Rattle.job_reader.specs.Setting.{Steady}
+use Rattle.job.specs.Limits.{listingRoom}
 use Rattle.job_lines.specs.Forms.{Form}
 use Rattle.job_lines.specs.declared.Shot.{Shot as ShotFields}
-use Rattle.job_refusals.specs.Refusals.{refusal}
-use Rattle.listing_writer.specs.Listing.{header, shotRow, rowRoom}
+use Rattle.job_reader.specs.Refusals.{refusal}
+use Rattle.listing_rows.specs.Rows.{header, shotRow, rowRoom}
 use Rattle.job.specs.Job.{Outcome, refused, listed, onto, outcome, listingOf, answerOf, printed, settingAfter}
-use Rattle.listing_writer.specs.declared.Row.{Row}
-use Rattle.job_setting.specs.declared.Setting.{Setting}
+use Rattle.listing_rows.specs.declared.write.Row.{Row}
+use Rattle.job_reader.specs.declared.walk.Setting.{Setting}
 use Rattle.job.specs.declared.state.State.{State}
 use Rattle.job.specs.declared.JobAnswer.{JobAnswer}
 
 -- ---- What a line does to the state of a job
-
--- sigmas within their range
-pub record Steady (distance bearing : ℕ) : Type 0 where
-  pub sigma-distance : distance ≤ mostSigma
-  pub sigma-bearing : bearing ≤ mostSigma
 
 -- the row of a shot of a line, with these numbers
 abbrev pub rowOf : List ℕ → ShotFields → ℕ → ℕ → List ℕ
@@ -32,11 +29,11 @@ rowOf line x mm step = shotRow (partOf line (x .from)) (partOf line (x .to)) mm 
 
 -- a refused line leaves the state as it was, but for its code
 abbrev pub refusedState : State → ℕ → State
-refusedState s code = record { code = code; line = s .line; used = s .used; setting = s .setting }
+refusedState s code = record { read = record { code = code; line = s .read .line; setting = s .read .setting }; used = s .used }
 
 -- after an accepted line k
 abbrev pub nextState : ℕ → ℕ → Setting → State
-nextState k used setting = record { code = 0; line = k + 1; used = used; setting = setting }
+nextState k used setting = record { read = record { code = 0; line = k + 1; setting = setting }; used = used }
 
 -- line k, accepted, that says x: the state after it, its listing as long as what was printed, and the buffer with what fits of that
 unfoldable pub acceptedState : ℕ → ℕ → Setting → Form → State
@@ -47,14 +44,14 @@ acceptedBuffer used s x out = written out used (printed x s)
 
 -- a line that says x, accepted or refused
 unfoldable pub takenOf : State → Form → State
-takenOf s x = cond (eqb (refusal (s .line) x) 0) (acceptedState (s .line) (s .used) (s .setting) x) (refusedState s (refusal (s .line) x))
+takenOf s x = cond (eqb (refusal (s .read .line) x) 0) (acceptedState (s .read .line) (s .used) (s .read .setting) x) (refusedState s (refusal (s .read .line) x))
 
 unfoldable pub bufferOf : State → Form → List ℕ → List ℕ
-bufferOf s x out = cond (eqb (refusal (s .line) x) 0) (acceptedBuffer (s .used) (s .setting) x out) out
+bufferOf s x out = cond (eqb (refusal (s .read .line) x) 0) (acceptedBuffer (s .used) (s .read .setting) x out) out
 
 -- what a line may rely on: the sigmas are within their range, and the listing so far is no longer than any
 pub record Ready (s : State) : Type 0 where
-  pub steady : Steady (s .setting .distance) (s .setting .bearing)
+  pub steady : Steady (s .read .setting .distance) (s .read .setting .bearing)
   pub short : s .used ≤ listingRoom
 
 -- a listing so far, and a row after it that has all its bytes
@@ -79,21 +76,21 @@ pub record Printing (k used : ℕ) (s : Setting) (x : Form) : Type 0 where
 -- the lines before `at` are accepted: what they left in the state and in the buffer, and what the lines ahead add to it. `out₀` is the buffer
 -- with the header, and `bytes` the listing so far: where `before` was in the buffer, it now has as much of them as fits
 pub record Going (text out₀ out : List ℕ) (s : State) (at : ℕ) : Type 0 where
-  pub code : s .code ≡ 0
+  pub code : s .read .code ≡ 0
   pub within : at ≤ length text
-  pub line : s .line ≤ lastLine + 1
-  pub steady : Steady (s .setting .distance) (s .setting .bearing)
+  pub line : s .read .line ≤ lastLine + 1
+  pub steady : Steady (s .read .setting .distance) (s .read .setting .bearing)
   pub size : length out ≡ length out₀
   pub bytes : List ℕ
   pub used : s .used ≡ length bytes
-  pub short : length bytes + 24 ≤ rowRoom * s .line
+  pub short : length bytes + 24 ≤ rowRoom * s .read .line
   pub wrote : (before : List ℕ) → out₀ ≡ written before 0 header → out ≡ written before 0 bytes
-  pub so-far : listingOf text ≡ onto bytes (outcome (s .line) (s .setting) (lines (drop at text)))
+  pub so-far : listingOf text ≡ onto bytes (outcome (s .read .line) (s .read .setting) (lines (drop at text)))
 
 -- all lines are accepted, or the first that is not gives code and line
 pub record Ended (text out₀ out : List ℕ) (s : State) : Type 0 where
-  pub yes : s .code ≡ 0 → Going text out₀ out s (length text)
-  pub no : (s .code ≡ 0 → ⊥) → listingOf text ≡ refused (s .code) (s .line)
+  pub yes : s .read .code ≡ 0 → Going text out₀ out s (length text)
+  pub no : (s .read .code ≡ 0 → ⊥) → listingOf text ≡ refused (s .read .code) (s .read .line)
 
 -- the refusal; or the listing's length, and as much of the listing in the buffer as fits
 abbrev pub Wrote : Outcome → JobAnswer → List ℕ → List ℕ → Type 0

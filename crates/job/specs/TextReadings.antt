@@ -4,8 +4,9 @@ use Prim.Native.Nat.{ℕ}
 use Prim.Native.String.{String}
 use mathlib.Core.Path.{_≡_}
 use mathlib.Core.List.{List, [], _∷_, map}
+use lib.IntN.{pos, negℤ}
 use Rattle.text.specs.Ascii.{ascii}
-use Rattle.job.specs.Job.{jobOf, answerOf, bufferAfter, outputOf}
+use Rattle.job.specs.Job.{noisyRow, jobOf, answerOf, bufferAfter, outputOf}
 use Rattle.job.specs.declared.JobAnswer.{JobAnswer}
 
 pub record JobReading : Type 0 where
@@ -51,6 +52,21 @@ shortJob = ascii "(seeds (a 2 8 16) (b 3 9 17))\n(sigma 4 10)\n"
 abbrev answer : ℕ → ℕ → ℕ → JobAnswer
 answer code line length = record { code = code; line = line; length = length }
 
+-- a row's bytes, and how it stands
+pub record RowReading : Type 0 where
+  pub row : List ℕ
+  pub is : String
+
+abbrev prints : List ℕ → String → RowReading
+prints r s = record { row = r; is = s }
+
+-- sigmas 4 mm and 10 steps, samples one deviation up and two down: "First sample to distance .., second to bearing"
+abbrev pub rowReadings : List RowReading
+rowReadings =
+    prints (noisyRow 4 10 (ascii "A") (ascii "B") 1000 5 (pos 2048) (negℤ (pos 4096))) "A B 1004 65521\n"
+    ∷ prints (noisyRow 4 10 (ascii "A") (ascii "B") 1 65530 (negℤ (pos 4096)) (pos 2048)) "A B 0 4\n"
+    ∷ []
+
 abbrev pub exampleJob : List ℕ
 exampleJob = ascii "(seeds (a 2 8 16) (b 2 8 16))\n(sigma 4 10)\n(shot A1 A2 12345 4500)\n(shot A2 A3 9000 65530)\n"
 
@@ -58,6 +74,7 @@ abbrev pub exampleListing : List ℕ
 exampleListing = ascii "FROM TO MM STEP\nA1 A2 12356 4527\nA2 A3 9011 8\nEND 2\n"
 
 pub record TextReadings : Type 0 where
+  pub rows : map (λ (r : RowReading). r .row) rowReadings ≡ map (λ (r : RowReading). ascii (r .is)) rowReadings
   pub jobs : map (λ (r : JobReading). outputOf (jobOf (ascii (r .text))) 20480) jobReadings ≡ map (λ (r : JobReading). ascii (r .prints)) jobReadings
   -- code, line and length: accepted, too long for the buffer by a byte, and refused
   pub answers : answerOf (jobOf shortJob) 22 ∷ answerOf (jobOf shortJob) 21 ∷ answerOf (jobOf (ascii "\n")) 22 ∷ []

@@ -4,18 +4,23 @@ use mathlib.Core.Path.{_≡_}
 use mathlib.Core.List.{List, [], _∷_, _++_, map}
 use mathlib.Core.Logic.{_↔_}
 use lib.ListN.{length}
+use lib.IntN.{ℤ}
 use Rattle.streams.specs.declared.Generator.{Generator}
 use Rattle.streams.specs.Streams.{seedOf, after}
 use Rattle.box_muller.specs.Steps.{fractionBits}
 use Rattle.noise.specs.Noise.{PairAnswer, pairOf}
+use Rattle.text.specs.Ascii.{byte}
+use Rattle.text.specs.Fields.{decimal}
 use Rattle.text.specs.Scan.{lines}
-use Rattle.job_refusals.specs.Limits.{mostBytes, listingRoom, longestListing}
+use Rattle.job.specs.Limits.{listingRoom, longestListing}
+use Rattle.job_reader.specs.Limits.{mostBytes}
 use Rattle.job_lines.specs.Forms.{Form, seeds, sigma, shot, noForm, readLine, printLine, Printable}
-use Rattle.listing_writer.specs.Listing.{header, endRow, noisyRow}
-use Rattle.job_refusals.specs.Refusals.{refusal}
-use Rattle.job_setting.specs.Setting.{start}
-use Rattle.job.specs.Job.{refused, listed, jobOf, answerOf, printed, settingAfter}
-use Rattle.job_setting.specs.declared.Setting.{Setting}
+use Rattle.noisy_shot.specs.Rounding.{noisyDistance, noisyBearing}
+use Rattle.listing_rows.specs.Rows.{header, endRow}
+use Rattle.job_reader.specs.Refusals.{refusal}
+use Rattle.job_reader.specs.Setting.{start}
+use Rattle.job.specs.Job.{refused, listed, jobOf, answerOf, noisyRow, printed, settingAfter}
+use Rattle.job_reader.specs.declared.walk.Setting.{Setting}
 
 -- the text that says these forms, a line each
 unfoldable pub textOf : List Form → List ℕ
@@ -109,6 +114,10 @@ pub record Theorems : Type 0 where
   pub shot-501 : (text : List ℕ) (xs : List Form) (from to : List ℕ) (d b : ℕ) (ls : List (List ℕ)) → length text ≤ 60000 → Accepts 1 xs
       → length xs ≡ 502 → Printable (shot from to d b) → lines text ≡ map printLine xs ++ (printLine (shot from to d b) ∷ ls)
       → jobOf text ≡ refused 9 503
+  -- "First sample to distance .., second to bearing": the row of a shot, with line 2's two sigmas and the two samples of one pair
+  pub row : (sigmaMm sigmaStep : ℕ) (from to : List ℕ) (mm step : ℕ) (first second : ℤ) → noisyRow sigmaMm sigmaStep from to mm step first second
+      ≡ from ++ (byte " " ∷ (to ++ (byte " " ∷ (decimal (noisyDistance sigmaMm mm first)
+      ++ (byte " " ∷ (decimal (noisyBearing sigmaStep step second) ++ (byte "\n" ∷ [])))))))
   -- a listing has at most so many bytes
   pub longest : (text bytes : List ℕ) → jobOf text ≡ listed bytes → length bytes ≤ longestListing
   -- a listing fits the listing program's buffer, so that it never prints 10

@@ -6,11 +6,11 @@ use mathlib.Core.Bool.{Bool, true, false, cond, _&&_, true≢false}
 use mathlib.Core.List.{List}
 use lib.ListN.{getD, take}
 use lib.Seq.{getD-take}
-use Rattle.text.specs.Forms.{noPlace, foundOf, placesFrom, marks}
+use Rattle.text.specs.Forms.{noPlace, foundOf, placesFrom, marks, digitStringAt, threeAt}
 use Rattle.text.specs.declared.field.Place.{Place}
 use Rattle.text.specs.declared.form.Found.{Found}
 use Rattle.text.proofs.Steps.{places-found}
-use Rattle.job_lines.specs.Forms.{Form, seeds, sigma, shot, noForm, shotForm, digitStringAt, threeAt, seedsOf, sigmaOf, said, lineIn}
+use Rattle.job_lines.specs.Forms.{Form, seeds, sigma, shot, noForm, shotForm, seedsOf, sigmaOf, said, lineIn}
 use Rattle.job_lines.specs.Private.{NamesAt}
 use Rattle.job_lines.specs.declared.Line.{Line}
 use Rattle.job_lines.specs.declared.Line.the-variants.{Seeds, Sigma, Shot, NoForm}

@@ -3,4 +3,5 @@ pub mod Reading
 pub mod ShotLines
 pub mod Exact
 pub mod TextReadings
+pub mod Following
 pub mod Theorems

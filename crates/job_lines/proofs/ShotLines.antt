@@ -8,9 +8,9 @@ use Rattle.text.specs.Limits.{nameLength}
 use Rattle.text.specs.Ascii.{ascii}
 use Rattle.text.specs.Fields.{decimal, partOf}
 use Rattle.text.specs.Forms.{printForm}
-use Rattle.buffer.specs.Buffer.{Puts}
+use Rattle.text.specs.Buffer.{Puts}
 use Rattle.text.proofs.Decimal.{decimal-length}
-use Rattle.buffer.proofs.Writing.{room-holds}
+use Rattle.text.proofs.Writing.{room-holds}
 use Rattle.job_lines.specs.Forms.{shot, shotForm, shotIn, printLine}
 use Rattle.job_lines.specs.declared.Shot.{Shot as ShotFields}
 use Rattle.job_lines.specs.Room.{shotRoom}

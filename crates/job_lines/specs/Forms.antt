@@ -1,14 +1,13 @@
 -- The three forms of a line (document 01, "A job and its listing"): the printer and the reader of each.
-use Prim.Native.Nat.{ℕ, _+_, _<_}
+use Prim.Native.Nat.{ℕ, _<_}
 use mathlib.Core.Path.{_≡_}
-use mathlib.Core.Bool.{Bool, true, cond, _&&_}
+use mathlib.Core.Bool.{true, cond, _&&_}
 use mathlib.Core.List.{List, [], _∷_}
-use mathlib.Core.Option.{Option, some, none}
 use lib.ListN.{getD}
 use Rattle.text.specs.Limits.{decimalBound}
 use Rattle.text.specs.Ascii.{ascii}
-use Rattle.text.specs.Fields.{name, digitString, value, decimal, partOf}
-use Rattle.text.specs.Forms.{printForm, readForm, noPlace, placesFrom}
+use Rattle.text.specs.Fields.{name, decimal, partOf}
+use Rattle.text.specs.Forms.{printForm, readForm, orElse, fieldAt, valueAt, digitStringAt, threeAt, noPlace, placesFrom}
 use Rattle.text.specs.declared.field.Place.{Place}
 use Rattle.job_lines.specs.declared.Seeds.{Seeds as SeedsFields}
 use Rattle.job_lines.specs.declared.Sigma.{Sigma as SigmaFields}
@@ -36,20 +35,6 @@ pub data Form : Type 0 where
   shot : List ℕ → List ℕ → ℕ → ℕ → Form
   noForm : Form
 
--- the field at a place, and the number that it spells
-abbrev pub fieldAt : List (List ℕ) → ℕ → List ℕ
-fieldAt fields i = getD fields i []
-
-abbrev pub valueAt : List (List ℕ) → ℕ → ℕ
-valueAt fields i = value 0 (fieldAt fields i)
-
-abbrev pub digitStringAt : List (List ℕ) → ℕ → Bool
-digitStringAt fields i = digitString (fieldAt fields i)
-
--- three numbers from a place on
-abbrev pub threeAt : List (List ℕ) → ℕ → Bool
-threeAt fields i = digitStringAt fields i && digitStringAt fields (i + 1) && digitStringAt fields (i + 2)
-
 unfoldable pub seedsOf : List (List ℕ) → Form
 seedsOf v =
     cond (threeAt v 0 && threeAt v 3)
@@ -64,10 +49,6 @@ shotOf v =
     cond (name (fieldAt v 0) && name (fieldAt v 1) && digitStringAt v 2 && digitStringAt v 3)
     (shot (fieldAt v 0) (fieldAt v 1) (valueAt v 2) (valueAt v 3))
     noForm
-
-abbrev pub orElse : Option (List (List ℕ)) → (List (List ℕ) → Form) → Form → Form
-orElse (some fields) f other = f fields
-orElse none f other = other
 
 -- What a line says
 unfoldable pub readLine : List ℕ → Form

@@ -1,4 +1,5 @@
 // The lines of a job. What a line says: one of the three forms, or none (document 01, "A job and its listing").
+pub mod link;
 pub mod write;
 
 use text::field::Place;

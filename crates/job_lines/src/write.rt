@@ -1,14 +1,14 @@
 // A job's shot line, written (document 02, Job 12).
 use crate::Shot;
-use buffer::put;
-use buffer::put_decimal;
-use buffer::put_field;
+use text::buffer::put;
+use text::buffer::put_decimal;
+use text::buffer::put_field;
 use text::field::part;
 ghost use Prim.Native.Nat.{_≤_};
 ghost use lib.ListN.{length, replicate};
 ghost use mathlib.Core.List.{[], _∷_, _++_};
 ghost use Rattle.text.specs.Ascii.{ascii, byte};
-ghost use Rattle.buffer.specs.Buffer.{Puts};
+ghost use Rattle.text.specs.Buffer.{Puts};
 ghost use Rattle.text.specs.Fields.{decimal};
 ghost use Rattle.job_lines.specs.Forms.{shotIn, printLine};
 ghost use Rattle.job_lines.specs.Room.{shotRoom};

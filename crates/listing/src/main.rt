@@ -1,8 +1,8 @@
 // Lists the job on standard input: its listing, or why it is refused and in which line.
 use input::read_all;
-use job_printer::print_job;
-use job_refusals::limits::LISTING_ROOM;
-use job_refusals::limits::MOST_BYTES;
+use job::limits::LISTING_ROOM;
+use job::printer::print_job;
+use job_reader::limits::MOST_BYTES;
 use libc::STDIN_FILENO;
 use libc::STDOUT_FILENO;
 

@@ -10,7 +10,7 @@ use lib.ListN.{length, drop, replicate}
 use lib.Seq.{sets, sets-eq, take-append-seam}
 use borrow.Author.Tests.{le-leb, leb-true}
 use Rattle.text.specs.Limits.{nameLength}
-use Rattle.buffer.specs.Buffer.{written}
+use Rattle.text.specs.Buffer.{written}
 use Rattle.marks.specs.declared.label.Label.{Label}
 use Rattle.text.proofs.SameBytes.{same-refl, same-bytes}
 use Rattle.marks.specs.Marks.{hasName, labelOf}

@@ -10,7 +10,7 @@ use Rattle.streams.specs.declared.RecordAnswer.{RecordAnswer}
 use Rattle.streams.specs.Streams.{recordCode, openCode, firstCause, ifAccepted, seedOf}
 use Rattle.text.specs.Limits.{nameLength}
 use Rattle.text.specs.Fields.{name, same}
-use Rattle.buffer.specs.Buffer.{written}
+use Rattle.text.specs.Buffer.{written}
 use Rattle.marks.specs.declared.label.Label.{Label}
 use Rattle.marks.specs.declared.call.Placed.{Placed}
 

@@ -1,7 +1,7 @@
 // What a place of a set is known by.
 ghost use mathlib.Core.Path.{_≡_};
 ghost use Rattle.marks.specs.Marks.{labelOf, noLabel};
-use buffer::put;
+use text::buffer::put;
 use text::limits::NAME_LENGTH;
 
 // What a place is known by: the first bytes are the name, as many as its length. A free place is known by nothing.

@@ -8,8 +8,9 @@ use mathlib.Core.Logic.{_↔_}
 use lib.Dec.{ltb}
 use borrow.Author.Tests.{leb-true, ltb-false}
 use Rattle.sums.specs.Sums.{mostDistance}
-use Rattle.listing_reader.specs.Entries.{leg, last}
-use Rattle.misclosure.specs.Misclosure.{lastLine, mostStep, beyond, follows, refusal}
+use Rattle.listing_rows.specs.Entries.{leg, last}
+use Rattle.job_lines.specs.Links.{follows, stationCode}
+use Rattle.misclosure.specs.Misclosure.{lastLine, mostStep, beyond, refusal}
 use Rattle.misclosure.specs.Theorems.{WithinLimits, ShotCodes}
 use Rattle.misclosure.proofs.Lines.{last-0, last-6, last-count}
 
@@ -58,7 +59,7 @@ module _ (k : ℕ) (station from to : List ℕ) (low high step : ℕ) where
   }
 
   pub shot-codes : ShotCodes k station from to low high step (refusal k station (leg from to low high step))
-  unfolding refusal beyond
+  unfolding refusal beyond stationCode
   shot-codes =
       let limits = limits-say (ltb lastLine k) (ltb mostDistance low) (ltb mostDistance high) (ltb mostStep step) refl refl refl refl in
       codes-by (beyond k low high step) (ltb high low) (follows station from)

@@ -7,9 +7,9 @@ use mathlib.Core.Bool.{Bool, true, false, cond}
 use mathlib.Core.List.{List, [], _∷_, _++_, map}
 use lib.ListN.{length}
 use Rattle.text.specs.Scan.{lines}
-use Rattle.listing_writer.specs.Listing.{endRow}
-use Rattle.listing_reader.specs.Entries.{headerOf, isHeader, Said, leg, readEntry}
-use Rattle.listing_reader.proofs.RoundTrip.{row-read, end-read, header-read, header-is}
+use Rattle.listing_rows.specs.Rows.{endRow, headerOf}
+use Rattle.listing_rows.specs.Entries.{isHeader, Said, leg, readEntry}
+use Rattle.listing_rows.proofs.RoundTrip.{row-read, end-read, header-read, header-is}
 use Rattle.misclosure.specs.Misclosure.{lastLine, mostStep, refusal, Outcome, refused, accepted, onto, noLines, stationAfter, onward, outcome, headed, listingOf}
 use Rattle.misclosure.specs.Theorems.{Row, spanIn, rowText, LinkedRow, Linked, stationOf, Begins}
 use Rattle.misclosure.proofs.Lines.{in-range, leg-0, last-0}

@@ -15,13 +15,14 @@ use Rattle.text.specs.Fields.{partOf}
 use Rattle.text.specs.Scan.{upTo, lineFeed, lines, firstLine}
 use Rattle.text.proofs.Split.{lines-from, end-within, part-line}
 use Rattle.angle.proofs.Ranges.{signed-range}
-use Rattle.sums.specs.Sums.{Shot, sine, cosine, total, mostShots, mostDistance}
+use Rattle.noisy_shot.specs.Shots.{Shot}
+use Rattle.sums.specs.Sums.{sine, cosine, total, mostShots, mostDistance}
 use Rattle.sums.specs.Spans.{Span, Chosen, leastShot, greatestShot, Ranged}
 use Rattle.sums.proofs.SumLaws.{total-more, total-size}
 use Rattle.sums.proofs.Nearness.{distances-most}
 use Rattle.sums.proofs.Choices.{choice-allowed, least-chosen, greatest-chosen}
-use Rattle.listing_reader.proofs.RoundTrip.{header-lengths, header-is}
-use Rattle.listing_reader.specs.Entries.{isHeader, Said, leg, last, neither, readEntry}
+use Rattle.listing_rows.proofs.RoundTrip.{header-lengths, header-is}
+use Rattle.listing_rows.specs.Entries.{isHeader, Said, leg, last, neither, readEntry}
 use Rattle.misclosure.specs.Misclosure.{
   refusal,
   Outcome,

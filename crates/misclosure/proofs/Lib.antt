@@ -7,3 +7,5 @@ pub mod Causes
 pub mod FirstBad
 pub mod Theorems
 pub mod TextReadings
+mod SignedDecimal
+pub mod Printed

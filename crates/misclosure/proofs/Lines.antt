@@ -8,24 +8,13 @@ use lib.Dec.{ltb, eqb}
 use lib.ListN.{length}
 use borrow.Author.Tests.{lt-ltb, le-ltb, ltb-false, eq-eqb, ne-eqb, eqb-true}
 use Rattle.text.specs.Fields.{partOf}
-use Rattle.text.specs.Forms.{isEmpty}
-use Rattle.text.specs.Fields.{same}
-use Rattle.listing_reader.specs.Entries.{leg, last, neither}
-use Rattle.listing_reader.specs.declared.Span.{Span as SpanFields}
-use Rattle.misclosure.specs.Misclosure.{lastLine, mostStep, beyond, follows, refusal, stationCode}
+use Rattle.listing_rows.specs.Entries.{leg, last, neither}
+use Rattle.listing_rows.specs.declared.read.Span.{Span as SpanFields}
+use Rattle.job_lines.specs.Links.{follows, stationCode}
+use Rattle.misclosure.specs.Misclosure.{lastLine, mostStep, beyond, refusal}
 use Rattle.sums.specs.Sums.{mostDistance}
 use Rattle.misclosure.specs.Private.{Limited, limitCode, orderCode, Moved, Takes, shotSaid}
 use Rattle.misclosure.specs.declared.entry.State.{State}
-
-pub follows-none : (station from : List ℕ) → length station ≡ 0 → follows station from ≡ true
-unfolding follows isEmpty
-follows-none [] from h = refl
-follows-none (x ∷ station) from h = absurd (omega (arith, h))
-
-pub follows-some : (station from : List ℕ) → (length station ≡ 0 → ⊥) → follows station from ≡ same station from
-unfolding follows isEmpty
-follows-some [] from h = absurd (h refl)
-follows-some (x ∷ station) from h = refl
 
 -- a shot beyond one of its limits, or within them all
 module _ (k low high step : ℕ) where
@@ -65,14 +54,6 @@ pub order-25 : (low high : ℕ) → high < low → 25 ≡ orderCode low high
 unfolding orderCode
 order-25 low high h = rw (lt-ltb high low h)
 
-pub station-0 : (station from : List ℕ) → follows station from ≡ true → 0 ≡ stationCode station from
-unfolding stationCode
-station-0 station from e = rw e
-
-pub station-23 : (station from : List ℕ) → follows station from ≡ false → 23 ≡ stationCode station from
-unfolding stationCode
-station-23 station from e = rw e
-
 -- the code of a shot: its first cause
 module _ (k : ℕ) (station from to : List ℕ) (low high step : ℕ) where
   pub leg-code : cond (eqb (limitCode k low high step) 0)
@@ -89,13 +70,13 @@ module _ (k : ℕ) (station from to : List ℕ) (low high step : ℕ) where
       go false false = refl
 
   pub leg-0 : beyond k low high step ≡ false → low ≤ high → follows station from ≡ true → refusal k station (leg from to low high step) ≡ 0
-  unfolding refusal
+  unfolding refusal stationCode
   leg-0 e h f = rw (e, le-ltb high low h, f)
 
   -- an accepted shot is within its limits, its readings are in order, and it follows the one before
   pub leg-within : refusal k station (leg from to low high step) ≡ 0
       → (k ≤ lastLine) × (high ≤ mostDistance) × (step ≤ mostStep) × (low ≤ high) × (follows station from ≡ true)
-  unfolding refusal beyond
+  unfolding refusal beyond stationCode
   leg-within h =
       go (ltb lastLine k) refl (ltb mostDistance low) (ltb mostDistance high) refl (ltb mostStep step) refl (ltb high low) refl (follows station from) refl h
     where

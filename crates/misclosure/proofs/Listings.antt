@@ -16,28 +16,15 @@ use Rattle.text.specs.Theorems.{join}
 use Rattle.text.proofs.Split.{join-lines}
 use Rattle.text.proofs.Decimal.{decimal-length}
 use Rattle.text.proofs.Plain.{name-length}
-use Rattle.listing_writer.specs.Listing.{endRow}
-use Rattle.listing_writer.proofs.Rows.{row-length, end-length}
-use Rattle.sums.specs.Sums.{Shot, mostShots, mostDistance}
+use Rattle.listing_rows.specs.Rows.{endRow, headerOf, rowForm, rowOf}
+use Rattle.listing_rows.proofs.Rows.{row-length, end-length}
+use Rattle.noisy_shot.specs.Shots.{Shot}
+use Rattle.sums.specs.Sums.{mostShots, mostDistance}
 use Rattle.sums.specs.Spans.{Span, Chosen, lowShots, Ranged, EqualReadings}
-use Rattle.listing_reader.specs.Entries.{headerOf, isHeader, rowForm, Said, leg, last, neither, readEntry, rowOf}
-use Rattle.listing_reader.proofs.RoundTrip.{Alike, row-line, row-read, end-line, end-said, end-read, header-line, header-lengths, header-read, header-is, Printed, entry-printed}
-use Rattle.misclosure.specs.Misclosure.{
-  lastLine,
-  mostStep,
-  follows,
-  refusal,
-  Outcome,
-  refused,
-  accepted,
-  onto,
-  noLines,
-  stationAfter,
-  onward,
-  outcome,
-  headed,
-  listingOf,
-}
+use Rattle.listing_rows.specs.Entries.{isHeader, Said, leg, last, neither, readEntry}
+use Rattle.listing_rows.proofs.RoundTrip.{Alike, row-line, row-read, end-line, end-said, end-read, header-line, header-lengths, header-read, header-is, Printed, entry-printed}
+use Rattle.job_lines.specs.Links.{follows}
+use Rattle.misclosure.specs.Misclosure.{lastLine, mostStep, refusal, Outcome, refused, accepted, onto, noLines, stationAfter, onward, outcome, headed, listingOf}
 use Rattle.misclosure.specs.Theorems.{Row, Ordered, spanIn, spansIn, rowText, rowsText, textOf, LinkedRow, Linked, EqualRows, SayAlike, ListAlike, chosenRows, longestRow, longestListing}
 use Rattle.misclosure.proofs.Lines.{in-range, leg-0, last-0, leg-within, last-count}
 use Rattle.misclosure.proofs.Going.{outcome-yes, outcome-no}

@@ -6,7 +6,8 @@ use Prim.Native.Nat.{ℕ, _≤_}
 use native.Mathlib.Omega.{arith}
 use lib.IntN.{ℤ, _+ℤ_}
 use lib.ListN.{length, length-append}
-use Rattle.sums.specs.Sums.{Shot, sine, cosine, total, rounded, mostShots}
+use Rattle.noisy_shot.specs.Shots.{Shot}
+use Rattle.sums.specs.Sums.{sine, cosine, total, rounded, mostShots}
 use Rattle.sums.specs.Spans.{Span, lowShot, lowShots, leastShot, greatestShot}
 use Rattle.sums.proofs.SumLaws.{total-joined}
 use Rattle.sums.proofs.Choices.{spans, low-chosen, choice-allowed}

@@ -6,10 +6,9 @@ use mathlib.Core.List.{List, [], _∷_}
 use lib.Dec.{ltb, eqb}
 use lib.IntN.{ℤ, pos}
 use Rattle.text.specs.Scan.{lines}
-use Rattle.text.specs.Forms.{isEmpty}
-use Rattle.listing_writer.specs.Rounding.{turnSteps}
-use Rattle.text.specs.Fields.{same}
-use Rattle.listing_reader.specs.Entries.{isHeader, Said, leg, last, neither, readEntry}
+use Rattle.noisy_shot.specs.Rounding.{turnSteps}
+use Rattle.job_lines.specs.Links.{stationCode}
+use Rattle.listing_rows.specs.Entries.{isHeader, Said, leg, last, neither, readEntry}
 use Rattle.sums.specs.Sums.{sine, cosine, total, rounded, mostShots, mostDistance}
 use Rattle.sums.specs.Spans.{Span, lowShots, lowestTotal, highestTotal}
 use Rattle.misclosure.specs.declared.Miss.{Miss}
@@ -28,20 +27,12 @@ mostStep = turnSteps - 1
 unfoldable pub beyond : ℕ → ℕ → ℕ → ℕ → Bool
 beyond k low high step = ltb lastLine k || (ltb mostDistance low || (ltb mostDistance high || ltb mostStep step))
 
--- "each starting at the station where the one before ended"; before the first shot there is none, which no name is: []
-unfoldable pub follows : List ℕ → List ℕ → Bool
-follows station from = isEmpty station || same station from
-
 -- the refusal code of line k, "6, 24, 23", or 0 where it is accepted: a line that says neither, a false count (the shots are the lines before but the
 -- header), a shot beyond its limits, "a shot that doesn't start at the last station"; "25: low above high; after 24 .. and before 23"
 unfoldable pub refusal : ℕ → List ℕ → Said → ℕ
-refusal k station (leg from to low high step) = cond (beyond k low high step) 24 (cond (ltb high low) 25 (cond (follows station from) 0 23))
+refusal k station (leg from to low high step) = cond (beyond k low high step) 24 (cond (ltb high low) 25 (stationCode station from))
 refusal k station (last count) = cond (eqb count (k - 2)) 0 6
 refusal k station neither = 6
-
--- the last of a shot's causes alone
-unfoldable pub stationCode : List ℕ → List ℕ → ℕ
-stationCode station from = cond (follows station from) 0 23
 
 -- A listing is refused with a code and a line, or gives its shots
 pub data Outcome : Type 0 where

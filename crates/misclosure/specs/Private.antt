@@ -9,8 +9,8 @@ use lib.Signed.{nonNeg}
 use lib.ListN.{length, take, drop}
 use Rattle.text.specs.Fields.{partOf}
 use Rattle.text.specs.Scan.{lines}
-use Rattle.listing_reader.specs.Entries.{Said, leg, last, neither}
-use Rattle.listing_reader.specs.declared.Span.{Span as SpanFields}
+use Rattle.listing_rows.specs.Entries.{Said, leg, last, neither}
+use Rattle.listing_rows.specs.declared.read.Span.{Span as SpanFields}
 use Rattle.sums.specs.Sums.{sine, cosine, mostDistance}
 use Rattle.sums.specs.Spans.{Span, Ranged}
 use Rattle.misclosure.specs.Misclosure.{

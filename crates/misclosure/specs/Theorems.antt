@@ -9,13 +9,15 @@ use lib.ListN.{length}
 use Rattle.text.specs.Limits.{decimalBound}
 use Rattle.text.specs.Fields.{name}
 use Rattle.text.specs.Scan.{lines}
-use Rattle.listing_writer.specs.Listing.{endRow}
-use Rattle.listing_reader.specs.Entries.{headerOf, isHeader, leg, last, neither, readEntry, rowOf}
-use Rattle.sums.specs.Sums.{Shot, sine, cosine, total, rounded, mostShots, mostDistance}
+use Rattle.listing_rows.specs.Rows.{endRow, headerOf, rowOf}
+use Rattle.listing_rows.specs.Entries.{isHeader, leg, last, neither, readEntry}
+use Rattle.noisy_shot.specs.Shots.{Shot}
+use Rattle.sums.specs.Sums.{sine, cosine, total, rounded, mostShots, mostDistance}
 use Rattle.sums.specs.Exact.{exactSine, exactCosine, Close}
 use Rattle.sums.specs.Spans.{Span, Chosen, lowShots, Spans}
 use Rattle.sums.specs.Margin.{distances, margin, CloseBy, FineSpans}
-use Rattle.misclosure.specs.Misclosure.{mostStep, follows, refusal, refused, accepted, listingOf, missOf, bothEnds, intervalsOf}
+use Rattle.job_lines.specs.Links.{follows}
+use Rattle.misclosure.specs.Misclosure.{mostStep, refusal, refused, accepted, listingOf, missOf, bothEnds, intervalsOf}
 use Rattle.misclosure.specs.declared.Miss.{Miss}
 use Rattle.misclosure.specs.declared.IntervalSums.{IntervalSums}
 use Rattle.misclosure.specs.declared.Ends.{Ends}

@@ -5,19 +5,18 @@ use crate::limits::MOST_DISTANCE;
 use crate::limits::MOST_STEP;
 use crate::sum::widened;
 use angle::signed_of;
-use listing_reader::Entry;
-use listing_reader::Span;
-use listing_reader::read_entry;
+use job_lines::link::station_code;
+use listing_rows::read::Entry;
+use listing_rows::read::Span;
+use listing_rows::read::read_entry;
 use text::field::Place;
-use text::field::is_same;
 use text::field::part;
 ghost use mathlib.Core.Path.{_≡_};
 ghost use mathlib.Core.Bool.{cond};
 ghost use lib.Dec.{eqb};
 ghost use Rattle.text.specs.Fields.{partOf};
-ghost use Rattle.misclosure.specs.Misclosure.{stationCode};
 ghost use Rattle.misclosure.specs.Private.{Small, Limited, limitCode, orderCode, Takes, Moved, shotSaid};
-ghost use Rattle.listing_reader.specs.Entries.{readEntry, last};
+ghost use Rattle.listing_rows.specs.Entries.{readEntry, last};
 
 // The number of the next line, where the last station stands in the line before it, and the sums so far.
 pub struct State {
@@ -61,19 +60,6 @@ fn order_code(x: Span) -> u32
         return 25;
     }
     0
-}
-
-// 23 for a shot that does not start at the station, else 0: any may be the first.
-pub fn station_code(station: &[u8], from: &[u8]) -> u32
-    ensures { λ r. ⌜ r ≡ stationCode (now (station .entry)) (now (from .entry)) ⌝ }
-{
-    if station.len() == 0 {
-        return 0;
-    }
-    if is_same(station, from) {
-        return 0;
-    }
-    23
 }
 
 // The first of two codes that is not 0.

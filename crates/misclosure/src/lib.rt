@@ -2,13 +2,13 @@
 // between two readings (Job 14).
 mod entry;
 pub mod limits;
+pub mod printer;
 mod sum;
 mod walk;
 
 use crate::sum::both_millimetres;
 use crate::walk::read_listing;
-pub use entry::station_code;
-use listing_reader::is_header;
+use listing_rows::read::is_header;
 pub use sum::millimetres;
 use text::line::line_end;
 ghost use mathlib.Core.Path.{_≡_};

@@ -1,6 +1,6 @@
 // The limits of a listing (document 02, Job 13); specs/Misclosure.antt and crates/sums/specs/Sums.antt have the same.
 
-use listing_writer::TURN_STEPS;
+use noisy_shot::TURN_STEPS;
 
 // The shots of a listing.
 pub const MOST_SHOTS: u32 = 500;

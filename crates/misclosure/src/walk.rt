@@ -2,7 +2,7 @@
 use crate::Ends;
 use crate::entry::State;
 use crate::entry::take_line;
-use listing_reader::is_header;
+use listing_rows::read::is_header;
 use text::field::Place;
 use text::line::line_end;
 ghost use mathlib.Core.Path.{_≡_};

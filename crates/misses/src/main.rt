@@ -4,8 +4,8 @@ use input::read_all;
 use libc::STDERR_FILENO;
 use libc::STDIN_FILENO;
 use libc::STDOUT_FILENO;
-use miss_writer::OUTPUT_ROOM;
-use miss_writer::print_misses;
+use misclosure::printer::OUTPUT_ROOM;
+use misclosure::printer::print_misses;
 
 // The bytes that are read: every accepted listing has fewer.
 const MOST_BYTES: usize = 65536;

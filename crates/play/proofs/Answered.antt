@@ -12,17 +12,17 @@ use borrow.Author.Tests.{eq-eqb, ne-eqb}
 use Rattle.streams.specs.Streams.{mostCount, countCode, pairsCode}
 use Rattle.streams.proofs.Causes.{count-room}
 use Rattle.streams.proofs.Theorems.{sound-accepted, pairs-accepted}
-use Rattle.job_refusals.specs.Limits as limits
-use Rattle.job.specs.Private.{Steady}
-use Rattle.job_setting.specs.declared.Setting.{Setting}
-use Rattle.sums.specs.Sums.{Shot}
-use Rattle.loop_reader.specs.Loop as loop
-use Rattle.loop_reader.specs.declared.LoopAnswer.{LoopAnswer}
-use Rattle.loop_reader.proofs.Theorems.{theorems, answer-accepted, answer-refused, Within, Ready, ready}
+use Rattle.job_reader.specs.Limits as limits
+use Rattle.job_reader.specs.Setting.{Steady}
+use Rattle.job_reader.specs.declared.walk.Setting.{Setting}
+use Rattle.noisy_shot.specs.Shots.{Shot}
+use Rattle.job_reader.specs.Loop as loop
+use Rattle.job_reader.specs.declared.loops.LoopAnswer.{LoopAnswer}
+use Rattle.play.proofs.LoopTheorems.{theorems, answer-accepted, answer-refused, Within, Ready, ready}
 use Rattle.play.specs.Play.{roomFor, playOf, answerOf, missesFrom, missesAfter}
 use Rattle.play.specs.Private.{unpackedAll, Near}
 use Rattle.play.specs.declared.PlayAnswer.{PlayAnswer}
-use Rattle.play_room.specs.Room.{roomOf}
+use Rattle.play.specs.Room.{roomOf}
 
 -- shots as they were kept, read back
 pub unpacked-are : (l : List Shot) → Within l → unpackedAll (map loop.packed l) ≡ l

@@ -16,9 +16,10 @@ use Rattle.box_muller.specs.Steps.{fractionBits}
 use Rattle.noise.specs.Noise.{pairOf, samples, blockCode, blockOf, blockHolds}
 use Rattle.noise.proofs.Laws.{block-accepted, length-samples}
 use Rattle.noise.proofs.Theorems.{pair-sizes}
-use Rattle.job_refusals.specs.Limits as limits
-use Rattle.job_setting.specs.declared.Setting.{Setting}
-use Rattle.sums.specs.Sums.{Shot, sine, cosine, total}
+use Rattle.job_reader.specs.Limits as limits
+use Rattle.job_reader.specs.declared.walk.Setting.{Setting}
+use Rattle.noisy_shot.specs.Shots.{Shot}
+use Rattle.sums.specs.Sums.{sine, cosine, total}
 use Rattle.sums.proofs.SumLaws.{total-joined}
 use Rattle.play.specs.Play.{ahead, noisyShot, playedShots}
 use Rattle.play.specs.Private.{settingOf, chunkShots, unpacked, unpackedAll, noisyShots, Near, largestSample, SmallSamples, most, Spare, Grown}

@@ -12,8 +12,9 @@ use Rattle.streams.specs.declared.RecordAnswer.{RecordAnswer}
 use Rattle.streams.specs.Streams.{mostCount, pairsCode, after, skipOf}
 use Rattle.streams.specs.Recurrence.{Sound}
 use Rattle.streams.proofs.Theorems.{pairs-accepted, after-add}
-use Rattle.job_setting.specs.declared.Setting.{Setting}
-use Rattle.sums.specs.Sums.{Shot, sine, cosine, total, rounded}
+use Rattle.job_reader.specs.declared.walk.Setting.{Setting}
+use Rattle.noisy_shot.specs.Shots.{Shot}
+use Rattle.sums.specs.Sums.{sine, cosine, total, rounded}
 use Rattle.play.specs.Play.{ahead, playedShots, sumAt, missAt, missesFrom}
 use Rattle.play.specs.Private.{settingOf, unpacked, unpackedAll}
 use Rattle.play.proofs.Blocks.{pairs-left}

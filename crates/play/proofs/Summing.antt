@@ -10,11 +10,12 @@ use lib.Seq.{drop-cons}
 use mir.Syntax.{w16, w32}
 use mir.Val.{Fits, toZ, ofZ}
 use Rattle.signs.proofs.Sizes.{sum-size, product-size, size-reads}
-use Rattle.listing_writer.specs.Rounding.{noisyDistance, noisyBearing}
-use Rattle.job_refusals.specs.Limits as limits
+use Rattle.noisy_shot.specs.Rounding.{noisyDistance, noisyBearing}
+use Rattle.job_reader.specs.Limits as limits
 use Rattle.angle.specs.Steps.{signedOf}
 use Rattle.angle.proofs.Ranges.{signed-range}
-use Rattle.sums.specs.Sums.{Shot, sine, cosine, product, total, mostDistance}
+use Rattle.noisy_shot.specs.Shots.{Shot}
+use Rattle.sums.specs.Sums.{sine, cosine, product, total, mostDistance}
 use Rattle.read_back.proofs.ReadBack.{sized-most, bearing-most}
 use Rattle.play.specs.Private.{largestSample, most, noisyOf, noisyShots, Near, SmallSamples}
 

@@ -8,10 +8,11 @@ use lib.ListN.{length}
 use Rattle.streams.specs.Streams.{after, countCode}
 use Rattle.box_muller.specs.Steps.{fractionBits}
 use Rattle.noise.specs.Noise.{pairOf}
-use Rattle.listing_writer.specs.Rounding.{noisyDistance, noisyBearing}
-use Rattle.job_setting.specs.declared.Setting.{Setting}
-use Rattle.sums.specs.Sums.{Shot, sine, cosine, total, rounded}
-use Rattle.loop_reader.specs.Loop.{Outcome, refused, accepted, loopOf}
+use Rattle.noisy_shot.specs.Rounding.{noisyDistance, noisyBearing}
+use Rattle.job_reader.specs.declared.walk.Setting.{Setting}
+use Rattle.noisy_shot.specs.Shots.{Shot}
+use Rattle.sums.specs.Sums.{sine, cosine, total, rounded}
+use Rattle.job_reader.specs.Loop.{Outcome, refused, accepted, loopOf}
 use Rattle.play.specs.declared.PlayAnswer.{PlayAnswer}
 
 -- ---- One play

@@ -4,10 +4,11 @@ use mathlib.Core.List.{List, [], _∷_, map}
 use lib.IntN.{ℤ, pos, natAbs}
 use lib.ListN.{length, getD}
 use Rattle.streams.specs.declared.Generator.{Generator}
-use Rattle.listing_writer.specs.Rounding.{noisyDistance, noisyBearing}
-use Rattle.job_refusals.specs.Limits as limits
-use Rattle.job_setting.specs.declared.Setting.{Setting}
-use Rattle.sums.specs.Sums.{Shot, mostDistance}
+use Rattle.noisy_shot.specs.Rounding.{noisyDistance, noisyBearing}
+use Rattle.job_reader.specs.Limits as limits
+use Rattle.job_reader.specs.declared.walk.Setting.{Setting}
+use Rattle.noisy_shot.specs.Shots.{Shot}
+use Rattle.sums.specs.Sums.{mostDistance}
 use Rattle.play.specs.declared.sum.Sums.{Sums}
 
 abbrev pub settingOf : Generator → ℕ → ℕ → Setting

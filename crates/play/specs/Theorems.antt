@@ -4,8 +4,9 @@ use mathlib.Core.Path.{_≡_}
 use mathlib.Core.List.{List}
 use lib.IntN.{ℤ, pos}
 use lib.ListN.{length, getD}
-use Rattle.job_setting.specs.declared.Setting.{Setting}
-use Rattle.sums.specs.Sums.{Shot, sine, cosine, total, rounded}
+use Rattle.job_reader.specs.declared.walk.Setting.{Setting}
+use Rattle.noisy_shot.specs.Shots.{Shot}
+use Rattle.sums.specs.Sums.{sine, cosine, total, rounded}
 use Rattle.play.specs.Play.{ahead, playedShots, missAt}
 
 -- the sum of play j at 2^30 in whole millimetres, G being `sine` for east and `cosine` for north

@@ -1,14 +1,15 @@
 // Many plays of one loop: how far each misses, each with the pairs after those of the one before.
 mod plays;
+mod room;
 mod sum;
 
 use crate::plays::plays;
-use job_refusals::limits::MOST_SHOTS;
-use loop_reader::read_loop;
-use play_room::room_code;
+use crate::room::room_code;
+use job_reader::limits::MOST_SHOTS;
+use job_reader::loops::read_loop;
 ghost use mathlib.Core.Path.{_≡_};
 ghost use lib.ListN.{length};
-ghost use Rattle.job_refusals.specs.Limits.{mostShots};
+ghost use Rattle.job_reader.specs.Limits.{mostShots};
 ghost use Rattle.play.specs.Play.{playOf, answerOf, missesAfter};
 
 // The refusal code, 0 where the loop is played; and the line, 0 where no line is at fault.

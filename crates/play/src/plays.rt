@@ -1,14 +1,14 @@
 // Plays, one after another.
 use crate::sum::one_play;
-use job_setting::Setting;
+use job_reader::walk::Setting;
 use misclosure::millimetres;
 use streams::Generator;
 ghost use mathlib.Core.Path.{_≡_};
 ghost use Prim.Native.Nat.{_+_, _*_, _≤_};
 ghost use lib.ListN.{length};
 ghost use Rattle.streams.specs.Streams.{pairsCode};
-ghost use Rattle.job_refusals.specs.Limits.{mostShots};
-ghost use Rattle.job.specs.Private.{Steady};
+ghost use Rattle.job_reader.specs.Limits.{mostShots};
+ghost use Rattle.job_reader.specs.Setting.{Steady};
 ghost use Rattle.play.specs.Play.{missesFrom};
 ghost use Rattle.play.specs.Private.{unpackedAll, settingOf, Near};
 

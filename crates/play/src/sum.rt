@@ -1,16 +1,16 @@
 // The sums of one play at 2^30, its pairs drawn by blocks.
 use angle::signed_of;
-use listing_writer::noisy_bearing;
-use listing_writer::noisy_distance;
 use noise::block;
+use noisy_shot::noisy_bearing;
+use noisy_shot::noisy_distance;
 use streams::Generator;
 ghost use mathlib.Core.Path.{_≡_};
 ghost use Prim.Native.Nat.{_+_, _-_, _*_, _/_, _≤_, min};
 ghost use lib.IntN.{natAbs, _+ℤ_};
 ghost use lib.ListN.{length};
 ghost use Rattle.streams.specs.Streams.{after, pairsCode};
-ghost use Rattle.job_refusals.specs.Limits.{mostDistance, mostShots};
-ghost use Rattle.job.specs.Private.{Steady};
+ghost use Rattle.job_reader.specs.Limits.{mostDistance, mostShots};
+ghost use Rattle.job_reader.specs.Setting.{Steady};
 ghost use Rattle.sums.specs.Sums.{sine, cosine, product, total};
 ghost use Rattle.play.specs.Play.{playedShots};
 ghost use Rattle.play.specs.Private.{largestSample, chunkShots, noisyOf, noisyShots, unpackedAll, settingOf, Near, SmallSamples, Spare, Grown};

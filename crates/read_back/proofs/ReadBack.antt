@@ -14,29 +14,30 @@ use Rattle.text.specs.Fields.{name}
 use Rattle.text.specs.Scan.{lines}
 use Rattle.job_lines.specs.Forms.{Form, seeds, sigma, shot, noForm, readLine, Printable}
 use Rattle.job_lines.proofs.RoundTrip.{printed-read, shot-not-none}
-use Rattle.listing_writer.specs.Rounding.{noiseSize, noisyDistance, noisyBearing}
-use Rattle.listing_writer.specs.Listing.{header, endRow, noisyRow}
+use Rattle.noisy_shot.specs.Rounding.{noiseSize, noisyDistance, noisyBearing}
+use Rattle.listing_rows.specs.Rows.{header, endRow, rowOf, headerOf}
 use Rattle.streams.specs.declared.Generator.{Generator}
 use Rattle.box_muller.specs.Steps.{fractionBits}
 use Rattle.box_muller.proofs.Theorems as samples
 use Rattle.noise.specs.Noise.{pairOf}
 use Rattle.noise.proofs.Theorems.{pair-sizes}
-use Rattle.job_refusals.specs.Limits as limits
-use Rattle.job_refusals.specs.Refusals as jobs
-use Rattle.job_setting.specs.Setting.{start}
+use Rattle.job_reader.specs.Limits as limits
+use Rattle.job_reader.specs.Refusals as jobs
+use Rattle.job_reader.specs.Setting.{start, Steady}
 use Rattle.job.specs.Job as job
-use Rattle.job.specs.Private.{Steady}
-use Rattle.job_setting.specs.declared.Setting.{Setting}
-use Rattle.job_refusals.proofs.Refused.{or-false}
-use Rattle.job_refusals.proofs.Accepted.{Accepted, accepted-line}
+use Rattle.job.specs.Job.{noisyRow}
+use Rattle.job_reader.specs.declared.walk.Setting.{Setting}
+use Rattle.job_reader.proofs.Refused.{or-false}
+use Rattle.job_reader.proofs.Accepted.{Accepted, accepted-line}
 use Rattle.job.proofs.Bounds.{steps}
 use Rattle.job.proofs.Going as going
 use Rattle.job.proofs.Jobs as jobLaws
 use Rattle.sums.specs.Sums.{mostDistance}
 use Rattle.sums.specs.Spans.{Span}
-use Rattle.listing_reader.specs.Entries.{rowOf, headerOf, leg}
-use Rattle.misclosure.specs.Misclosure.{lastLine, mostStep, beyond, follows, refusal, Outcome, refused, accepted, onto, outcome, listingOf}
-use Rattle.read_back.specs.ReadBack.{Following, ReadBack}
+use Rattle.listing_rows.specs.Entries.{leg}
+use Rattle.job_lines.specs.Links.{follows, stationCode, Following}
+use Rattle.misclosure.specs.Misclosure.{lastLine, mostStep, beyond, refusal, Outcome, refused, accepted, onto, outcome, listingOf}
+use Rattle.read_back.specs.ReadBack.{ReadBack}
 use Rattle.misclosure.proofs.Lines.{in-range}
 use Rattle.misclosure.proofs.Listings.{outcome-row, outcome-leg, outcome-end, listing-headed}
 
@@ -73,7 +74,7 @@ Back k station bytes xs =
 
 leg-23 : (k : ℕ) (station from to : List ℕ) (low high step : ℕ) → beyond k low high step ≡ false → low ≤ high → follows station from ≡ false
     → refusal k station (leg from to low high step) ≡ 23
-unfolding refusal
+unfolding refusal stationCode
 leg-23 k station from to low high step e h f = rw (e, le-ltb high low h, f)
 
 -- one line more in front

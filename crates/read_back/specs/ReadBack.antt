@@ -2,11 +2,11 @@
 -- where one does not, it is refused for that alone.
 use Prim.Native.Nat.{ℕ, _≤_}
 use mathlib.Core.Path.{_≡_}
-use mathlib.Core.Bool.{true, false}
-use mathlib.Core.List.{List, [], _∷_, map}
+use mathlib.Core.Bool.{false}
+use mathlib.Core.List.{List, [], map}
 use Rattle.text.specs.Scan.{lines}
-use Rattle.job_lines.specs.Forms.{Form, seeds, sigma, shot, noForm, readLine}
-use Rattle.listing_writer.specs.Rounding.{noisyDistance}
+use Rattle.job_lines.specs.Forms.{readLine}
+use Rattle.noisy_shot.specs.Rounding.{noisyDistance}
 use Rattle.streams.specs.declared.Generator.{Generator}
 use Rattle.box_muller.specs.Steps.{fractionBits}
 use Rattle.box_muller.specs.Sample.{samplesOf}
@@ -14,15 +14,8 @@ use Rattle.noise.specs.Noise.{pairOf}
 use Rattle.job.specs.Job.{listed, jobOf}
 use Rattle.sums.specs.Sums.{mostDistance}
 use Rattle.sums.specs.Spans.{Span}
-use Rattle.misclosure.specs.Misclosure.{follows, refused, accepted, listingOf}
-
--- the shots of a job follow each other
-unfoldable pub Following : List ℕ → List Form → Type 0
-Following station [] = Unit {0}
-Following station (shot from to d b ∷ xs) = (follows station from ≡ true) × Following to xs
-Following station (seeds a0 a1 a2 b0 b1 b2 ∷ xs) = Following station xs
-Following station (sigma d b ∷ xs) = Following station xs
-Following station (noForm ∷ xs) = Following station xs
+use Rattle.job_lines.specs.Links.{Following}
+use Rattle.misclosure.specs.Misclosure.{refused, accepted, listingOf}
 
 -- the distance of the longest shot with the largest sigma and the first sample of k and v
 abbrev pub farthest : ℕ → ℕ → ℕ

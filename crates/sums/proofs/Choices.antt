@@ -10,7 +10,8 @@ use lib.IntN.{ℤ, pos, negsuc, _+ℤ_, _*ℤ_}
 use lib.ListN.{length}
 use lib.Signed.{nonNeg, _≤ℤ_, leZ-yes}
 use Rattle.exact.specs.Pair.{Enclosure, above, below}
-use Rattle.sums.specs.Sums.{Shot, sine, cosine, total, rounded, mostShots, Bounded, Allowed}
+use Rattle.noisy_shot.specs.Shots.{Shot}
+use Rattle.sums.specs.Sums.{sine, cosine, total, rounded, mostShots, Bounded, Allowed}
 use Rattle.sums.specs.Exact.{Near, exactSine, exactCosine}
 use Rattle.sums.specs.Spans.{Span, Chosen, lowShots, leastShot, greatestShot, lowestTotal, highestTotal, Ranged, EqualReadings, Met, Spans}
 use Rattle.sums.proofs.Parts.{neg-parts, product-parts}

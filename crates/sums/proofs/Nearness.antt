@@ -13,7 +13,8 @@ use Rattle.exact.specs.Pair.{Enclosure, above, below, along}
 use Rattle.angle.specs.Margin.{Member}
 use Rattle.angle.proofs.Members.{members-near}
 use Rattle.sums.specs.Points.{Point, _≤ᵖ_, _<ᵖ_, _+ᵖ_, _·ᵖ_, wholePoint, signed, lowest, highest}
-use Rattle.sums.specs.Sums.{Shot, sine, cosine, total, rounded, mostShots, mostDistance, Bounded, Allowed}
+use Rattle.noisy_shot.specs.Shots.{Shot}
+use Rattle.sums.specs.Sums.{sine, cosine, total, rounded, mostShots, mostDistance, Bounded, Allowed}
 use Rattle.sums.specs.Exact.{sumOf, lowEnd, highEnd, exactSine, exactCosine, Near, Close}
 use Rattle.sums.specs.Margin.{distances, margin, NearBy, CloseBy}
 use Rattle.sums.proofs.PointLaws.{≤ᵖ-trans, +ᵖ-mono, ·ᵖ-mono}

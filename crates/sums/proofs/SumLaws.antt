@@ -10,7 +10,8 @@ use Rattle.exact.specs.Fraction.{Fraction, _<ᶠ_, _+ᶠ_}
 use Rattle.exact.specs.Pair.{Enclosure}
 use Rattle.exact.proofs.MemberLaws.{Meet, members-overlap, members-narrow}
 use Rattle.sums.specs.Points.{Point, _≤ᵖ_, _<ᵖ_, _+ᵖ_, _·ᵖ_, signed, lowest, highest}
-use Rattle.sums.specs.Sums.{Shot, product, total}
+use Rattle.noisy_shot.specs.Shots.{Shot}
+use Rattle.sums.specs.Sums.{product, total}
 use Rattle.sums.specs.Exact.{sumOf, lowEnd, highEnd, exactSine, exactCosine}
 use Rattle.sums.specs.Margin.{distances}
 use Rattle.sums.proofs.PointLaws.{≤ᵖ-trans, ≤ᵖ-<ᵖ-trans, +ᵖ-mono, ·ᵖ-mono}

@@ -7,7 +7,8 @@ use native.Mathlib.Omega.{arith}
 use lib.IntN.{ℤ, pos, negsuc, negℤ, negℤ-negℤ, _+ℤ_, _*ℤ_, +ℤ-idr, +ℤ-invr}
 use Rattle.angle.specs.Steps.{signedOf, quarterOn}
 use Rattle.angle.proofs.QuarterTurn.{signed-quarter}
-use Rattle.sums.specs.Sums.{Shot, sine, cosine, total, rounded}
+use Rattle.noisy_shot.specs.Shots.{Shot}
+use Rattle.sums.specs.Sums.{sine, cosine, total, rounded}
 use Rattle.sums.specs.Theorems.{Theorems, halfTurned}
 use Rattle.sums.proofs.SumLaws.{sum-mono, total-joined, sums-overlap, sums-narrow}
 use Rattle.sums.proofs.Nearness.{close-within, within-margin, wider}

@@ -5,7 +5,7 @@ use Prim.Native.Nat.{ℕ}
 use lib.IntN.{ℤ, pos}
 use Rattle.exact.specs.Pair.{Enclosure, members}
 use Rattle.sums.specs.Points.{Point, _≤ᵖ_, _<ᵖ_, _+ᵖ_, _·ᵖ_, wholePoint, lowest, highest}
-use Rattle.sums.specs.Sums.{Shot}
+use Rattle.noisy_shot.specs.Shots.{Shot}
 
 -- the sum of distance × P(step)
 unfoldable pub sumOf : (ℕ → Point) → List Shot → Point

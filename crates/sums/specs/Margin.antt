@@ -8,7 +8,7 @@ use lib.IntN.{ℤ, pos}
 use Rattle.exact.specs.Fraction.{Fraction, _≤ᶠ_, whole, dyadic}
 use Rattle.exact.specs.Pair.{Enclosure}
 use Rattle.sums.specs.Points.{Point, _≤ᵖ_, _+ᵖ_, wholePoint, signed, lowest, highest}
-use Rattle.sums.specs.Sums.{Shot}
+use Rattle.noisy_shot.specs.Shots.{Shot}
 use Rattle.sums.specs.Exact.{lowEnd, highEnd, exactSine, exactCosine}
 use Rattle.sums.specs.Spans.{Span}
 

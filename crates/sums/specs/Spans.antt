@@ -6,7 +6,8 @@ use Prim.Native.Nat.{ℕ, _≤_}
 use lib.IntN.{ℤ}
 use lib.Signed.{nonNeg, _≤ℤ_}
 use Rattle.exact.specs.Pair.{Enclosure}
-use Rattle.sums.specs.Sums.{Shot, total, rounded, mostDistance}
+use Rattle.noisy_shot.specs.Shots.{Shot}
+use Rattle.sums.specs.Sums.{total, rounded, mostDistance}
 use Rattle.sums.specs.Exact.{Near}
 
 -- a shot: its shortest and its longest distance in mm, and its bearing in steps

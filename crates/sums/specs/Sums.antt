@@ -3,12 +3,8 @@ use mathlib.Core.List.{List, [], _∷_}
 use Prim.Native.Nat.{ℕ, suc, _+_, _*_, _/_, _^_, _≤_}
 use lib.ListN.{length}
 use lib.IntN.{ℤ, pos, negsuc, negℤ, _+ℤ_, _*ℤ_}
+use Rattle.noisy_shot.specs.Shots.{Shot}
 use Rattle.angle.specs.Steps.{signedOf}
-
--- a shot: its distance in mm and its bearing in steps
-pub record Shot : Type 0 where
-  pub distance : ℕ
-  pub step : ℕ
 
 -- "sine and .. cosine of the bearing at 2^30, using the rotations of document 01"
 abbrev pub sine : ℕ → ℤ

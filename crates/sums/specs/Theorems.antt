@@ -9,7 +9,8 @@ use lib.ListN.{length}
 use Rattle.exact.specs.Fraction.{Fraction}
 use Rattle.exact.specs.Pair.{Enclosure}
 use Rattle.sums.specs.Points.{Point, _≤ᵖ_, _<ᵖ_, _+ᵖ_, signed, lowest, highest}
-use Rattle.sums.specs.Sums.{Shot, sine, cosine, total, rounded, mostShots, mostDistance, Allowed}
+use Rattle.noisy_shot.specs.Shots.{Shot}
+use Rattle.sums.specs.Sums.{sine, cosine, total, rounded, mostShots, mostDistance, Allowed}
 use Rattle.sums.specs.Exact.{sumOf, lowEnd, highEnd, exactSine, exactCosine, Close}
 use Rattle.sums.specs.Spans.{Span, lowShots, lowestTotal, highestTotal, Ranged, EqualReadings, Spans}
 use Rattle.sums.specs.Margin.{distances, margin, CloseBy, FineSpans}

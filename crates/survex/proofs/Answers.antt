@@ -9,13 +9,13 @@ use mathlib.Core.List.{List, [], _∷_}
 use lib.ListN.{length}
 use borrow.Author.Tests.{le-leb, lt-leb}
 use Rattle.text.specs.Scan.{lines}
-use Rattle.buffer.proofs.Writing.{written-fits}
+use Rattle.text.proofs.Writing.{written-fits}
 use Rattle.job_lines.specs.Forms.{shot, printLine}
 use Rattle.job.specs.Job.{Outcome, refused, listed, answerOf, bufferAfter}
 use Rattle.job.proofs.Answered.{Told, onto-told, answer-within, printed-refused}
-use Rattle.survex_lines.specs.Lines.{leftOf, fed, remains}
-use Rattle.survex_leg.specs.Legs.{Said, leg, wrong, words, readLeg}
-use Rattle.survex_leg.proofs.Facts.{wrong-facts}
+use Rattle.survex_reader.specs.Lines.{leftOf, fed, remains}
+use Rattle.survex_reader.specs.Legs.{Said, leg, wrong, words, readLeg}
+use Rattle.survex_reader.proofs.Facts.{wrong-facts}
 use Rattle.survex.specs.Survex.{isData, legLine, onLeg, legsFrom, survexFrom, survexOf, legsAnswer}
 use Rattle.survex.specs.Private.{Converts}
 use Rattle.survex.specs.declared.LegsAnswer.{LegsAnswer}

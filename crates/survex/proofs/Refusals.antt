@@ -10,10 +10,10 @@ use Rattle.text.proofs.Tests.{test, _and_, each}
 use Rattle.job_lines.specs.Forms.{shot, printLine}
 use Rattle.job.specs.Job.{Outcome, refused, listed, onto}
 use Rattle.job.proofs.Jobs.{onto-refused, refused-not-listed}
-use Rattle.survex_lines.specs.Lines.{leftOf, fed, remains}
-use Rattle.survex_lines.specs.Theorems.{remaining}
-use Rattle.survex_leg.specs.Legs.{Said, leg, wrong, words, legForm, legRange, readLeg}
-use Rattle.survex_leg.proofs.Theorems as legs
+use Rattle.survex_reader.specs.Lines.{leftOf, fed, remains}
+use Rattle.survex_reader.specs.LineTheorems.{remaining}
+use Rattle.survex_reader.specs.Legs.{Said, leg, wrong, words, legForm, legRange, readLeg}
+use Rattle.survex_reader.proofs.LegTheorems as legs
 use Rattle.survex.specs.Survex.{isData, legLine, onLeg, legsFrom, survexFrom}
 use Rattle.survex.specs.Theorems.{codeOf, lineCode, lineCodes, FirstIn, FormedLine, RangedLine}
 

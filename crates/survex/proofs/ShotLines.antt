@@ -9,8 +9,8 @@ use Rattle.text.proofs.Decimal.{decimal-length}
 use Rattle.text.proofs.Plain.{name-length}
 use Rattle.job_lines.specs.Forms.{shot, printLine}
 use Rattle.job_lines.specs.declared.Shot.{Shot as ShotFields}
-use Rattle.survex_leg.specs.Legs.{leg, readLeg}
-use Rattle.survex_leg.proofs.Facts.{LegFacts, leg-facts}
+use Rattle.survex_reader.specs.Legs.{leg, readLeg}
+use Rattle.survex_reader.proofs.Facts.{LegFacts, leg-facts}
 use Rattle.job_lines.proofs.ShotLines.{Short, shot-length}
 
 pub leg-length : (f t : List ℕ) (d b : ℕ) → LegFacts f t d b → length (printLine (shot f t d b)) ≤ length f + length t + 23

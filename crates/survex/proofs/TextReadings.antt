@@ -4,8 +4,8 @@ use Rattle.text.specs.Scan.{oneOf, upTo, before, lines}
 use Rattle.text.specs.Fields.{all, digit, letter, letterOrDigit, name, value, decimalBy, decimal}
 use Rattle.text.specs.Forms.{startsWith, isEmpty, readForm, printForm}
 use Rattle.job_lines.specs.Forms.{shotForm, printLine}
-use Rattle.survex_lines.specs.Lines.{uncommented, blanksBefore, trimStart, trimEnd, leftOf, fed, remains}
-use Rattle.survex_leg.specs.Legs.{startsWord, words, isDecimal, scaled, stepOf, level, legForm, legRange, readLeg}
+use Rattle.survex_reader.specs.Lines.{uncommented, blanksBefore, trimStart, trimEnd, leftOf, fed, remains}
+use Rattle.survex_reader.specs.Legs.{startsWord, words, isDecimal, scaled, stepOf, level, legForm, legRange, readLeg}
 use Rattle.survex.specs.Survex.{dataForm, isData, legLine, legsFrom, survexFrom, survexOf}
 use Rattle.survex.specs.TextReadings.{TextReadings}
 

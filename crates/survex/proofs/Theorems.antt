@@ -15,18 +15,19 @@ use Rattle.text.proofs.Decimal.{decimal-length}
 use Rattle.text.proofs.Forms.{print-mark, print-byte, unmarked, printed-read as form-printed}
 use Rattle.job_lines.specs.Forms.{Form, seeds, sigma, shot, noForm, seedsForm, sigmaForm, readLine, printLine, Printable}
 use Rattle.job_lines.proofs.RoundTrip.{read-printed, printed-read}
-use Rattle.job_refusals.specs.Limits.{mostBytes, mostShots, lastLine, mostDistance, mostBearing, listingRoom}
-use Rattle.job_refusals.specs.Refusals.{formless, misplaced, tooMany, beyond, seedCode, refusal}
+use Rattle.job.specs.Limits.{listingRoom}
+use Rattle.job_reader.specs.Limits.{mostBytes, mostShots, lastLine, mostDistance, mostBearing}
+use Rattle.job_reader.specs.Refusals.{formless, misplaced, tooMany, beyond, seedCode, refusal}
 use Rattle.job.specs.Job.{refused, listed, jobOf, answerOf}
 use Rattle.job.specs.Theorems.{textOf, Accepts}
 use Rattle.job.proofs.Jobs.{line-printed, not-noForm, refused-not-listed, onto-listed, bytes-same}
 use Rattle.job.proofs.Theorems as job-theorems
-use Rattle.survex_lines.specs.Lines.{leftOf, fed, remains}
-use Rattle.survex_leg.specs.Legs.{Said, leg, wrong, words, readLeg}
-use Rattle.survex_leg.proofs.Facts.{leg-facts}
+use Rattle.survex_reader.specs.Lines.{leftOf, fed, remains}
+use Rattle.survex_reader.specs.Legs.{Said, leg, wrong, words, readLeg}
+use Rattle.survex_reader.proofs.Facts.{leg-facts}
 use Rattle.job_lines.proofs.ShotLines.{shot-length}
 use Rattle.survex.specs.Survex.{dataForm, found, isData, legLine, onLeg, legsFrom, survexFrom, survexOf}
-use Rattle.survex_lines.specs.Theorems.{remaining}
+use Rattle.survex_reader.specs.LineTheorems.{remaining}
 use Rattle.survex.specs.Theorems.{shotOf, shotsIn, Fit, AllFit, FirstBad, Theorems}
 use Rattle.text.proofs.Plain.{name-length}
 use Rattle.survex.proofs.Refusals.{

@@ -10,17 +10,17 @@ use lib.ListN.{length, take, drop, length-append}
 use native.Mathlib.Decide.{decLt}
 use borrow.Author.Tests.{le-leb, lt-leb}
 use Rattle.text.specs.Scan.{lines}
-use Rattle.buffer.specs.Buffer.{written}
+use Rattle.text.specs.Buffer.{written}
 use Rattle.text.specs.Forms.{marks, readForm, readFew, foundIn}
 use Rattle.text.specs.declared.form.Found.{Found}
-use Rattle.buffer.proofs.Writing.{written-on}
+use Rattle.text.proofs.Writing.{written-on}
 use Rattle.job_lines.specs.Forms.{shot, printLine}
 use Rattle.job.specs.Job.{Outcome, refused, listed, onto, answerOf}
 use Rattle.job.proofs.Going.{onto-onto}
-use Rattle.survex_lines.specs.Lines.{leftOf, fed, remains, remainingFrom}
-use Rattle.survex_lines.specs.declared.Remaining.{Remaining}
-use Rattle.survex_lines.proofs.Onward.{HandedOut, none-found, some-found, passed-few}
-use Rattle.survex_leg.specs.Legs.{Said, leg, wrong, words, readLeg}
+use Rattle.survex_reader.specs.Lines.{leftOf, fed, remains, remainingFrom}
+use Rattle.survex_reader.specs.declared.lines.Remaining.{Remaining}
+use Rattle.survex_reader.proofs.Onward.{HandedOut, none-found, some-found, passed-few}
+use Rattle.survex_reader.specs.Legs.{Said, leg, wrong, words, readLeg}
 use Rattle.survex.specs.Survex.{dataForm, found, isData, legLine, onLeg, legsFrom, survexFrom, survexOf, legsAnswer}
 use Rattle.survex.specs.Private.{measuredOf, Takes, Starts, DataFound, Converts}
 use Rattle.survex.specs.declared.walk.Measured.{Measured}

@@ -6,10 +6,10 @@ use mathlib.Core.List.{List}
 use lib.Dec.{leb, eqb}
 use lib.ListN.{length, drop}
 use Rattle.text.specs.Scan.{lines}
-use Rattle.buffer.specs.Buffer.{written}
+use Rattle.text.specs.Buffer.{written}
 use Rattle.job_lines.specs.Forms.{shot, printLine}
 use Rattle.job.specs.Job.{Outcome, refused, listed}
-use Rattle.survex_leg.specs.Legs.{Said, leg, wrong}
+use Rattle.survex_reader.specs.Legs.{Said, leg, wrong}
 use Rattle.survex.specs.Survex.{survexOf, legsFrom, legsAnswer}
 use Rattle.survex.specs.declared.LegsAnswer.{LegsAnswer}
 use Rattle.survex.specs.declared.walk.Measured.{Measured}

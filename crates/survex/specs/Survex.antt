@@ -8,8 +8,8 @@ use Rattle.text.specs.Scan.{lines}
 use Rattle.text.specs.Forms.{readForm}
 use Rattle.job_lines.specs.Forms.{shot, printLine}
 use Rattle.job.specs.Job.{Outcome, refused, listed, onto, answerOf}
-use Rattle.survex_lines.specs.Lines.{leftOf, fed, remains}
-use Rattle.survex_leg.specs.Legs.{Said, leg, wrong, words, readLeg}
+use Rattle.survex_reader.specs.Lines.{leftOf, fed, remains}
+use Rattle.survex_reader.specs.Legs.{Said, leg, wrong, words, readLeg}
 use Rattle.survex.specs.declared.LegsAnswer.{LegsAnswer}
 
 -- "The first remaining line is": a form without a field

@@ -8,14 +8,15 @@ use lib.ListN.{length, getD, drop}
 use Rattle.text.specs.Fields.{name}
 use Rattle.text.specs.Scan.{lines}
 use Rattle.job_lines.specs.Forms.{Form, seeds, sigma, shot, noForm, readLine}
-use Rattle.job_refusals.specs.Limits.{mostShots, mostDistance, mostBearing, listingRoom}
-use Rattle.job_refusals.specs.Refusals.{refusal}
+use Rattle.job.specs.Limits.{listingRoom}
+use Rattle.job_reader.specs.Limits.{mostShots, mostDistance, mostBearing}
+use Rattle.job_reader.specs.Refusals.{refusal}
 use Rattle.job.specs.Job.{refused, listed, jobOf, answerOf}
 use Rattle.job.specs.Theorems.{textOf}
-use Rattle.survex_lines.specs.Lines.{leftOf, fed, remains}
-use Rattle.survex_lines.specs.Theorems.{remaining}
-use Rattle.survex_leg.specs.Legs.{Said, leg, wrong, words}
-use Rattle.survex_leg.specs.Theorems.{Formed, Ranged}
+use Rattle.survex_reader.specs.Lines.{leftOf, fed, remains}
+use Rattle.survex_reader.specs.LineTheorems.{remaining}
+use Rattle.survex_reader.specs.Legs.{Said, leg, wrong, words}
+use Rattle.survex_reader.specs.LegTheorems.{Formed, Ranged}
 use Rattle.survex.specs.Survex.{dataForm, isData, legLine, survexOf}
 
 -- the shot that a leg says

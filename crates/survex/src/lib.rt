@@ -2,11 +2,11 @@
 mod walk;
 
 use crate::walk::convert;
-use listing_writer::put_refused;
+use listing_rows::write::put_refused;
 ghost use Prim.Native.Nat.{_≤_};
 ghost use mathlib.Core.Path.{_≡_};
 ghost use lib.ListN.{length};
-ghost use Rattle.buffer.specs.Buffer.{Puts};
+ghost use Rattle.text.specs.Buffer.{Puts};
 ghost use Rattle.job.specs.Job.{bufferAfter, outputOf};
 ghost use Rattle.survex.specs.Survex.{survexOf, legsAnswer};
 

@@ -1,16 +1,16 @@
 // A Survex text from its first line to its last.
 use crate::LegsAnswer;
-use buffer::put;
 use job_lines::write::shot_line;
-use survex_leg::LegLine;
-use survex_leg::leg_of;
-use survex_lines::line_from;
+use survex_reader::leg::LegLine;
+use survex_reader::leg::leg_of;
+use survex_reader::lines::line_from;
+use text::buffer::put;
 use text::form::read_form;
 ghost use mathlib.Core.Path.{_≡_};
 ghost use lib.ListN.{drop};
 ghost use Rattle.text.specs.Scan.{lines};
 ghost use Rattle.text.specs.Forms.{readForm};
-ghost use Rattle.survex_leg.specs.Legs.{words, readLeg};
+ghost use Rattle.survex_reader.specs.Legs.{words, readLeg};
 ghost use Rattle.survex.specs.Survex.{found, dataForm, survexOf, legsFrom};
 ghost use Rattle.survex.specs.Private.{grownOf, Takes, DataFound, Starts, Converts};
 

@@ -8,5 +8,7 @@ pub mod Readings
 pub mod SameBytes
 pub mod Tests
 pub mod TypedFields
+pub mod FoundFields
+pub mod Writing
 pub mod Theorems
 pub mod TextReadings

@@ -1,6 +1,6 @@
 -- Forms: bytes that a line has as they stand, and # for each of its fields. The printer and the reader of a form.
 use Prim.Native.Nat.{ℕ, suc, _+_}
-use mathlib.Core.Bool.{Bool, true, false, cond}
+use mathlib.Core.Bool.{Bool, true, false, cond, _&&_}
 use mathlib.Core.List.{List, [], _∷_, _++_, map}
 use mathlib.Core.Option.{Option, some, none}
 use lib.Dec.{leb, ltb, eqb}
@@ -8,7 +8,7 @@ use lib.ListN.{length, getD, take, drop, set, replicate}
 use Rattle.text.specs.Limits.{formFields}
 use Rattle.text.specs.Ascii.{byte}
 use Rattle.text.specs.Scan.{field}
-use Rattle.text.specs.Fields.{partOf}
+use Rattle.text.specs.Fields.{digitString, value, partOf}
 use Rattle.text.specs.declared.field.Place.{Place}
 use Rattle.text.specs.declared.form.Found.{Found}
 
@@ -48,6 +48,25 @@ readForm (f ∷ form) line =
     let afterField = readForm form (drop (length (field line)) line) in
     let afterByte = readForm form (drop 1 line) in
     cond (mark f) (lead (field line) afterField) (cond (startsWith f line) afterByte none)
+
+-- what the fields of a line say, where it has the form; else what another form says
+abbrev pub orElse : {A : Type 0} → Option (List (List ℕ)) → (List (List ℕ) → A) → A → A
+orElse (some fields) f other = f fields
+orElse none f other = other
+
+-- the field at a place, and the number that it spells
+abbrev pub fieldAt : List (List ℕ) → ℕ → List ℕ
+fieldAt fields i = getD fields i []
+
+abbrev pub valueAt : List (List ℕ) → ℕ → ℕ
+valueAt fields i = value 0 (fieldAt fields i)
+
+abbrev pub digitStringAt : List (List ℕ) → ℕ → Bool
+digitStringAt fields i = digitString (fieldAt fields i)
+
+-- three numbers from a place on
+abbrev pub threeAt : List (List ℕ) → ℕ → Bool
+threeAt fields i = digitStringAt fields i && digitStringAt fields (i + 1) && digitStringAt fields (i + 2)
 
 -- the reader of forms with few enough fields
 unfoldable pub readFew : List ℕ → List ℕ → Option (List (List ℕ))

@@ -3,5 +3,7 @@ pub mod Ascii
 pub mod Scan
 pub mod Fields
 pub mod Forms
+pub mod Buffer
 pub mod Theorems
 pub mod TextReadings
+pub mod Private

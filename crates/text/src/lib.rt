@@ -1,4 +1,5 @@
-// Names, digit strings, forms and lines, read in the caller's bytes.
+// Names, digit strings, forms and lines, read in the caller's bytes; and bytes written into the caller's buffer.
+pub mod buffer;
 pub mod field;
 pub mod form;
 pub mod limits;

@@ -2,7 +2,7 @@
 use native.Mathlib.Omega.{arith}
 use mathlib.Core.Path.{refl, sym, ap, _∙_}
 use Rattle.job_lines.specs.Forms.{seedsForm, sigmaForm, shotForm}
-use Rattle.job_lines.proofs.Reading.{found, missed}
+use Rattle.text.proofs.FoundFields.{found, missed}
 use Rattle.job_lines.proofs.Exact.{isShot, seeds-other, sigma-other, told-other, told-shot}
 use Rattle.job_lines.proofs.RoundTrip.{all-marks, read-seeds, read-sigma, read-shot, read-none, shot-alone}
 use Rattle.job_lines.proofs.read_line.Statement.{statement}

@@ -4,9 +4,9 @@ use mathlib.Core.Path.{_≡_, sym, ap, subst, _∙_}
 use mathlib.Core.List.{List}
 use Prim.Native.Nat.{ℕ}
 use lib.ListN.{length}
-use Rattle.buffer.proofs.Writing.{puts-within}
-use Rattle.buffer.specs.Buffer.{Puts}
-use Rattle.listing_writer.specs.Listing.{refusedRow}
+use Rattle.text.proofs.Writing.{puts-within}
+use Rattle.text.specs.Buffer.{Puts}
+use Rattle.listing_rows.specs.Rows.{refusedRow}
 use Rattle.job.specs.Job.{outputOf}
 use Rattle.job.proofs.Answered.{printed-listed, printed-refused}
 use Rattle.survex.specs.Survex.{survexOf}

@@ -5,8 +5,8 @@ use Prim.Native.Nat.{ℕ, _-_, _≤_}
 use native.Mathlib.Omega.{arith}
 use lib.ListN.{length, take, length-set}
 use lib.Seq.{take-all}
-use Rattle.buffer.specs.Buffer.{written}
-use Rattle.buffer.proofs.Writing.{put-start, put-more}
+use Rattle.text.specs.Buffer.{written}
+use Rattle.text.proofs.Writing.{put-start, put-more}
 use borrow.Author.Needs.{needs}
 use Rattle.jabulghi_marks.proofs.members.put_words.Statement.{statement}
 use Rattle.jabulghi_marks.proofs.members.put_words.Tie as tie

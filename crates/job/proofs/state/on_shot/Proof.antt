@@ -5,7 +5,7 @@ use borrow.Author.Needs.{needs}
 use Rattle.streams.specs.declared.RecordAnswer.{RecordAnswer}
 use Rattle.job.specs.Job.{settingAfter}
 use Rattle.job.specs.Private.{acceptedState, acceptedBuffer}
-use Rattle.job_refusals.proofs.Accepted.{line-few, shot-within}
+use Rattle.job_reader.proofs.Accepted.{line-few, shot-within}
 use Rattle.job.proofs.Bounds.{noise-on}
 use Rattle.job.proofs.state.on_shot.Statement.{statement}
 use Rattle.job.proofs.state.on_shot.Tie as tie

@@ -1,7 +1,7 @@
 -- `job_lines::write::put_names` meets its contract.
 use mathlib.Core.List.{[], _∷_, _++_}
 use Rattle.text.specs.Ascii.{ascii}
-use Rattle.buffer.proofs.Writing.{then-puts}
+use Rattle.text.proofs.Writing.{then-puts}
 use borrow.Author.Needs.{needs}
 use Rattle.job_lines.proofs.write.put_names.Statement.{statement}
 use Rattle.job_lines.proofs.write.put_names.Tie as tie

@@ -1,5 +1,5 @@
 -- `job_lines::write::shot_line` meets its contract.
-use Rattle.buffer.proofs.Writing.{room-within}
+use Rattle.text.proofs.Writing.{room-within}
 use Rattle.job_lines.specs.Room.{shotRoom}
 use borrow.Author.Needs.{needs}
 use Rattle.job_lines.proofs.write.shot_line.Statement.{statement}

@@ -3,7 +3,7 @@ use mathlib.Core.Path.{refl}
 use native.Mathlib.Nat.{zero-add}
 use native.Mathlib.Omega.{arith}
 use borrow.Author.Needs.{needs}
-use Rattle.buffer.specs.Buffer.{positionAfter}
+use Rattle.text.specs.Buffer.{positionAfter}
 use Rattle.marks.specs.Marks.{labelOf}
 use Rattle.marks.proofs.label.label_of.Statement.{statement}
 use Rattle.marks.proofs.label.label_of.Tie as tie

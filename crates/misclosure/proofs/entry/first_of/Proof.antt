@@ -1,4 +1,4 @@
--- `entry::first_of` meets its contract.
+-- `misclosure::entry::first_of` meets its contract.
 use borrow.Author.Tests.{eq-eqb, ne-eqb}
 use Rattle.misclosure.proofs.entry.first_of.Statement.{statement}
 use Rattle.misclosure.proofs.entry.first_of.Tie as tie

@@ -1,4 +1,4 @@
--- `entry::limit_code` meets its contract.
+-- `misclosure::entry::limit_code` meets its contract.
 use Rattle.misclosure.proofs.Lines.{too-many, low-far, high-far, too-wide, limit-passed, limits-kept}
 use Rattle.misclosure.proofs.entry.limit_code.Statement.{statement}
 use Rattle.misclosure.proofs.entry.limit_code.Tie as tie

@@ -1,4 +1,4 @@
--- `entry::moved` meets its contract.
+-- `misclosure::entry::moved` meets its contract.
 use native.Mathlib.Omega.{arith}
 use mathlib.Core.Path.{refl, ap, _∙_}
 use borrow.Author.Needs.{needs}

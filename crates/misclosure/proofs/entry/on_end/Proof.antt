@@ -1,4 +1,4 @@
--- `entry::on_end` meets its contract.
+-- `misclosure::entry::on_end` meets its contract.
 use native.Mathlib.Omega.{arith}
 use borrow.Author.Needs.{needs}
 use Rattle.misclosure.proofs.Lines.{takes-end, takes-end-6}

@@ -1,4 +1,4 @@
--- `entry::on_shot` meets its contract: the first of its three causes, or the shot.
+-- `misclosure::entry::on_shot` meets its contract: the first of its three causes, or the shot.
 use Rattle.text.specs.Fields.{partOf}
 use Rattle.misclosure.proofs.Lines.{takes-refused, shot-limited, takes-shot}
 use Rattle.misclosure.proofs.entry.on_shot.Statement.{statement}

@@ -1,4 +1,4 @@
--- `entry::order_code` meets its contract.
+-- `misclosure::entry::order_code` meets its contract.
 use Rattle.misclosure.proofs.Lines.{order-0, order-25}
 use Rattle.misclosure.proofs.entry.order_code.Statement.{statement}
 use Rattle.misclosure.proofs.entry.order_code.Tie as tie

@@ -1,7 +1,7 @@
--- `entry::take_line` meets its contract.
+-- `misclosure::entry::take_line` meets its contract.
 use mathlib.Core.Path.{sym, ap, _∙_}
 use borrow.Author.Needs.{needs}
-use Rattle.listing_reader.specs.Entries.{tells}
+use Rattle.listing_rows.specs.Entries.{tells}
 use Rattle.misclosure.proofs.Lines.{takes-neither}
 use Rattle.misclosure.proofs.entry.take_line.Statement.{statement}
 use Rattle.misclosure.proofs.entry.take_line.Tie as tie

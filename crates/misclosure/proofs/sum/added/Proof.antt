@@ -1,4 +1,4 @@
--- `sum::added` meets its contract: the product is below 2^51, the sum below 2^63 in size.
+-- `misclosure::sum::added` meets its contract: the product is below 2^51, the sum below 2^63 in size.
 use borrow.Author.Needs.{needs}
 use Rattle.misclosure.proofs.Machine.{product-fits, sum-fits, sum-reads}
 use Rattle.misclosure.proofs.sum.added.Statement.{statement}

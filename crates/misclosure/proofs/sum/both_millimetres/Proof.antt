@@ -1,4 +1,4 @@
--- `sum::both_millimetres` meets its contract.
+-- `misclosure::sum::both_millimetres` meets its contract.
 use mathlib.Core.Path.{ap₂}
 use lib.IntN.{ℤ}
 use Rattle.misclosure.proofs.Machine.{rounded-reads}

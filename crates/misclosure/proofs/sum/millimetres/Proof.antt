@@ -1,4 +1,4 @@
--- `sum::millimetres` meets its contract.
+-- `misclosure::sum::millimetres` meets its contract.
 use native.Mathlib.Omega.{arith}
 use Rattle.misclosure.proofs.Machine.{quotient-fits, next-fits, millimetres-below, millimetres-above}
 use Rattle.misclosure.proofs.sum.millimetres.Statement.{statement}

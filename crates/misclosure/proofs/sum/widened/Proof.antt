@@ -1,4 +1,4 @@
--- `sum::widened` meets its contract.
+-- `misclosure::sum::widened` meets its contract.
 use mathlib.Core.Bool.{true, false}
 use borrow.Author.Needs.{needs}
 use Rattle.misclosure.proofs.Machine.{field-sum, factor-below, factor-above, widened-is}

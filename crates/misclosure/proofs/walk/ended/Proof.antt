@@ -1,4 +1,4 @@
--- `walk::ended` meets its contract.
+-- `misclosure::walk::ended` meets its contract.
 use native.Mathlib.Omega.{arith}
 use Rattle.misclosure.proofs.walk.ended.Statement.{statement}
 use Rattle.misclosure.proofs.walk.ended.Tie as tie

@@ -1,4 +1,4 @@
--- `walk::read_listing` meets its contract: the header, then the lines after it.
+-- `misclosure::walk::read_listing` meets its contract: the header, then the lines after it.
 use native.Mathlib.Omega.{arith}
 use mathlib.Core.Path.{sym, _∙_}
 use borrow.Author.Tests.{not-true, not-false}

@@ -1,4 +1,4 @@
--- `walk::walk` meets its contract: line after line, up to one that is refused, the end, or the end of the text.
+-- `misclosure::walk::walk` meets its contract: line after line, up to one that is refused, the end, or the end of the text.
 use Prim.Native.Nat.{_-_}
 use native.Mathlib.Omega.{arith}
 use mathlib.Core.Path.{refl}

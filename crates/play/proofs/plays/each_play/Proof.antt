@@ -1,4 +1,4 @@
--- `plays::each_play` meets its contract.
+-- `play::plays::each_play` meets its contract.
 use Prim.Native.Nat.{_-_, _*_}
 use native.Mathlib.Nat.{zero-mul}
 use native.Mathlib.Omega.{arith}

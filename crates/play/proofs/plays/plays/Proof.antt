@@ -1,4 +1,4 @@
--- `plays::plays` meets its contract.
+-- `play::plays::plays` meets its contract.
 use native.Mathlib.Omega.{arith}
 use borrow.Author.Needs.{needs}
 use mathlib.Core.Path.{refl}

@@ -1,4 +1,4 @@
--- `sum::moved` meets its contract.
+-- `play::sum::moved` meets its contract.
 use native.Mathlib.Omega.{arith}
 use borrow.Author.Needs.{needs}
 use mathlib.Core.Path.{ap, _∙_}
@@ -6,7 +6,7 @@ use lib.IntN.{ℤ}
 use Prim.Native.Nat.{_/_, _%_}
 use mir.Syntax.{w16}
 use mir.Facts.{toZ-ofZ}
-use Rattle.listing_writer.specs.Rounding.{noisyDistance, noisyBearing}
+use Rattle.noisy_shot.specs.Rounding.{noisyDistance, noisyBearing}
 use Rattle.misclosure.proofs.Machine.{product-fits, sum-fits, sum-reads}
 use Rattle.play.proofs.Summing.{far-is, read-sizes, bearing-fits, units, east-is, north-is}
 use Rattle.play.proofs.sum.moved.Statement.{statement}

@@ -1,4 +1,4 @@
--- `sum::one_play` meets its contract.
+-- `play::sum::one_play` meets its contract.
 use Prim.Native.Nat.{ℕ, _-_, _*_}
 use native.Mathlib.Omega.{arith}
 use mathlib.Core.Path.{_≡_, refl, ap, _∙_}

@@ -1,4 +1,4 @@
--- `sum::summed` meets its contract.
+-- `play::sum::summed` meets its contract.
 use Prim.Native.Nat.{_-_, _≤_}
 use native.Mathlib.Omega.{arith}
 use lib.ListN.{length}

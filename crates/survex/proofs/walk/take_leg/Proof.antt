@@ -1,8 +1,8 @@
 -- `survex::walk::take_leg` meets its contract.
 use native.Mathlib.Omega.{arith}
 use mathlib.Core.Path.{refl, sym, ap, _∙_}
-use Rattle.survex_leg.specs.Legs.{legIn}
-use Rattle.survex_leg.proofs.Facts.{wrong-facts}
+use Rattle.survex_reader.specs.Legs.{legIn}
+use Rattle.survex_reader.proofs.Facts.{wrong-facts}
 use Rattle.job_lines.proofs.ShotLines.{shot-bytes}
 use Rattle.survex.proofs.ShotLines.{leg-short}
 use borrow.Author.Needs.{needs}

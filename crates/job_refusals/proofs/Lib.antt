@@ -1,4 +1,0 @@
-pub mod Refused
-pub mod Accepted
-pub mod FirstBad
-pub mod Theorems

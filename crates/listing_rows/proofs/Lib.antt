@@ -1,0 +1,5 @@
+pub mod Rows
+pub mod Reading
+pub mod RoundTrip
+pub mod RowReadings
+pub mod EntryReadings

@@ -1,4 +1,0 @@
-pub mod Rows
-mod Signs
-pub mod Theorems
-pub mod TextReadings

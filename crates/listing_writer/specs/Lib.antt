@@ -1,4 +1,0 @@
-pub mod Rounding
-pub mod Listing
-pub mod Theorems
-pub mod TextReadings

@@ -1,3 +1,0 @@
-pub mod Loop
-pub mod Theorems
-pub mod Private

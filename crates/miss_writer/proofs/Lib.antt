@@ -1,2 +1,0 @@
-mod SignedDecimal
-pub mod Printed

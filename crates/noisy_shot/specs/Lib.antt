@@ -1,0 +1,3 @@
+pub mod Shots
+pub mod Rounding
+pub mod Theorems

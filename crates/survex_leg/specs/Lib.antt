@@ -1,5 +1,0 @@
-pub mod Limits
-pub mod Legs
-pub mod Theorems
-pub mod Private
-pub mod TextReadings

@@ -1,0 +1,12 @@
+pub mod Trim
+pub mod Places
+pub mod Onward
+pub mod LineTheorems
+pub mod LineReadings
+pub mod Words
+pub mod Numbers
+pub mod Legs
+pub mod Facts
+pub mod Forms
+pub mod LegTheorems
+pub mod LegReadings

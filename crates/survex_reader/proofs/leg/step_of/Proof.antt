@@ -1,0 +1,29 @@
+-- `survex_reader::leg::step_of` meets its contract.
+use mathlib.Core.Path.{refl}
+use Rattle.survex_reader.specs.Legs.{stepOf}
+use borrow.Author.Needs.{needs}
+use Rattle.survex_reader.proofs.leg.step_of.Statement.{statement}
+use Rattle.survex_reader.proofs.leg.step_of.Tie as tie
+
+mul-result : tie.Need-mul-result
+mul-result c = search needs
+
+mul-result-2 : tie.Need-mul-result-2
+mul-result-2 c = search needs
+
+add-result : tie.Need-add-result
+add-result c = search needs
+
+mul-result-3 : tie.Need-mul-result-3
+mul-result-3 c = search needs
+
+div-result : tie.Need-div-result
+div-result c = search needs
+
+returns : tie.Need-returns
+unfolding stepOf
+returns c = refl
+
+pub step-of-spec : {M : Type 1} → statement M
+step-of-spec =
+    tie.close (tie.spec mul-result mul-result-2 add-result mul-result-3 div-result returns)
