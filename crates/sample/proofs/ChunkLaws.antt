@@ -16,8 +16,9 @@ use Rattle.streams.specs.Lanes.{upper, lower, words, LanesAfter}
 use Rattle.streams.proofs.LaneLaws.{words-add, length-words}
 use Rattle.sample.specs.Samples.{samplesAt}
 use Rattle.sample.specs.Filled.{LanesDrawn, Filled}
-use Rattle.sample.specs.Private.{Rows}
+use Rattle.sample.specs.Private.{Room}
 use Rattle.sample.proofs.SamplesLaws.{samples-append, samples-length}
+use Rattle.sample.proofs.PassLaws.{Kept}
 
 -- two samples for each word
 drawn-length : (f n : ℕ) (a b : Stream) → length (samplesAt f (words n a b)) ≡ 2 * n
@@ -31,10 +32,11 @@ pub record Reached (f : ℕ) (out₀ : List ℤ) (u : Lanes) (out : List ℤ) (s
   pub now-at : LanesAfter (place / 2) u state
   pub done : take place out ≡ samplesAt f (words (place / 2) (upper u) (lower u))
 
--- and the rows have the room that they had
-pub record Going (f : ℕ) (rows₀ : List ℕ) (out₀ : List ℤ) (u : Lanes) (rows : List ℕ) (out : List ℤ) (state : Lanes) (place : ℕ) : Type 0 where
+-- and the slices to work in are as long as they were, z as long as a chunk
+pub record Going (f : ℕ) (z₀ p₀ r₀ x₀ c₀ f₀ : List ℕ) (out₀ : List ℤ) (u : Lanes) (z p r x c fi : List ℕ) (out : List ℤ) (state : Lanes) (place : ℕ) : Type 0 where
   pub reached : Reached f out₀ u out state place
-  pub kept : length rows ≡ length rows₀
+  pub z-kept : length z ≡ length z₀
+  pub kept : Kept p₀ r₀ x₀ c₀ f₀ p r x c fi
 
 -- before the first chunk
 none-yet : {f : ℕ} {out : List ℤ} {u : Lanes} {place : ℕ} → place ≡ 0 → Reached f out u out u place
@@ -43,26 +45,38 @@ none-yet {f} {out} {u} {place} e =
     subst (Reached f out u out u) (sym e)
     (record { within = omega arith; even = refl; length-kept = refl; now-at = record { a-at = refl; b-at = refl }; done = refl })
 
-pub start : {f : ℕ} {rows : List ℕ} {out : List ℤ} {u : Lanes} {place : ℕ} → place ≡ 0 → Going f rows out u rows out u place
-start e = record { reached = none-yet e; kept = refl }
+pub start : {f : ℕ} {z p r x c fi : List ℕ} {out : List ℤ} {u : Lanes} {place : ℕ} → place ≡ 0 → Going f z p r x c fi out u z p r x c fi out u place
+start e = record {
+  reached = none-yet e;
+  z-kept = refl;
+  kept = record { places-kept = refl; r-kept = refl; x-kept = refl; coarse-kept = refl; fine-kept = refl };
+}
 
--- a chunk: from a place to an end that is not beyond the memory, nor beyond the most pairs of a chunk
+pub room-kept : {n m : ℕ} {p₀ r₀ x₀ c₀ f₀ p r x c fi : List ℕ} → Room n p₀ r₀ x₀ c₀ f₀ → m ≡ n → Kept p₀ r₀ x₀ c₀ f₀ p r x c fi → Room m p r x c fi
+room-kept room same kept = record {
+  places-room = omega (arith, room .places-room, kept .places-kept);
+  r-room = omega (arith, room .r-room, kept .r-kept);
+  x-room = omega (arith, room .x-room, kept .x-kept);
+  coarse-room = omega (arith, room .coarse-room, kept .coarse-kept);
+  fine-room = omega (arith, room .fine-room, kept .fine-kept);
+}
+
+-- a chunk: from a place to an end that is not beyond the memory, nor beyond the room of z
 pub record Chunk (room most place end : ℕ) : Type 0 where
   pub inside : end ≤ room
   pub some : place < end
   pub few : end ≤ place + 2 * most
   pub whole : (end - place) % 2 ≡ 0
 
-pub chunk-is : {room most place end : ℕ} → room % 2 ≡ 0 → place % 2 ≡ 0 → 0 < most → place < room
-    → end ≤ room → end ≤ place + 2 * most → min room (place + 2 * most) ≤ end → Chunk room most place end
-chunk-is even₀ even some more inside few all = record { inside = inside; some = omega arith; few = few; whole = omega arith }
+pub chunk-is : {room most place end : ℕ} → room % 2 ≡ 0 → place % 2 ≡ 0 → 0 < most → place < room → end ≡ min room (place + 2 * most) → Chunk room most place end
+chunk-is even₀ even some more e = record { inside = omega arith; some = omega arith; few = omega arith; whole = omega arith }
 
-module _ {room most place end : ℕ} (chunk : Chunk room most place end) (n : ℕ) (pairs : end - place ≡ 2 * n) (rows : List ℕ) (enough : Rows most rows) where
-  -- its words are the first of the rows
-  words-room : n ≤ length rows
-  words-room = omega (arith, chunk .few, enough .room)
+module _ {room most place end : ℕ} (chunk : Chunk room most place end) (z : List ℕ) (size : length z ≡ most) where
+  -- its words are the first of z
+  words-room : (end - place) / 2 ≤ length z
+  words-room = omega (arith, chunk .few)
 
-  words-size : length (take (n - 0) rows) ≡ n
+  words-size : length (take ((end - place) / 2 - 0) z) ≡ (end - place) / 2
   words-size = simp length-take (omega (arith, words-room))
 
   -- what is asked of a chunk
@@ -70,42 +84,30 @@ module _ {room most place end : ℕ} (chunk : Chunk room most place end) (n : �
     part-size : length (take (end - place) (drop place out)) ≡ end - place
     part-size = simp (length-take, length-drop) (omega (arith, chunk .inside, chunk .some))
 
-    -- the streams are drawn, and their words sampled
-    module _ (state : Lanes) {drawn : List ℕ} (are : drawn ≡ words (length (take (n - 0) rows)) (upper state) (lower state)) where
-      drawn-size : length drawn ≡ length (take (n - 0) rows)
-      drawn-size = ap length are ∙ length-words _ (upper state) (lower state)
-
-      rows-size : length (putMid 0 (n - 0) rows drawn) ≡ length rows
-      rows-size = same-len-mid 0 (n - 0) rows drawn drawn-size
-
-      pub asked : Rows n (putMid 0 (n - 0) rows drawn) × (length (take (end - place) (drop place out)) ≡ 2 * n)
-      asked = (
-        record { few = omega (arith, chunk .few, enough .few); room = omega (arith, chunk .few, enough .room, rows-size) },
-        rw part-size pairs,
-      )
-
-      pub rows-same : {m : ℕ} → m ≡ length (putMid 0 (n - 0) rows drawn) → m ≡ length rows
-      rows-same e = e ∙ rows-size
-
-      pub sampled : {f : ℕ} {next : Lanes} {new : List ℤ} → LanesAfter (length (take (n - 0) rows)) state next
-          → new ≡ samplesAt f (take n (putMid 0 (n - 0) rows drawn))
-          → LanesDrawn f (length (take (n - 0) rows)) state next new
-      sampled {f} after new-is = record {
-        now-at = after;
-        written = new-is ∙ ap (samplesAt f) (take-at drawn (postOf 0 (n - 0) rows) n (drawn-size ∙ words-size) ∙ are);
-      }
+    pub asked : {p r x c fi : List ℕ} → Room most p r x c fi → Room (length (take ((end - place) / 2 - 0) z)) p r x c fi
+        × (length (take (end - place) (drop place out)) ≡ 2 * length (take ((end - place) / 2 - 0) z))
+    asked r = rw (words-size, part-size) (
+      record {
+        places-room = omega (arith, r .places-room, words-room);
+        r-room = omega (arith, r .r-room, words-room);
+        x-room = omega (arith, r .x-room, words-room);
+        coarse-room = omega (arith, r .coarse-room, words-room);
+        fine-room = omega (arith, r .fine-room, words-room);
+      },
+      omega (arith, chunk .whole),
+    )
 
     -- one chunk more
     module _ {f : ℕ} {out₀ new : List ℤ} {u state next : Lanes} (r : Reached f out₀ u out state place) (same : room ≡ length out₀)
-        (drawn : LanesDrawn f (length (take (n - 0) rows)) state next new) where
-      halves : place / 2 + n ≡ end / 2
+        (drawn : LanesDrawn f (length (take ((end - place) / 2 - 0) z)) state next new) where
+      halves : place / 2 + (end - place) / 2 ≡ end / 2
       halves = omega (arith, r .even, chunk .some)
 
-      new-is : new ≡ samplesAt f (words n (repeat advance (place / 2) (upper u)) (repeat advance (place / 2) (lower u)))
+      new-is : new ≡ samplesAt f (words ((end - place) / 2) (repeat advance (place / 2) (upper u)) (repeat advance (place / 2) (lower u)))
       new-is = drawn .written ∙ rw (words-size, r .now-at .a-at, r .now-at .b-at)
 
       new-size : length new ≡ end - place
-      new-size = ap length new-is ∙ drawn-length f n _ _ ∙ sym pairs
+      new-size = ap length new-is ∙ drawn-length f ((end - place) / 2) _ _ ∙ omega (arith, chunk .whole)
 
       before-size : length (take place out) ≡ place
       before-size = simp length-take (omega (arith, r .within))
@@ -114,7 +116,7 @@ module _ {room most place end : ℕ} (chunk : Chunk room most place end) (n : �
       done-is =
           let whole : length (take place out) + (end - place) ≡ end = omega (arith, before-size, chunk .some) in
           rw whole at (take-append-add (take place out) (new ++ postOf place (end - place) out) (end - place))
-          ∙ rw (take-at new (postOf place (end - place) out) (end - place) new-size, r .done, new-is, ← halves, words-add (place / 2) n (upper u) (lower u))
+          ∙ rw (take-at new (postOf place (end - place) out) (end - place) new-size, r .done, new-is, ← halves, words-add (place / 2) ((end - place) / 2) (upper u) (lower u))
           (sym (samples-append f (words (place / 2) (upper u) (lower u)) _))
 
       pub again : Reached f out₀ u (putMid place (end - place) out new) next end
@@ -124,11 +126,15 @@ module _ {room most place end : ℕ} (chunk : Chunk room most place end) (n : �
             even = omega (arith, r .even, chunk .whole, chunk .some);
             length-kept = same-len-mid place (end - place) out new (new-size ∙ sym part-size) ∙ out-size ∙ same;
             now-at = record {
-              a-at = drawn .now-at .a-at ∙ rw (words-size, r .now-at .a-at, ← halves) (repeat-add advance (place / 2) n (upper u));
-              b-at = drawn .now-at .b-at ∙ rw (words-size, r .now-at .b-at, ← halves) (repeat-add advance (place / 2) n (lower u));
+              a-at = drawn .now-at .a-at ∙ rw (words-size, r .now-at .a-at, ← halves) (repeat-add advance (place / 2) ((end - place) / 2) (upper u));
+              b-at = drawn .now-at .b-at ∙ rw (words-size, r .now-at .b-at, ← halves) (repeat-add advance (place / 2) ((end - place) / 2) (lower u));
             };
             done = done-is;
           }
+
+-- the part of z that was lent is back
+pub part-kept : (k : ℕ) {m : ℕ} (z new : List ℕ) → length new ≡ length (take k z) → length z ≡ m → length (putMid 0 k z new) ≡ m
+part-kept k z new e size = same-len-mid 0 k z new e ∙ size
 
 -- all are written
 pub ended : {f : ℕ} {out₀ out : List ℤ} {u state : Lanes} {place : ℕ} → Reached f out₀ u out state place → length out₀ ≤ place

@@ -6,7 +6,7 @@ use native.Mathlib.Numerals.{add-one}
 use native.Mathlib.Omega.{arith}
 use lib.IntN.{ℤ}
 use lib.ListN.{length, take, getD, set, length-set}
-use lib.Seq.{length-take-le}
+use lib.Seq.{take-all}
 use Rattle.sample.specs.Samples.{firstAt, secondAt, samplesAt}
 
 -- the samples of some z and of more
@@ -50,26 +50,25 @@ filled-step f (suc i) (z ∷ zs) (x ∷ y ∷ out) h g =
     let b : 2 * suc i + 1 ≡ suc (suc (2 * i + 1)) = omega arith in
     rw (b, a) (ap (λ (l : List ℤ). firstAt f z ∷ secondAt f z ∷ l) (filled-step f i zs out (omega arith) (omega arith)))
 
--- ---- The last pass: the first i of n have their samples
-pub record Sampled (f n : ℕ) (rows : List ℕ) (out₀ out : List ℤ) (i : ℕ) : Type 0 where
-  pub within : i ≤ n
+-- ---- The last pass: the first i of the z have their samples
+pub record Sampled (f : ℕ) (z : List ℕ) (out₀ out : List ℤ) (i : ℕ) : Type 0 where
+  pub within : i ≤ length z
   pub kept : length out ≡ length out₀
-  pub done : out ≡ filled f (take i rows) out₀
+  pub done : out ≡ filled f (take i z) out₀
 
-pub none-sampled : {f n : ℕ} {rows : List ℕ} {out₀ : List ℤ} → Sampled f n rows out₀ out₀ 0
-unfolding filled
-none-sampled = record { within = omega arith; kept = refl; done = refl }
+module _ {f : ℕ} {z : List ℕ} {out₀ : List ℤ} where
+  pub none-sampled : Sampled f z out₀ out₀ 0
+  unfolding filled
+  none-sampled = record { within = omega arith; kept = refl; done = refl }
 
-module _ {f n : ℕ} {rows : List ℕ} {out₀ out : List ℤ} {i : ℕ} (s : Sampled f n rows out₀ out i) (room : n ≤ length rows) (size : length out₀ ≡ 2 * n) where
-  pub one-sampled : {a b : ℤ} → i < n → a ≡ firstAt f (getD rows i 0) → b ≡ secondAt f (getD rows i 0)
-      → Sampled f n rows out₀ (set (set out (2 * i) a) (2 * i + 1) b) (i + 1)
-  one-sampled h first second = record {
+  pub one-sampled : {out : List ℤ} {i : ℕ} {a b : ℤ} → Sampled f z out₀ out i → length out₀ ≡ 2 * length z → i < length z →
+      a ≡ firstAt f (getD z i 0) → b ≡ secondAt f (getD z i 0) → Sampled f z out₀ (set (set out (2 * i) a) (2 * i + 1) b) (i + 1)
+  one-sampled {out} {i} {a} {b} s size h first second = record {
     within = omega arith;
     kept = simp length-set (s .kept);
-    done = rw (s .done, first, second, add-one i) (filled-step f i rows out₀ (omega arith) (omega arith));
+    done = rw (s .done, first, second, add-one i) (filled-step f i z out₀ h (omega arith));
   }
 
-  pub all-sampled : n ≤ i → out ≡ samplesAt f (take n rows)
-  all-sampled over =
-      let whole : i ≡ n = omega (arith, s .within) in
-      s .done ∙ ap (λ (j : ℕ). filled f (take j rows) out₀) whole ∙ filled-whole f (take n rows) out₀ (rw (length-take-le n rows room) size)
+  pub all-sampled : {out : List ℤ} {i : ℕ} → Sampled f z out₀ out i → length out₀ ≡ 2 * length z → length z ≤ i → out ≡ samplesAt f z
+  all-sampled {i = i} s size over =
+      s .done ∙ ap (λ (l : List ℕ). filled f l out₀) (take-all i z over) ∙ filled-whole f z out₀ size

@@ -17,17 +17,14 @@ module _ (f : ℕ) (w : Width) (narrow : hbits w ≤ hbits w64) (few : largest f
   second-size : x ≡ secondAt f z → natAbs x < 2 ^ hbits w
   second-size is = rw is (lt-of-le-of-lt (second-small f (z / 65536) (z % 65536)) few)
 
--- each fits, and is read as it was
-pub record Stored (f : ℕ) (w : Width) (z : ℕ) (x y : ℤ) : Type 0 where
-  pub first-fits : SFits w (toZ w64 (ofZ w64 x))
-  pub second-fits : SFits w (toZ w64 (ofZ w64 y))
-  pub first-reads : toZ w (ofZ w (toZ w64 (ofZ w64 x))) ≡ firstAt f z
-  pub second-reads : toZ w (ofZ w (toZ w64 (ofZ w64 y))) ≡ secondAt f z
+  pub first-fits : x ≡ firstAt f z → SFits w (toZ w64 (ofZ w64 x))
+  first-fits is = cast-fits w64 w x narrow (first-size is)
 
-pub stored : (f : ℕ) (w : Width) → hbits w ≤ hbits w64 → largest f < 2 ^ hbits w → {z : ℕ} {x y : ℤ} → (x ≡ firstAt f z) × (y ≡ secondAt f z) → Stored f w z x y
-stored f w narrow few {z} {x} {y} (first, second) = record {
-  first-fits = cast-fits w64 w x narrow (first-size f w narrow few z first);
-  second-fits = cast-fits w64 w y narrow (second-size f w narrow few z second);
-  first-reads = cast-reads w64 w x narrow (first-size f w narrow few z first) ∙ first;
-  second-reads = cast-reads w64 w y narrow (second-size f w narrow few z second) ∙ second;
-}
+  pub second-fits : x ≡ secondAt f z → SFits w (toZ w64 (ofZ w64 x))
+  second-fits is = cast-fits w64 w x narrow (second-size is)
+
+  pub first-reads : x ≡ firstAt f z → toZ w (ofZ w (toZ w64 (ofZ w64 x))) ≡ firstAt f z
+  first-reads is = cast-reads w64 w x narrow (first-size is) ∙ is
+
+  pub second-reads : x ≡ secondAt f z → toZ w (ofZ w (toZ w64 (ofZ w64 x))) ≡ secondAt f z
+  second-reads is = cast-reads w64 w x narrow (second-size is) ∙ is

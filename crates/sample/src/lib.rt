@@ -10,16 +10,16 @@ use streams::Lanes;
 use streams::draw_pairs;
 ghost use mathlib.Core.Path.{_≡_};
 ghost use mathlib.Core.List.{[], _∷_};
-ghost use Prim.Native.Nat.{_+_, _^_, _≤_, _<_, min};
+ghost use Prim.Native.Nat.{_+_, _*_, _/_, _%_, _^_, _≤_, _<_, min};
 ghost use lib.IntN.{pos};
-ghost use lib.ListN.{getD};
+ghost use lib.ListN.{length, getD};
 ghost use Rattle.exact.specs.Pair.{Close};
 ghost use Rattle.radius.specs.Steps.{numberBits, inverse};
 ghost use Rattle.box_muller.specs.Steps.{fractionBits};
 ghost use Rattle.box_muller.specs.Sample.{samplesOf, nineSixteenths};
 ghost use Rattle.box_muller.specs.DataSheet.{thirtyThreeSixtyFourths};
-ghost use Rattle.sample.specs.Filled.{Filled};
-ghost use Rattle.sample.specs.Private.{Rows};
+ghost use Rattle.sample.specs.Filled.{LanesDrawn, Filled};
+ghost use Rattle.sample.specs.Private.{Room};
 
 // The two samples of k and v: document 01's steps with the half step (demand 2), and so each less than nine sixteenths of a unit of 2^-11 from its member of the
 // exact pair of (2k + 1) over 2^49, k from 0, and v over 65536 (demand 3), and less than 33/64 (document 02, Job 10); or 0 and 0 with the refusal code.
@@ -37,8 +37,13 @@ pub fn sample(k: u64, v: u32, out: &mut [i16; 2]) -> u32
         *out = [0, 0];
         return 3;
     }
-    let mut rows = [k * 65536 + v as u64, 0, 0, 0, 0, 0];
-    samples(1, &mut rows, out);
+    let z = [k * 65536 + v as u64];
+    let mut places = [0u64];
+    let mut r = [0u32];
+    let mut x = [0u64];
+    let mut coarse = [0u64];
+    let mut fine = [0u64];
+    samples(&z, &mut places, &mut r, &mut x, &mut coarse, &mut fine, out);
     0
 }
 
@@ -50,50 +55,146 @@ fn chunk_end(at: usize, n: usize, most: usize) -> usize
     if n - at < most { n } else { at + most }
 }
 
-// The samples of as many pairs as a slice of even length has room for, in chunks of at most `most`: both streams are drawn side by side.
-fn by_chunks(streams: Lanes, most: usize, rows: &mut [u64], out: &mut [i16]) -> Lanes
-    requires { ⌜ Rows most (now rows) × (0 < most) ⌝ }
-    ensures { λ u. ⌜ Filled fractionBits streams u (now (out .entry)) (now (out .exit)) ⌝ }
+// The samples of as many pairs as z has elements, by way of their words in z: both streams are drawn side by side.
+fn draw_samples(
+    streams: Lanes,
+    z: &mut [u64],
+    places: &mut [u64],
+    r: &mut [u32],
+    x: &mut [u64],
+    coarse: &mut [u64],
+    fine: &mut [u64],
+    out: &mut [i16],
+) -> Lanes
+    requires { ⌜ Room (length (now z)) (now places) (now r) (now x) (now coarse) (now fine) × (length (now out) ≡ 2 * length (now z)) ⌝ }
+    ensures { λ u. ⌜ LanesDrawn fractionBits (length (now (z .entry))) streams u (now (out .exit)) ⌝ }
 {
-    if out.len() % 2 != 0 {
-        return streams;
-    }
+    let after = draw_pairs(streams, z);
+    samples(z, places, r, x, coarse, fine, out);
+    after
+}
+
+// The samples of half as many pairs as the memory has elements, in chunks of at most as many as z has.
+fn by_chunks(
+    streams: Lanes,
+    z: &mut [u64],
+    places: &mut [u64],
+    r: &mut [u32],
+    x: &mut [u64],
+    coarse: &mut [u64],
+    fine: &mut [u64],
+    out: &mut [i16],
+) -> Lanes
+    requires { ⌜ Room (length (now z)) (now places) (now r) (now x) (now coarse) (now fine) × ((0 < length (now z)) × (length (now z) ≤ 16)) × (length (now out) % 2 ≡ 0) ⌝ }
+    ensures { λ u. ⌜ LanesDrawn fractionBits (length (now (out .entry)) / 2) streams u (now (out .exit)) ⌝ }
+{
     let mut state = streams;
     let mut at = 0;
     while at < out.len() {
-        let end = chunk_end(at, out.len(), 2 * most);
+        let end = chunk_end(at, out.len(), 2 * z.len());
         let n = (end - at) / 2;
-        state = draw_pairs(state, &mut rows[0..n]);
-        samples(n, rows, &mut out[at..end]);
+        state = draw_samples(
+            state,
+            &mut z[0..n],
+            places,
+            r,
+            x,
+            coarse,
+            fine,
+            &mut out[at..end],
+        );
         at = end;
     }
     state
 }
 
-// The most pairs in a chunk, and what its six rows hold.
+// The most pairs in a chunk.
 const CHUNK: usize = 16;
 
-const CHUNK_ROWS: usize = 6 * CHUNK;
-
-// The same in chunks of 16.
+// The samples of as many pairs as a slice of even length has room for, chunk by chunk.
 pub fn chunks(streams: Lanes, out: &mut [i16]) -> Lanes
     ensures { λ u. ⌜ Filled fractionBits streams u (now (out .entry)) (now (out .exit)) ⌝ }
 {
-    let mut rows = [0u64; CHUNK_ROWS];
-    by_chunks(streams, CHUNK, &mut rows, out)
+    let mut z = [0u64; CHUNK];
+    let mut places = [0u64; CHUNK];
+    let mut r = [0u32; CHUNK];
+    let mut x = [0u64; CHUNK];
+    let mut coarse = [0u64; CHUNK];
+    let mut fine = [0u64; CHUNK];
+    if out.len() % 2 != 0 {
+        return streams;
+    }
+    by_chunks(
+        streams,
+        &mut z,
+        &mut places,
+        &mut r,
+        &mut x,
+        &mut coarse,
+        &mut fine,
+        out,
+    )
 }
 
-// The most pairs in a short block, what its six rows hold, and its most samples.
-const SHORT: usize = 4;
-
-const SHORT_ROWS: usize = 6 * SHORT;
+// The most pairs in a short block, and the most samples.
+const SHORT: usize = 8;
 
 const SHORT_SAMPLES: usize = 2 * SHORT;
+
+// The same in short chunks: their slices are shorter, since they are cleared at each call.
+fn short(streams: Lanes, out: &mut [i16]) -> Lanes
+    ensures { λ u. ⌜ Filled fractionBits streams u (now (out .entry)) (now (out .exit)) ⌝ }
+{
+    let mut z = [0u64; SHORT];
+    let mut places = [0u64; SHORT];
+    let mut r = [0u32; SHORT];
+    let mut x = [0u64; SHORT];
+    let mut coarse = [0u64; SHORT];
+    let mut fine = [0u64; SHORT];
+    if out.len() % 2 != 0 {
+        return streams;
+    }
+    by_chunks(
+        streams,
+        &mut z,
+        &mut places,
+        &mut r,
+        &mut x,
+        &mut coarse,
+        &mut fine,
+        out,
+    )
+}
 
 // The most samples of few pairs.
 const FEW_SAMPLES: usize = 4;
 
-// The same: few pairs one by one, a short block at once, and a longer one in chunks of 16. Rows are cleared at each call, so those of a short block are short.
+// The same, one pair after another.
+fn one_by_one(streams: Lanes, out: &mut [i16]) -> Lanes
+    ensures { λ u. ⌜ Filled fractionBits streams u (now (out .entry)) (now (out .exit)) ⌝ }
+{
+    let mut z = [0u64];
+    let mut places = [0u64];
+    let mut r = [0u32];
+    let mut x = [0u64];
+    let mut coarse = [0u64];
+    let mut fine = [0u64];
+    if out.len() % 2 != 0 {
+        return streams;
+    }
+    by_chunks(
+        streams,
+        &mut z,
+        &mut places,
+        &mut r,
+        &mut x,
+        &mut coarse,
+        &mut fine,
+        out,
+    )
+}
+
+// The same: few pairs one by one, a short block at once, and a longer one chunk by chunk.
 pub fn fill(streams: Lanes, out: &mut [i16]) -> Lanes
     ensures { λ u. ⌜ Filled fractionBits streams u (now (out .entry)) (now (out .exit)) ⌝ }
 {
@@ -101,9 +202,7 @@ pub fn fill(streams: Lanes, out: &mut [i16]) -> Lanes
         return chunks(streams, out);
     }
     if FEW_SAMPLES < out.len() {
-        let mut rows = [0u64; SHORT_ROWS];
-        return by_chunks(streams, SHORT, &mut rows, out);
+        return short(streams, out);
     }
-    let mut rows = [0u64; 6];
-    by_chunks(streams, 1, &mut rows, out)
+    one_by_one(streams, out)
 }

@@ -1,75 +1,64 @@
 // Samples of some z = 65536 k + v in four passes: what the tables say of each z, its 2Q, about its radius F, and its two samples. The second and the last ask no
 // table and do not branch, so that the compiler works on several z at a time in vector registers; factors of 32 bits, comparisons of 32 bits and signs taken
 // from the top bit of a difference keep them so. A single pair takes the same way.
-//
-// The passes work in one slice of six rows of n numbers each: the z; what the tables say of a z, which is the place of its k, the reciprocal, the logarithm and the
-// rotations of its v, coarse and fine. 2Q takes the logarithm's row, and a near radius the reciprocal's.
 use angle::Turned;
 ghost use mathlib.Core.Path.{_≡_};
 ghost use Prim.Native.Nat.{ℕ, _*_, _^_, _≤_, _<_};
-ghost use lib.ListN.{length, take, getD};
+ghost use lib.ListN.{length};
 ghost use Rattle.radius.specs.Steps.{radiusLimit};
 ghost use Rattle.angle.specs.Steps.{inQuarter, signedOf};
 ghost use Rattle.angle.specs.Rotations.{Rotated};
 ghost use Rattle.box_muller.specs.Steps.{fractionBits, bitsOf, size, rounded};
-ghost use Rattle.sample.specs.Samples.{firstAt, secondAt, samplesAt};
-ghost use Rattle.sample.specs.Private.{scaleOf, Rows, Looked, UnderRoots, NearRoots, ReadyIn, Prepared};
-
-// What the first number beyond 32 bits is.
-const WORD: u64 = 1 << 32;
+ghost use Rattle.sample.specs.Samples.{samplesAt};
+ghost use Rattle.sample.specs.Private.{scaleOf, Room, Looked, UnderRoots, NearRoots, Ready};
 
 // What the tables say of each z.
-fn look_up(n: usize, rows: &mut [u64])
-    requires { ⌜ Rows n (now rows) ⌝ }
-    ensures { λ _. ⌜ Looked n (now (rows .entry)) (now (rows .exit)) n ⌝ }
+pub fn look_up(
+    z: &[u64],
+    places: &mut [u64],
+    r: &mut [u32],
+    x: &mut [u64],
+    coarse: &mut [u64],
+    fine: &mut [u64],
+)
+    requires { ⌜ Room (length (now z)) (now places) (now r) (now x) (now coarse) (now fine) ⌝ }
+    ensures { λ _. ⌜ Looked (now (z .entry)) (now (places .exit)) (now (r .exit)) (now (x .exit)) (now (coarse .exit)) (now (fine .exit)) (length (now (z .entry))) ⌝ }
 {
     let mut i = 0;
-    while i < n {
-        let z = rows[i];
-        let cell = radius::cell_of(z);
-        let rotations = angle::rotations_of(z);
-        rows[n + i] = cell.place;
-        rows[2 * n + i] = cell.reciprocal as u64;
-        rows[3 * n + i] = cell.log;
-        rows[4 * n + i] = rotations.coarse;
-        rows[5 * n + i] = rotations.fine;
+    while i < z.len() {
+        let cell = radius::cell_of(z[i]);
+        let rotations = angle::rotations_of(z[i]);
+        places[i] = cell.place;
+        r[i] = cell.reciprocal;
+        x[i] = cell.log;
+        coarse[i] = rotations.coarse;
+        fine[i] = rotations.fine;
         i += 1;
     }
 }
 
-// 2Q of each z.
-fn under_roots(n: usize, rows: &mut [u64])
-    requires { ⌜ Rows n (now rows) ⌝ }
-    ensures { λ _. ⌜ UnderRoots n (now (rows .entry)) (now (rows .exit)) n ⌝ }
+// 2Q of the first n, each in place of its logarithm.
+pub fn under_roots(n: usize, places: &[u64], r: &[u32], x: &mut [u64])
+    requires { ⌜ (n ≤ length (now places)) × (n ≤ length (now r)) × (n ≤ length (now x)) ⌝ }
+    ensures { λ _. ⌜ UnderRoots n (now (places .entry)) (now (r .entry)) (now (x .entry)) (now (x .exit)) ⌝ }
 {
     let mut i = 0;
     while i < n {
-        let reciprocal = (rows[2 * n + i] % WORD) as u32;
-        rows[3 * n + i] = radius::under_root(rows[n + i], reciprocal, rows[3 * n + i]);
+        x[i] = radius::under_root(places[i], r[i], x[i]);
         i += 1;
     }
 }
 
-// The radius F of each z, or one less.
-fn nears(n: usize, rows: &mut [u64])
-    requires { ⌜ Rows n (now rows) ⌝ }
-    ensures { λ _. ⌜ NearRoots n (now (rows .entry)) (now (rows .exit)) n ⌝ }
+// The radius F of the first n or one less, each in place of its reciprocal.
+pub fn nears(n: usize, x: &[u64], r: &mut [u32])
+    requires { ⌜ (n ≤ length (now x)) × (n ≤ length (now r)) ⌝ }
+    ensures { λ _. ⌜ NearRoots n (now (x .entry)) (now (r .exit)) ⌝ }
 {
     let mut i = 0;
     while i < n {
-        rows[2 * n + i] = radius::near(rows[3 * n + i]) as u64;
+        r[i] = radius::near(x[i]);
         i += 1;
     }
-}
-
-// All that the last pass asks of each z.
-pub fn prepare(n: usize, rows: &mut [u64])
-    requires { ⌜ Rows n (now rows) ⌝ }
-    ensures { λ _. ⌜ Prepared n (now (rows .entry)) (now (rows .exit)) ⌝ }
-{
-    look_up(n, rows);
-    under_roots(n, rows);
-    nears(n, rows)
 }
 
 // The fraction bits of a sample of 16 bits, its unit in the product of F and a sine or cosine, and half of it.
@@ -101,7 +90,7 @@ fn units(in18: bool, f: u32, g: u32) -> u32
 }
 
 // The two samples of a radius F, and of v by its rotations: sizes are rounded first, since rounding keeps the sign.
-fn pair_of(in18: bool, f: u32, v: u32, coarse: u64, fine: u64) -> Turned
+pub fn pair_of(in18: bool, f: u32, v: u32, coarse: u64, fine: u64) -> Turned
     requires { ⌜ (f < radiusLimit) × Rotated (inQuarter v) coarse fine ⌝ }
     ensures { λ r. ⌜ (r .first ≡ rounded (bitsOf in18) f (signedOf v .0)) × (r .second ≡ rounded (bitsOf in18) f (signedOf v .1)) ⌝ }
 {
@@ -112,25 +101,15 @@ fn pair_of(in18: bool, f: u32, v: u32, coarse: u64, fine: u64) -> Turned
     )
 }
 
-// The two samples of the z at i.
-pub fn pair_at(in18: bool, n: usize, rows: &[u64], i: usize) -> Turned
-    requires { ⌜ Rows n (now rows) × (i < n) × ReadyIn n (now rows) i ⌝ }
-    ensures { λ r. ⌜ (r .first ≡ firstAt (bitsOf in18) (getD (now (rows .entry)) i 0)) × (r .second ≡ secondAt (bitsOf in18) (getD (now (rows .entry)) i 0)) ⌝ }
-{
-    let near = (rows[2 * n + i] % WORD) as u32;
-    let f = radius::root(rows[3 * n + i], near);
-    let v = (rows[i] % 65536) as u32;
-    pair_of(in18, f, v, rows[4 * n + i], rows[5 * n + i])
-}
-
-// The samples of each z, which all passes before have prepared.
-fn sample_each(n: usize, rows: &[u64], out: &mut [i16])
-    requires { ⌜ Rows n (now rows) × ((j : ℕ) → j < n → ReadyIn n (now rows) j) × (length (now out) ≡ 2 * n) ⌝ }
-    ensures { λ _. ⌜ now (out .exit) ≡ samplesAt fractionBits (take n (now (rows .entry))) ⌝ }
+// The samples of each z, from its 2Q, a near radius and its rotations.
+fn sample_each(z: &[u64], x: &[u64], r: &[u32], coarse: &[u64], fine: &[u64], out: &mut [i16])
+    requires { ⌜ Ready (now z) (now x) (now r) (now coarse) (now fine) × (length (now out) ≡ 2 * length (now z)) ⌝ }
+    ensures { λ _. ⌜ now (out .exit) ≡ samplesAt fractionBits (now (z .entry)) ⌝ }
 {
     let mut i = 0;
-    while i < n {
-        let pair = pair_at(false, n, rows, i);
+    while i < z.len() {
+        let f = radius::root(x[i], r[i]);
+        let pair = pair_of(false, f, (z[i] % 65536) as u32, coarse[i], fine[i]);
         let first = pair.first as i16;
         let second = pair.second as i16;
         out[2 * i] = first;
@@ -139,11 +118,21 @@ fn sample_each(n: usize, rows: &[u64], out: &mut [i16])
     }
 }
 
-// The samples of the n numbers z in the first row. What the other rows hold does not matter.
-pub fn samples(n: usize, rows: &mut [u64], out: &mut [i16])
-    requires { ⌜ Rows n (now rows) × (length (now out) ≡ 2 * n) ⌝ }
-    ensures { λ _. ⌜ now (out .exit) ≡ samplesAt fractionBits (take n (now (rows .entry))) ⌝ }
+// The samples of each z. What the other slices hold does not matter.
+pub fn samples(
+    z: &[u64],
+    places: &mut [u64],
+    r: &mut [u32],
+    x: &mut [u64],
+    coarse: &mut [u64],
+    fine: &mut [u64],
+    out: &mut [i16],
+)
+    requires { ⌜ Room (length (now z)) (now places) (now r) (now x) (now coarse) (now fine) × (length (now out) ≡ 2 * length (now z)) ⌝ }
+    ensures { λ _. ⌜ now (out .exit) ≡ samplesAt fractionBits (now (z .entry)) ⌝ }
 {
-    prepare(n, rows);
-    sample_each(n, rows, out)
+    look_up(z, places, r, x, coarse, fine);
+    under_roots(z.len(), places, r, x);
+    nears(z.len(), x, r);
+    sample_each(z, x, r, coarse, fine, out)
 }

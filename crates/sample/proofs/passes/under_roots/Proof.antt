@@ -1,32 +1,46 @@
--- `under_roots` rewrites a row.
+-- `under_roots` is a pass in place.
 use Prim.Native.Nat.{_-_}
 use native.Mathlib.Omega.{arith}
-use lib.ListN.{length}
+use lib.ListN.{getD}
 use borrow.Author.Needs.{needs}
-use Rattle.sample.specs.Private.{UnderRoots}
-use Rattle.sample.proofs.PassLaws.{Passing, passed, Turn, at-turn, none-done, one-under-root}
+use Rattle.sample.specs.Private.{UnderRootAt}
+use Rattle.sample.proofs.PassLaws.{Done, none-done, one-done, all-done}
 use Rattle.sample.proofs.passes.under_roots.Statement.{statement}
 use Rattle.sample.proofs.passes.under_roots.Tie as tie
 
 abbrev Inv-loop : tie.InvT-loop
-Inv-loop n rows₀ i₀ rows i = Passing n (UnderRoots n rows₀ rows) rows₀ rows i
+Inv-loop n places r x₀ i₀ x i = Done (λ j y. UnderRootAt (getD places j 0) (getD r j 0) (getD x₀ j 0) y) x₀ x i
 
 abbrev μ-loop : tie.MeasureT-loop
-μ-loop n rows₀ i₀ rows i = n - i
+μ-loop n places r x₀ i₀ x i = n - i
 
-turn : (c : tie.In-loop Inv-loop μ-loop) → Turn 6 (c .before .before .before .args .n) (length (c .before .loop .rows)) (c .before .loop .i)
-turn c = at-turn (c .before .before .before .pre) (c .before .loop .inv) (c .loop-test .taken)
+loop-holds : tie.Need-loop-holds Inv-loop μ-loop
+loop-holds c = none-done
+
+shared-slice-read-under-root : tie.Need-shared-slice-read-under-root Inv-loop μ-loop
+shared-slice-read-under-root c =
+    let head = c .before .before in
+    omega (arith, c .before .loop-test .taken, head .loop .inv .kept, head .before .before .before .before .pre)
+
+shared-slice-read-under-root-2 : tie.Need-shared-slice-read-under-root-2 Inv-loop μ-loop
+shared-slice-read-under-root-2 c =
+    let head = c .before .before .before in
+    omega (arith, c .before .before .loop-test .taken, head .loop .inv .kept, head .before .before .before .before .pre)
 
 loop-again : tie.Need-loop-again Inv-loop μ-loop
-loop-again c = let t = turn (c .before .before .before .before) in one-under-root (t .room) (t .more) (c .before .before .before .before .before .loop .inv) (c .under-root .ensures)
+loop-again c =
+    let turn = c .before .before .before .before in
+    let d = turn .before .loop .inv in
+    one-done d (omega (arith, turn .loop-test .taken, d .kept, turn .before .before .before .before .before .pre)) (rw (← (d .rest (turn .before .loop .i) (omega arith))) (c .under-root .ensures))
 
 same-length : tie.Need-same-length Inv-loop μ-loop
 same-length c = c .before .loop .inv .kept
 
 returns : tie.Need-returns Inv-loop μ-loop
-returns c = passed (c .before .loop .inv) (c .loop-test .left)
+returns c = all-done (c .before .loop .inv) (c .loop-test .left)
 
 pub under-roots-spec : {M : Type 1} → statement M
 under-roots-spec = tie.close
-    (tie.spec Inv-loop μ-loop (λ c. none-done) (λ c. omega (arith, turn c)) (λ c. omega (arith, turn c)) (λ c. omega (arith, turn c)) (λ c. omega (arith, turn (c .before))) (λ c. search needs) (λ c. omega (arith, turn (c .before))) (λ c. omega (arith, turn (c .before))) (λ c. omega (arith, turn (c .before .before))) (λ c. omega (arith, turn (c .before .before))) (λ c. omega (arith, turn (c .before .before))) (λ c. omega (arith, turn (c .before .before))) (λ c. omega (arith, turn (c .before .before .before)))
-    (λ c κs. search needs) (λ c. omega (arith, turn (c .before .before .before .before))) (λ c. omega (arith, turn (c .before .before .before .before))) (λ c. omega (arith, turn (c .before .before .before .before))) (λ c. omega (arith, turn (c .before .before .before .before))) (λ c. omega (arith, turn (c .before .before .before .before))) (λ c. omega (arith, turn (c .before .before .before .before))) loop-again same-length returns)
+    (tie.spec Inv-loop μ-loop loop-holds (λ c. search needs) shared-slice-read-under-root (λ c. search needs) shared-slice-read-under-root-2
+    (λ c. search needs) (λ c. search needs) (λ c κs. search needs) (λ c. search needs) (λ c. search needs) (λ c. search needs) (λ c. omega arith) loop-again
+    same-length returns)
