@@ -70,7 +70,9 @@ def made_cave(rng):
         angle = 2 * math.pi * j / count
         places.append([30 * math.sin(angle) + rng.gauss(0, 2), 30 * math.cos(angle) + rng.gauss(0, 2), rng.gauss(0, 3)])
         legs.append((j, (j + 1) % count))
-    legs += [tuple(rng.sample(range(count), 2)) for _ in range(rng.randrange(4))]
+    for _ in range(rng.randrange(4)):
+        start, end = rng.sample(range(count), 2)
+        legs.append((start, end))
     blunder, lines = rng.randrange(2 * len(legs)), []
     for j, (start, end) in enumerate(legs):
         x, y, z = (b - a + rng.gauss(0, 0.03) for a, b in zip(places[start], places[end]))
@@ -168,12 +170,13 @@ def bad_input():
     error = raises(NotJudged, jabulghi.check, "a b x 0 0\nb c 1 y 0\n", name="mine.svx")
     assert [(m.file, m.line) for m in error.messages] == [("mine.svx", 1), ("mine.svx", 2)], error.messages
     assert str(error) == error.said.rstrip("\n") and pickle.loads(pickle.dumps(error)).messages == error.messages
-    for named, option in (
-        ({"sigma": "foo"}, "--sigma"),
-        ({"plays": 99}, "--plays"),
-        ({"trip": "1mm"}, "--trip"),
-        ({"seeds": (1, 2)}, "--seeds"),
-    ):
+    refused: dict[str, dict[str, object]] = {
+        "--sigma": {"sigma": "foo"},
+        "--plays": {"plays": 99},
+        "--trip": {"trip": "1mm"},
+        "--seeds": {"seeds": (1, 2)},
+    }
+    for option, named in refused.items():
         assert [m.option for m in raises(NotJudged, jabulghi.check, RING, **named).messages] == [option], named
     assert "tolerance: needs --sigma" in str(raises(NotJudged, jabulghi.tolerance, RING))
     assert "several loops" in str(
@@ -183,7 +186,8 @@ def bad_input():
     raises(IsADirectoryError, jabulghi.check, "/tmp")
     for wrong in (None, 5, ["a"]):
         raises(TypeError, jabulghi.check, wrong)
-    for named in ({"jobs": 0}, {"jobs": 257}, {"sigma": "tape=1mm\0"}, {"name": "a\0b"}):
+    unfit: list[dict[str, object]] = [{"jobs": 0}, {"jobs": 257}, {"sigma": "tape=1mm\0"}, {"name": "a\0b"}]
+    for named in unfit:
         raises(ValueError, jabulghi.check, RING, **named)
     raises(NotJudged, jabulghi.check, b"\xff\xfe\0\0")
     raises(ZeroDivisionError, jabulghi.check, RING, progress=lambda done, plays: 1 / 0)
