@@ -31,10 +31,11 @@ function refused(code, call, ...arrays) {
   return thrown;
 }
 
-// Exports are the header's calls, the sentences and the memory.
+// Exports are the header's calls and the judge's, the sentences, and the memory with what takes and gives back parts of it.
 function names() {
-  const declared = [...readFileSync(new URL('include/jabulghi.h', root), 'utf8').matchAll(/^uint32_t (jabulghi_\w+)\(/gm)].map(([, name]) => name);
-  assert.deepEqual(Object.keys(jabulghi.exports).sort(), [...declared, 'jabulghi_sentence', 'memory'].sort());
+  const text = ['include/jabulghi.h', 'bindings/judge.h'].map(name => readFileSync(new URL(name, root), 'utf8')).join('\n');
+  const declared = [...text.matchAll(/^(?:uint32_t|int|void|const char|jabulghi_case) \*?(jabulghi_\w+)\(/gm)].map(([, name]) => name);
+  assert.deepEqual(Object.keys(jabulghi.exports).sort(), [...declared, 'jabulghi_sentence', 'malloc', 'free', 'memory'].sort());
 }
 
 // A million samples of each width after a long skip, and the ways to the same samples.
@@ -156,7 +157,7 @@ function texts() {
   const HEADER = 'FROM TO MM STEP\n', BETWEEN = 'FROM TO LOW HIGH STEP\n', shot = `${SEEDS}${SIGMA}(shot A1 A2`;
   const jobs = [example('traverse.job'), example('loop.job'), `${SEEDS}${SIGMA}`, `${shot} 1000001 65536)\n`, `${shot} 1000000 65536)\n`, `${SEEDS}(sigma 4 1001)\n`, `${shot}  1 2)\n`,
     `(seeds (a 2 8 16) (b 2 8 4294967296))\n${SIGMA}`, `(seeds (a 1 8 16) (b 1 8 16))\n${SIGMA}`, `(seeds (a 2 8 16) (b 2 7 16))\n${SIGMA}`, `${shot} 1 2)`, `${SEEDS.trim()}\r\n`,
-    `${SEEDS}${SHOT}`, SEEDS, '', SEEDS + SIGMA + SHOT.repeat(500), SEEDS + SIGMA + SHOT.repeat(501), '\n'.repeat(60001), 'Höhle\n'];
+    `${SEEDS}${SHOT}`, SEEDS, '', SEEDS + SIGMA + SHOT.repeat(500), SEEDS + SIGMA + SHOT.repeat(501), `(${'\n'.repeat(60001)}`, '(Höhle\n'];
   const surveys = [example('loop.svx'), example('streamway.svx'), example('dotted.svx'), DATA, `${DATA}A B 1 0 -3\n`, `; c\n${DATA}A B 1.2345 0 0\n`, `${DATA.trim()}\r\n`, `${DATA}A B 1 0 0\r\n`,
     `${DATA}A B 1 0 0`, '; c\n', DATA + 'A B 9 9 0\n'.repeat(1000), DATA + 'ABCDEFGHIJKL B 9 9 0\n'.repeat(100000)];
   const listings = [jabulghi.list(example('loop.job')), example('tape-book.listing'), HEADER, BETWEEN, `${HEADER}A1 A2 5 5\nEND 2\n`, `${HEADER.trim()}\r\nEND 0\r\n`, `${HEADER}END 0`,
