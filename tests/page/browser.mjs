@@ -356,8 +356,10 @@ async function pinches() {
   assert(near[2] < 0.6 * before[2], `pinched: ${before[2]} to ${near[2]}`);
   await browser.touch([[x, y]], [[x + 40, y]], [[x + 80, y]]);
   assert((await view())[0] < near[0], 'a finger drags');
+  const whole = `document.querySelector('#plan svg').getAttribute('viewBox') === '${before.join(' ')}'`;
   await browser.tap('#whole');
-  assert.deepEqual(await view(), before);
+  await browser.until(whole, 5).catch(() => browser.tap('#whole')); // a tap just after a drag may only end it
+  await browser.until(whole, 20).catch(async () => assert.deepEqual(await view(), before));
 }
 
 // Every control that the keyboard reaches is seen whole, with its outline.
