@@ -22,6 +22,26 @@ place() {
 escaped() { quoted "$(printf %s "$1" | sed 's/[^A-Za-z0-9/._+,:@%-]/\\&/g')"; }
 quoted() { printf %s "$1" | sed 's/[\\|&]/\\&/g'; }
 
+# searched: whether programs find a shared library in LIBDIR by themselves.
+searched() { case $libdir/ in /lib*/* | /usr/lib*/* | /usr/local/lib/*) return 0 ;; *) return 1 ;; esac }
+
+# told: the lines to type before the command, pkg-config and the shared library are found.
+told() {
+    case :$PATH: in *":$prefix/bin:"*) ;; *) echo "    export PATH='$prefix/bin':\$PATH" ;; esac
+    if searched; then
+        [ ! -e lib/libjabulghi.so ] || echo "    ldconfig"
+        return
+    fi
+    case :${PKG_CONFIG_PATH:-}: in *":$libdir/pkgconfig:"*) ;; *) echo "    export PKG_CONFIG_PATH='$libdir/pkgconfig'" ;; esac
+    [ ! -e lib/libjabulghi.so ] || echo "    export LD_LIBRARY_PATH='$libdir'"
+}
+
+# emptied FILE: removes the folders below PREFIX that are empty without the file.
+emptied() {
+    folder=$(dirname "$1")
+    while [ "$folder" != "${DESTDIR:-}$prefix" ] && [ "$folder" != / ] && rmdir "$folder" 2>/dev/null; do folder=$(dirname "$folder"); done
+}
+
 # put FILE TO: copies a file; what names folders gets the names of these.
 put() {
     mkdir -p "$(dirname "$2")"
@@ -42,11 +62,14 @@ case ${1:-} in
 install)
     for file in $files; do put "$file" "$(place "$file")"; done
     echo "installed below ${DESTDIR:-}$prefix: $(echo "$files" | tr '\n' ' ')"
-    [ -n "${DESTDIR:-}" ] || [ ! -e lib/libjabulghi.so ] || echo "programs find the shared library once ldconfig was run, or with LD_LIBRARY_PATH=$libdir"
+    if [ -z "${DESTDIR:-}" ] && [ -n "$(told)" ]; then
+        echo "Type this before you use it:"
+        told
+    fi
     ;;
 uninstall)
     for file in $files; do rm -f "$(place "$file")"; done
-    rmdir "${DESTDIR:-}$libdir/cmake/jabulghi" 2>/dev/null || true
+    for file in $files; do emptied "$(place "$file")"; done
     echo "removed below ${DESTDIR:-}$prefix: $(echo "$files" | tr '\n' ' ')"
     ;;
 *) echo "install.sh install | uninstall, with PREFIX, LIBDIR, MANDIR and DESTDIR from the environment" >&2 && exit 2 ;;
