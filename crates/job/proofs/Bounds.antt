@@ -101,7 +101,7 @@ steps k l s steady h = go (readLine l) refl h (line-few k (readLine l) h)
           steady = steady;
           row =
               row-bound from to _ _ (n .0) (n .1)
-              (distance-bound (s .distance) d _ (steady .sigma-distance) (r .0) (p .0))
+              (distance-bound (s .distance) d _ (steady .sigma-distance) (r .0) (search (p .0, p .1)))
               (bearing-bound (s .bearing) b _);
           early = λ h. absurd (omega (arith, h, ltb-false k 3 (accepted-line k (shot from to d b) a .placed)));
         }
