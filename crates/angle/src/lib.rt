@@ -16,7 +16,7 @@ const WORD: u64 = 1 << 32;
 const HALF_WORD: u64 = 1 << 31;
 
 // The rotations of w = 128 a + b: C and D of a, and c and s of b, each cosine above its sine.
-#[derive(Drop)]
+#[derive(Clone, Copy)]
 pub struct Rotations {
     pub coarse: u64,
     pub fine: u64,
@@ -87,7 +87,7 @@ fn signed(negative: bool, size: u32) -> i64
     if negative { -value } else { value }
 }
 
-#[derive(Drop)]
+#[derive(Clone, Copy)]
 pub struct Turned {
     pub first: i64,
     pub second: i64,
@@ -105,7 +105,7 @@ pub fn turn(q: u32, sin: u32, cos: u32) -> Turned
 }
 
 // A sine and a cosine at 2^30, with their signs.
-#[derive(Drop)]
+#[derive(Clone, Copy)]
 pub struct SineCosine {
     pub sine: i64,
     pub cosine: i64,

@@ -2,7 +2,7 @@
 ghost use Rattle.std.specs.Prelude.{◌≡◌, map, ◌%◌};
 ghost use Rattle.bit_matrix.specs.Matrices.{repeat, applied, units};
 
-#[derive(Drop)]
+#[derive(Clone, Copy)]
 pub struct Two {
     pub x: u32,
     pub y: u32,

@@ -2,7 +2,7 @@
 // theorem. Crate `sample` has the functions.
 
 // Samples of 16 bits.
-#[derive(Drop)]
+#[derive(Clone, Copy)]
 pub struct Samples {
     pub code: u32,
     pub first: i16,
@@ -10,7 +10,7 @@ pub struct Samples {
 }
 
 // Samples of 18 bits.
-#[derive(Drop)]
+#[derive(Clone, Copy)]
 pub struct Samples18 {
     pub code: u32,
     pub first: i32,

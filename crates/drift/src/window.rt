@@ -24,7 +24,7 @@ use crate::turn::{held_after, leaving, place_after};
 const UNFIT: u32 = 17;
 
 // A refusal code, and the members of a window but its places: N, how many samples are held, the place that the next one takes, and the two sums.
-#[derive(Drop)]
+#[derive(Clone, Copy)]
 pub struct Members {
     pub code: u32,
     pub size: u32,

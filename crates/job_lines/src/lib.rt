@@ -11,7 +11,7 @@ use text::field::{Place, both, digit_string_at, name_at, three_at};
 use text::form::{Found, read_form};
 
 // Line 1: the registers of both streams.
-#[derive(Drop)]
+#[derive(Clone, Copy)]
 pub struct Seeds {
     pub a0: u64,
     pub a1: u64,
@@ -22,14 +22,14 @@ pub struct Seeds {
 }
 
 // Line 2: the standard deviations, in mm and in steps.
-#[derive(Drop)]
+#[derive(Clone, Copy)]
 pub struct Sigma {
     pub distance: u64,
     pub bearing: u64,
 }
 
 // A shot: where its names stand in the line, its distance in mm and its bearing in steps.
-#[derive(Drop)]
+#[derive(Clone, Copy)]
 pub struct Shot {
     pub from: Place,
     pub to: Place,
@@ -38,7 +38,7 @@ pub struct Shot {
 }
 
 // A line once read: one of three kinds; or it is of no form.
-#[derive(Drop)]
+#[derive(Clone, Copy)]
 pub enum Line {
     Seeds(Seeds),
     Sigma(Sigma),

@@ -14,7 +14,7 @@ use text::field::part;
 pub const SHOT_ROOM: usize = 47;
 
 // A shot line, and its length.
-#[derive(Drop)]
+#[derive(Clone, Copy)]
 pub struct ShotLine {
     pub length: usize,
     pub bytes: [u8; SHOT_ROOM],

@@ -9,7 +9,7 @@ use crate::walk::{Setting, first_setting, verdict};
 use text::line::line_end;
 
 // The refusal code, 0 where the loop is accepted; the line, 0 where no line is at fault; the number of its shots; and its setting, no pair drawn.
-#[derive(Drop)]
+#[derive(Clone, Copy)]
 pub struct LoopAnswer {
     pub code: u32,
     pub line: u32,

@@ -12,7 +12,7 @@ use job_lines::{Line, Shot};
 use text::field::{Place, part};
 
 // How far the job is read; where the last station stands in the line before; and the line of the first shot that does not start there, or 0.
-#[derive(Drop)]
+#[derive(Clone, Copy)]
 pub struct State {
     pub read: Progress,
     pub station: Place,

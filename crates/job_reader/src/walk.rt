@@ -11,7 +11,7 @@ use job_lines::{Line, Seeds, Sigma, read_line};
 use streams::Generator;
 
 // The generator record and the sigmas.
-#[derive(Drop)]
+#[derive(Clone, Copy)]
 pub struct Setting {
     pub generator: Generator,
     pub distance: u32,
@@ -19,7 +19,7 @@ pub struct Setting {
 }
 
 // A job half read: the refusal code of a line, 0 while all are accepted; the number of the next line, or of that one; and the setting.
-#[derive(Drop)]
+#[derive(Clone, Copy)]
 pub struct Progress {
     pub code: u32,
     pub line: u32,
@@ -27,14 +27,14 @@ pub struct Progress {
 }
 
 // One line more: what it says, and the progress after it.
-#[derive(Drop)]
+#[derive(Clone, Copy)]
 pub struct Step {
     pub says: Line,
     pub next: Progress,
 }
 
 // The refusal code and the number of a line; 0 and 0 where no line is bad.
-#[derive(Drop)]
+#[derive(Clone, Copy)]
 pub struct BadLine {
     pub code: u32,
     pub line: u32,

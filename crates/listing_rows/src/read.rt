@@ -9,7 +9,7 @@ use text::field::{Place, digit_string_at, name_at, three_at};
 use text::form::{Found, read_form};
 
 // A shot: where its names stand in the line, its shortest and its longest distance in mm, and its bearing in steps.
-#[derive(Drop)]
+#[derive(Clone, Copy)]
 pub struct Span {
     pub from: Place,
     pub to: Place,
@@ -19,7 +19,7 @@ pub struct Span {
 }
 
 // A line once read: a shot, the end with its count, or neither.
-#[derive(Drop)]
+#[derive(Clone, Copy)]
 pub enum Entry {
     Shot(Span),
     End(u64),

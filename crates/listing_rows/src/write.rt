@@ -20,7 +20,7 @@ fn put_shot(out: &mut [u8], from: &[u8], to: &[u8], mm: u64, step: u64) -> usize
 pub const ROW_ROOM: usize = 40;
 
 // A row by itself, and its length.
-#[derive(Drop)]
+#[derive(Clone, Copy)]
 pub struct Row {
     pub length: usize,
     pub bytes: [u8; ROW_ROOM],

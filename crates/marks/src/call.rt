@@ -9,7 +9,7 @@ use streams::{Generator, first_of};
 use text::field::is_name;
 
 // A call's refusal code, and the place that it is about.
-#[derive(Drop)]
+#[derive(Clone, Copy)]
 pub struct Placed {
     pub code: u32,
     pub place: usize,

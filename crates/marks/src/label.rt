@@ -6,7 +6,7 @@ use text::buffer::put;
 use text::limits::NAME_LENGTH;
 
 // What a place is known by: the first bytes are the name, as many as its length. A free place is known by nothing.
-#[derive(Drop)]
+#[derive(Clone, Copy)]
 pub struct Label {
     pub used: bool,
     pub length: u32,

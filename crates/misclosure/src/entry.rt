@@ -13,7 +13,7 @@ use listing_rows::read::{Entry, Span, read_entry};
 use text::field::{Place, part};
 
 // The number of the next line, where the last station stands in the line before it, and the sums so far.
-#[derive(Drop)]
+#[derive(Clone, Copy)]
 pub struct State {
     pub line: u32,
     pub station: Place,
@@ -22,7 +22,7 @@ pub struct State {
 }
 
 // The refusal code of a line, 0 where it is accepted; whether it is the end; and after an accepted shot the state.
-#[derive(Drop)]
+#[derive(Clone, Copy)]
 pub struct Taken {
     pub code: u32,
     pub ended: bool,

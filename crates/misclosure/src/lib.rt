@@ -17,7 +17,7 @@ use text::line::line_end;
 
 // The refusal code, 0 where the listing is accepted; the line, 0 where no line is at fault; east and north at 2^30, and each in whole
 // millimetres.
-#[derive(Drop)]
+#[derive(Clone, Copy)]
 pub struct Miss {
     pub code: u32,
     pub line: u32,
@@ -28,14 +28,14 @@ pub struct Miss {
 }
 
 // The lowest and the highest of a sum.
-#[derive(Drop)]
+#[derive(Clone, Copy)]
 pub struct Ends {
     pub low: i64,
     pub high: i64,
 }
 
 // A miss with the lowest and the highest of each sum.
-#[derive(Drop)]
+#[derive(Clone, Copy)]
 pub struct IntervalSums {
     pub code: u32,
     pub line: u32,

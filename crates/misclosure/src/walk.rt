@@ -11,7 +11,7 @@ use text::field::Place;
 use text::line::line_end;
 
 // The code and the line as in a Miss, and the sums at 2^30.
-#[derive(Drop)]
+#[derive(Clone, Copy)]
 pub struct Sums {
     pub code: u32,
     pub line: u32,

@@ -13,7 +13,7 @@ use job_reader::limits::MOST_SHOTS;
 use job_reader::loops::read_loop;
 
 // The refusal code, 0 where the loop is played; and the line, 0 where no line is at fault.
-#[derive(Drop)]
+#[derive(Clone, Copy)]
 pub struct PlayAnswer {
     pub code: u32,
     pub line: u32,

@@ -19,14 +19,14 @@ const CHUNK_SHOTS: usize = 32;
 const CHUNK_SAMPLES: usize = 2 * CHUNK_SHOTS;
 
 // East and north.
-#[derive(Drop)]
+#[derive(Clone, Copy)]
 pub struct Sums {
     pub east: i64,
     pub north: i64,
 }
 
 // After a play: the record, and the sums.
-#[derive(Drop)]
+#[derive(Clone, Copy)]
 pub struct Progress {
     pub next: Generator,
     pub sums: Sums,

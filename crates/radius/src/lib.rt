@@ -20,7 +20,7 @@ const COARSE: u64 = 1 << 55;
 const ROOTS: u32 = 1 << 24;
 
 // What steps 1, 2 and 3 and the tables say of a k: 2^15 M and, below it, i; the reciprocal of h; (49 - e) × K - A(h) - B(i), mod 2^64.
-#[derive(Drop)]
+#[derive(Clone, Copy)]
 pub struct Cell {
     pub place: u64,
     pub reciprocal: u32,

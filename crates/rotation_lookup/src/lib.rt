@@ -6,7 +6,7 @@ ghost use Rattle.tables.specs.Values.{cos_coarse_list, sin_coarse_list, cos_fine
 ghost use Rattle.tables.specs.Tables.{cos_coarse, sin_coarse, cos_fine, sin_fine, entry_of};
 
 // A cosine and a sine at 2^30.
-#[derive(Drop)]
+#[derive(Clone, Copy)]
 struct Rotation(u32, u32);
 
 // What the upper half of a number counts.

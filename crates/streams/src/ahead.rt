@@ -7,7 +7,7 @@ ghost use Rattle.streams.specs.Recurrence.{moved};
 use crate::{Generator, RecordAnswer, Stream};
 
 // The bit matrices of the three registers' steps, 32 columns each.
-#[derive(Drop)]
+#[derive(Clone, Copy)]
 struct StepMatrices {
     s0: [u32; 32],
     s1: [u32; 32],

@@ -18,7 +18,7 @@ pub use codes::first_of;
 pub use requests::{ask, block_code, give_up, take_code};
 pub use side_by_side::draw_pairs;
 
-#[derive(Drop)]
+#[derive(Clone, Copy)]
 pub struct Stream {
     pub s0: u32,
     pub s1: u32,
@@ -26,7 +26,7 @@ pub struct Stream {
 }
 
 // The two streams; how many pairs were drawn or skipped; whether a request is open (not 0), and for how many pairs.
-#[derive(Drop)]
+#[derive(Clone, Copy)]
 pub struct Generator {
     pub a: Stream,
     pub b: Stream,
@@ -36,13 +36,13 @@ pub struct Generator {
 }
 
 // A refusal code and the record that a call leaves.
-#[derive(Drop)]
+#[derive(Clone, Copy)]
 pub struct RecordAnswer {
     pub code: u32,
     pub next: Generator,
 }
 
-#[derive(Drop)]
+#[derive(Clone, Copy)]
 pub struct Uniforms {
     pub code: u32,
     pub k: u64,
@@ -51,14 +51,14 @@ pub struct Uniforms {
 }
 
 // Both streams, apart.
-#[derive(Drop)]
+#[derive(Clone, Copy)]
 pub struct Both {
     pub a: Stream,
     pub b: Stream,
 }
 
 // Both streams side by side: each register of a is the upper half of a number, and that of b the lower.
-#[derive(Drop)]
+#[derive(Clone, Copy)]
 pub struct Lanes {
     s0: u64,
     s1: u64,

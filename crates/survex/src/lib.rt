@@ -10,7 +10,7 @@ use crate::walk::convert;
 use listing_rows::write::put_refused;
 
 // The refusal code, 0 where the text is accepted; the line, 0 where no line is at fault; and the length of the shot lines.
-#[derive(Drop)]
+#[derive(Clone, Copy)]
 pub struct LegsAnswer {
     pub code: u32,
     pub line: usize,

@@ -14,21 +14,21 @@ use text::buffer::put;
 use text::form::read_form;
 
 // How many bytes the legs so far have, where they fit: code 0; else code 10, and no bytes.
-#[derive(Drop)]
+#[derive(Clone, Copy)]
 pub struct Measured {
     pub code: u32,
     pub used: usize,
 }
 
 // The refusal code of a leg, 0 where it is accepted, and what is measured after it.
-#[derive(Drop)]
+#[derive(Clone, Copy)]
 pub struct Taken {
     pub code: u32,
     pub next: Measured,
 }
 
 // The data line: ok where the first line that remains is one, its line, and where the next begins.
-#[derive(Drop)]
+#[derive(Clone, Copy)]
 pub struct DataLine {
     pub ok: bool,
     pub line: usize,

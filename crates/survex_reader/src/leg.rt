@@ -27,7 +27,7 @@ pub const MOST_TAPE: u64 = 1000000;
 pub const COMPASS_TURN: u64 = 36000;
 
 // The five fields of a leg; ok where there are just five.
-#[derive(Drop)]
+#[derive(Clone, Copy)]
 pub struct LegFields {
     pub ok: bool,
     pub from: Place,
@@ -38,7 +38,7 @@ pub struct LegFields {
 }
 
 // The numbers of a leg: ok where its names and numbers have their form; the tape in mm and the compass in hundredths of a degree.
-#[derive(Drop)]
+#[derive(Clone, Copy)]
 pub struct LegNumbers {
     pub ok: bool,
     pub tape: u64,
@@ -46,7 +46,7 @@ pub struct LegNumbers {
 }
 
 // What a line of a leg says: the shot, or its refusal code.
-#[derive(Drop)]
+#[derive(Clone, Copy)]
 pub enum LegLine {
     Leg(Shot),
     Wrong(u32),

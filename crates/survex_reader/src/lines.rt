@@ -6,7 +6,7 @@ ghost use Rattle.survex_reader.specs.Lines.{blank, not_blank, trim_end, kept_of,
 use text::line::{is_one_of, line_end, scan};
 
 // What is left of one line: whether it is handed out, whether it has its line feed, and where in the line it stands.
-#[derive(Drop)]
+#[derive(Clone, Copy)]
 pub struct Kept {
     pub left: bool,
     pub fed: bool,
@@ -16,7 +16,7 @@ pub struct Kept {
 
 // The next line that remains: whether there is one, whether it has its line feed, where it stands in the text, how many lines
 // were passed over before it, and where the line after it begins.
-#[derive(Drop)]
+#[derive(Clone, Copy)]
 pub struct Remaining {
     pub found: bool,
     pub fed: bool,
@@ -118,14 +118,14 @@ pub fn line_at(text: &[u8], at: usize) -> Remaining
 }
 
 // A reader over the caller's Survex text: the text and a position in it (the form that document 01 names).
-#[derive(Drop)]
+#[derive(Clone, Copy)]
 pub struct Reader<'a> {
     pub text: &'a [u8],
     pub at: usize,
 }
 
 // The line that a reader hands out, and the reader after it.
-#[derive(Drop)]
+#[derive(Clone, Copy)]
 pub struct Handed<'a> {
     pub line: Remaining,
     pub next: Reader<'a>,

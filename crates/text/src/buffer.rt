@@ -43,7 +43,7 @@ pub fn put_field(out: &mut [u8], at: usize, bytes: &[u8], end: u8) -> usize
 }
 
 // The digits of a number, from an index on.
-#[derive(Drop)]
+#[derive(Clone, Copy)]
 pub struct Digits {
     pub from: usize,
     pub bytes: [u8; 20],

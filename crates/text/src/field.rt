@@ -6,21 +6,21 @@ ghost use Rattle.text.specs.Fields.{within, all, digit, letter_or_digit, name, s
 use crate::limits::{MOST_DIGITS, NAME_LENGTH};
 
 // Where a field stands in its line.
-#[derive(Drop)]
+#[derive(Clone, Copy)]
 pub struct Place {
     pub from: usize,
     pub to: usize,
 }
 
 // A number read from a field: ok where the field has the form asked for, and then its value.
-#[derive(Drop)]
+#[derive(Clone, Copy)]
 pub struct NumberRead {
     pub ok: bool,
     pub value: u64,
 }
 
 // What stands in three fields: ok where all three are digit strings, and the value of each.
-#[derive(Drop)]
+#[derive(Clone, Copy)]
 pub struct Three {
     pub ok: bool,
     pub first: u64,

@@ -8,7 +8,7 @@ use crate::limits::FORM_FIELDS;
 use crate::line::scan;
 
 // How far a form fits a line: the places of the fields so far, and where the rest of the line begins.
-#[derive(Drop)]
+#[derive(Clone, Copy)]
 pub struct Found {
     pub ok: bool,
     pub at: usize,
