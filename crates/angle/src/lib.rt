@@ -1,4 +1,6 @@
 // The sine and the cosine of v at 2^30 (document 01, 'Angle and sample').
+#![tactic(auto)]
+
 ghost use Rattle.std.specs.Prelude.{◌≡◌, ℕ, ◌%◌, pos, neg_ℤ, if◌then◌else◌};
 ghost use Rattle.exact.specs.Pair.{turn};
 ghost use Rattle.angle.specs.Steps.{sine_at, cosine_at, signed_of};

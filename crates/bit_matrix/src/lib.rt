@@ -1,4 +1,6 @@
 // Bit matrices of 32 by 32 bits, each as its 32 columns: applied to a word, and raised to a power by squaring.
+#![tactic(auto)]
+
 ghost use Rattle.std.specs.Prelude.{◌≡◌, map, ◌%◌};
 ghost use Rattle.bit_matrix.specs.Matrices.{repeat, applied, units};
 

@@ -1,5 +1,7 @@
 // The two samples of k and v by Box and Muller (document 01, 'Angle and sample'): definitions, laws, readings and the data sheet's
 // theorem. Crate `sample` has the functions.
+#![tactic(auto)]
+
 
 // Samples of 16 bits.
 #[derive(Clone, Copy)]

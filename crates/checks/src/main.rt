@@ -1,6 +1,8 @@
 // Runs what document 01 wants run by a program. Standard input is a job of one shot too many whose first four lines are the document's own job: it is
 // listed to its second, last but one and last shot. Then the refusals 2 and 3, s0 of 1 and 2, and a block from each of some dozen seeds. The other
 // implementation, tests/src/checks.rs, wrote what is stored.
+#![tactic(auto)]
+
 use job::limits::LISTING_ROOM;
 use libc::{STDIN_FILENO, STDOUT_FILENO};
 use streams::Generator;

@@ -1,1 +1,3 @@
 // Maximal equidistribution of the streams: definitions in specs/, laws in proofs/.
+#![tactic(auto)]
+

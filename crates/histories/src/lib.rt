@@ -1,1 +1,3 @@
 // Runs of calls on a record: definitions in specs/, laws in proofs/.
+#![tactic(auto)]
+

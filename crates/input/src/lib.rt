@@ -1,4 +1,6 @@
 // Reads of a descriptor until the input ends or a buffer is full, and whether one failed.
+#![tactic(auto)]
+
 ghost use Rattle.std.specs.Prelude.{◌≤◌, length};
 
 // How many bytes were read, and whether a read failed.

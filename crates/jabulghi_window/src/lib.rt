@@ -1,5 +1,7 @@
 // The makers' C interface to windows: each function equals the call of crate `drift`. The caller's window comes as its members one by one, in the order
 // of the header's struct jabulghi_window, whose inline functions take it apart.
+#![tactic(auto)]
+
 ghost use Rattle.std.specs.Prelude.{◌≡◌};
 ghost use Rattle.drift.specs.Drift.{window_of, made_of, pushed_of, pushed_all};
 

@@ -1,4 +1,6 @@
 // The lines of a job. What a line says: one of the three forms, or none (document 01, "A job and its listing").
+#![tactic(auto)]
+
 pub mod link;
 pub mod write;
 

@@ -1,4 +1,6 @@
 // Converts the Survex text on standard input: the shot lines of its legs, or why it is refused and in which line.
+#![tactic(auto)]
+
 use libc::{STDERR_FILENO, STDIN_FILENO, STDOUT_FILENO};
 
 // The bytes of a text that the program holds.

@@ -1,4 +1,6 @@
 // Lists the job on standard input: its listing, or why it is refused and in which line.
+#![tactic(auto)]
+
 use input::read_all;
 use job::limits::LISTING_ROOM;
 use job::printer::print_job;

@@ -1,4 +1,6 @@
 // Look-ups in table B, the fine logarithms, by one match.
+#![tactic(auto)]
+
 ghost use Rattle.std.specs.Prelude.{◌≡◌, get_or};
 ghost use Rattle.tables.specs.Private.{NoKey};
 ghost use Rattle.tables.specs.Values.{log_fine_list};

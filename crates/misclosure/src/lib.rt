@@ -1,5 +1,7 @@
 // How far a loop misses (document 02, Job 13): the sums of a listing's shots; and how far at least and at most, where its distances are known only
 // between two readings (Job 14).
+#![tactic(auto)]
+
 mod entry;
 pub mod limits;
 pub mod printer;

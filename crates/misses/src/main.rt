@@ -1,5 +1,7 @@
 // Prints how far the loop of the listing on standard input misses: east and north in whole millimetres, or why the listing is refused and in
 // which line.
+#![tactic(auto)]
+
 use input::read_all;
 use libc::{STDERR_FILENO, STDIN_FILENO, STDOUT_FILENO};
 use misclosure::printer::{OUTPUT_ROOM, print_misses};

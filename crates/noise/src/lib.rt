@@ -1,5 +1,7 @@
 // A pair of samples, a block of them in the caller's memory, a look at a block, and the block that was asked for, from a generator record; samples are
 // of 16 bits, or of 18 in the calls whose names end so.
+#![tactic(auto)]
+
 mod bits18;
 
 ghost use Rattle.std.specs.Prelude.{◌≡◌, ◌+◌, ◌≤◌, length};

@@ -1,4 +1,6 @@
 // The noise on a shot: sigma times a sample, on its distance and on its bearing (document 01, "A job and its listing"); and the steps of a turn.
+#![tactic(auto)]
+
 ghost use Rattle.std.specs.Prelude.{◌≡◌, ◌^◌, ◌<◌, nat_abs};
 ghost use Rattle.noisy_shot.specs.Rounding.{noise_size, noisy_distance, noisy_bearing};
 

@@ -1,1 +1,3 @@
 // The period of the streams: definitions in specs/, laws in proofs/.
+#![tactic(auto)]
+

@@ -1,4 +1,6 @@
 // Many plays of one loop: how far each misses, each with the pairs after those of the one before.
+#![tactic(auto)]
+
 mod plays;
 mod room;
 mod sum;

@@ -1,5 +1,7 @@
 // The radius of a first number k: the six steps of document 01, 'Radius', in its order and with its names. By document 02, Job 5, the first number is
 // 2k + 1 over 2^49, so 2k + 1 stands for the document's k, and 49 bits for 48. A step that divides multiplies by an inverse from a table or a series.
+#![tactic(auto)]
+
 ghost use Rattle.std.specs.Prelude.{◌≡◌, ℕ, ◌+◌, ◌-◌, ◌*◌, ◌/◌, ◌%◌, ◌^◌, ◌<◌, ◌≤◌};
 ghost use Rattle.tables.specs.Tables.{entry_of};
 ghost use Rattle.log_coarse_lookup.specs.Reciprocals.{reciprocals};

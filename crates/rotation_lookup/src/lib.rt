@@ -1,5 +1,7 @@
 // Look-ups in the rotation tables C, D, c and s, by two matches. The compiler makes static data of them, where a constant array would be written to the stack at
 // each use.
+#![tactic(auto)]
+
 ghost use Rattle.std.specs.Prelude.{◌≡◌, ◌+◌, ◌*◌, ◌/◌, ◌%◌, ◌^◌, get_or};
 ghost use Rattle.tables.specs.Private.{NoKey, beside};
 ghost use Rattle.tables.specs.Values.{cos_coarse_list, sin_coarse_list, cos_fine_list, sin_fine_list};

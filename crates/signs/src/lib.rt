@@ -1,4 +1,6 @@
 // The size of a signed number of 16 bits; proofs/Sizes.antt has the laws on signs and sizes at any width.
+#![tactic(auto)]
+
 ghost use Rattle.std.specs.Prelude.{◌≡◌, ◌≤◌, nat_abs};
 
 // The size of a sample.

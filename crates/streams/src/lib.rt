@@ -1,5 +1,7 @@
 // The two Tausworthe streams of L'Ecuyer (1996): seeding, the two numbers of a pair and of many, a skip of many pairs, and requests.
 // A generator record goes in by value and comes back as it then is, beside the call's refusal code, 0 where it is accepted.
+#![tactic(auto)]
+
 
 // One draw from a stream, and whether its registers have their minima.
 mod draw;

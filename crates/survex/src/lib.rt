@@ -1,4 +1,6 @@
 // Level legs from a Survex text, as a job's shot lines (document 02, Job 12).
+#![tactic(auto)]
+
 mod walk;
 
 ghost use Rattle.std.specs.Prelude.{◌≤◌, ◌≡◌, length};

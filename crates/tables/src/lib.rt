@@ -1,6 +1,8 @@
 // The tables of logarithms and rotations as constants (document 01, 'Radius' and 'Angle and sample'). What their entries promise is in
 // specs/Promise.antt. The steps of a sample read the matches of the look-up crates, which hold the same entries, since a constant array is
 // written to the stack at each use. The private functions stand here for their contracts, which hold the constants to the definitions.
+#![tactic(auto)]
+
 mod cosines;
 mod logarithms;
 mod sines;

@@ -1,4 +1,6 @@
 // Names, digit strings, forms and lines, read in the caller's bytes; and bytes written into the caller's buffer.
+#![tactic(auto)]
+
 pub mod buffer;
 pub mod field;
 pub mod form;
