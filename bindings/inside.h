@@ -18,7 +18,7 @@ struct jabulghi_case {
     growing texts[CASE_TEXTS];
 };
 
-/* texts.c: messages, and the legs of a cave in plan, as JSON. */
+/* texts.c: what was said as JSON, and the legs of a cave in plan. */
 void list_messages(const jabulghi_case *c, growing *to);
 void list_legs(const checked *c, growing *to);
 

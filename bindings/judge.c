@@ -5,10 +5,10 @@
 #include <stdlib.h>
 #include <string.h>
 
-/* The case whose call is running: messages go there, and files come from there. */
+/* Where messages go and files come from: the case whose call runs. */
 static jabulghi_case *current;
 
-/* ---- What the command needs of its system */
+/* ---- What the command takes of its system */
 
 void put_error_values(const char *format, va_list values) { add_values(&current->texts[CASE_SAID], format, values); }
 
@@ -21,7 +21,7 @@ void put_error(const char *format, ...) {
 
 uint64_t system_processors(void) { return 1; }
 
-/* The case has six random numbers; a second draw is refused. */
+/* The numbers are there once: others would not be random. */
 int system_random(uint32_t numbers[6]) {
     if (current->drawn) return trouble("seeds", "unfit");
     current->drawn = true;
@@ -42,7 +42,7 @@ static bool is_alike(const char *one, const char *other) {
     return small(*one) == small(*other);
 }
 
-/* The file of that name, or with the same last part; NULL if there is none. */
+/* The file of that name, or with the same last part; NULL where there is none. */
 static const text *file_of(const char *name) {
     for (size_t j = 0; j < current->file_count; j++) {
         if (strcmp(current->files[j].name, name) == 0) return &current->files[j];
@@ -53,7 +53,7 @@ static const text *file_of(const char *name) {
     return NULL;
 }
 
-/* No name here is a folder. */
+/* What is there is no folder. */
 unsigned system_mode(const char *name) {
     const text *file = file_of(name);
     if (file == NULL) add(&current->texts[CASE_MISSING], "%s\n", name);
@@ -83,7 +83,7 @@ jabulghi_case *jabulghi_case_new(const char *command, const char *words, size_t 
     return c;
 }
 
-/* Frees what a survey was read into. */
+/* Forgets what a survey was read to. */
 static void forget(jabulghi_case *c) {
     judge_free(c->check.cave);
     survey_free(c->check.survey);
@@ -120,7 +120,7 @@ int jabulghi_case_file(jabulghi_case *c, const char *name, const uint8_t *bytes,
 
 void jabulghi_case_loose(jabulghi_case *c) { c->loose = true; }
 
-/* Splits the options into words, as the command gets them; returns their number, or -1. */
+/* The words as the command gets them; the count of them, or -1. */
 static int split(jabulghi_case *c, char ***words) {
     size_t count = 0, room = 0;
     free(c->options);
@@ -238,9 +238,9 @@ int jabulghi_case_end(jabulghi_case *c, uint32_t plays, int all_loops) {
 }
 
 const char *jabulghi_case_text(jabulghi_case *c, int which) {
-    growing *found = &c->texts[which];
-    if (which == CASE_MESSAGES || which == CASE_PLAN) found->length = 0;
-    if (which == CASE_MESSAGES) list_messages(c, found);
-    if (which == CASE_PLAN && c->taken && c->checks) list_legs(&c->check, found);
-    return found->failed ? NULL : found->length == 0 ? "" : found->bytes;
+    growing *told = &c->texts[which];
+    if (which == CASE_MESSAGES || which == CASE_PLAN) told->length = 0;
+    if (which == CASE_MESSAGES) list_messages(c, told);
+    if (which == CASE_PLAN && c->taken && c->checks) list_legs(&c->check, told);
+    return told->failed ? NULL : told->length == 0 ? "" : told->bytes;
 }

@@ -1,11 +1,11 @@
-/* Messages and a cave's legs in plan, as JSON. */
+/* What was said, and a cave's legs in plan, for a program. */
 #include "inside.h"
 #include <stdlib.h>
 #include <string.h>
 
 /* ---- Messages */
 
-/* A message: a line, and those after it that are indented or begin with "and 3 more". */
+/* A message: a line of what was said, and those after it that are indented or go on with "and 3 more". */
 struct message {
     const char *file, *option, *text;
     size_t file_length, option_length, length, line;
@@ -13,20 +13,20 @@ struct message {
 
 static bool goes_on(const char *line) { return line[0] == ' ' || strncmp(line, "and ", 4) == 0; }
 
-/* The end of the message that starts here, without its last line feed. */
+/* The end of the message that starts here, its last line feed excluded. */
 static const char *end_of(const char *at) {
     const char *end = strchr(at, '\n');
     while (end != NULL && goes_on(end + 1)) end = strchr(end + 1, '\n');
     return end == NULL ? at + strlen(at) : end;
 }
 
-/* Takes a name as the file's if the message begins with it and no longer name was taken. */
+/* Takes a name for the file's, where the message begins with it and no longer one is taken. */
 static void try_name(struct message *m, const char *name, size_t length) {
     if (length > m->file_length && strncmp(m->text, name, length) == 0 && m->text[length] == ':')
         m->file_length = length;
 }
 
-/* Names of files are those given, and those of files found under another name, the first of each two lines. */
+/* The names of files are those given, and those that were found under another: the first of each two lines. */
 static void find_file(const jabulghi_case *c, struct message *m) {
     const char *found = c->texts[CASE_FOUND].length == 0 ? "" : c->texts[CASE_FOUND].bytes;
     for (size_t j = 0; j < c->file_count; j++) try_name(m, c->files[j].name, strlen(c->files[j].name));

@@ -6,8 +6,8 @@
 
 #define TURN 6.283185307179586476925286766559
 
-/* A rest that fewer than 5 % of blunder-free surveys miss by is not noise. Other seeds make that share a little other:
- * what is near the limit is kept and marked. */
+/* Below 5 % of sound surveys what remains of the miss is no noise. Other seeds make that share a little other: what is
+ * near the limit is kept and marked. */
 #define LEAST_SHARE 0.04
 #define NEAR_SHARE 0.0625
 

@@ -1,4 +1,4 @@
-/* jabulghi check: is there a blunder in this cave? */
+/* jabulghi check: is this cave sound? */
 #include "check.h"
 #include <errno.h>
 #include <stdlib.h>
@@ -41,7 +41,7 @@ static int judge(int count, char **words, const option asked[CHECK_ASKED], check
     return write_all(asked, c, &verdict);
 }
 
-/* Whatever keeps the command from its answer is trouble. */
+/* Everything but an unsound cave that keeps the command from its answer is trouble. */
 static int run(int count, char **words, const option asked[CHECK_ASKED]) {
     static checked c;
     text source;

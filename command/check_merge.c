@@ -79,8 +79,8 @@ static int follows(const part *parts, size_t j, const struct judge_cave *cave) {
     if (!same) return wrong(OTHER_PLAYS, p->name);
     if (j == 0) return DONE;
     uint64_t end = p[-1].first + p[-1].plays;
-    if (end > p->first) return wrong(SAME_PLAYS, p->name, p[-1].name);
-    if (end < p->first) return wrong(MISSING_PLAYS, end, p->first - 1);
+    if (end > p->first) return wrong(SAME_RUNS, p->name, p[-1].name);
+    if (end < p->first) return wrong(MISSING_RUNS, end, p->first - 1);
     return DONE;
 }
 

@@ -12,8 +12,8 @@
 #include <sys/types.h>
 
 /* Exit statuses: all went well; the library refused what it was given; wrong usage, or a read or write that failed.
- * ENOUGH is not an exit status: nobody reads the output any more, and the command ends as if done. UNSOUND is not one
- * either: check found a sign of a blunder, and the exit status is 1. */
+ * ENOUGH is no exit status: nobody reads the output any more, and the command ends as if it were done. UNSOUND is none
+ * either: all went well, and the exit status is 1. */
 enum { DONE = 0, REFUSED = 1, TROUBLE = 2, ENOUGH = 3, UNSOUND = 4 };
 
 /* The shots that a job takes, and room for a name of it, its end included. */
@@ -39,7 +39,7 @@ typedef struct {
     size_t length, number;
 } bad_line;
 
-/* All sentences but refusals; sentences.c has the words. */
+/* What a user is told besides refusals; sentences.c has the words. */
 typedef enum {
     NO_COMMAND,
     NO_SUCH_COMMAND,
@@ -60,8 +60,6 @@ typedef enum {
     NO_WHOLE_MM,
     NO_STEPS,
     TOO_FEW_STEPS,
-    DECIMAL_COMMA,
-    TWO_MEANINGS,
     TOO_MUCH,
     READING,
     SEEDS_DRAWN,
@@ -69,13 +67,13 @@ typedef enum {
     STARTS_ELSEWHERE,
     NO_LOOP,
     PART_CLOSES,
-    NO_PLAYS,
+    NO_RUN,
     NO_JOBS,
     NO_MISS,
     NO_PART,
     OTHER_PART,
-    SAME_PLAYS,
-    MISSING_PLAYS,
+    SAME_RUNS,
+    MISSING_RUNS,
     NOT_MERGED,
     LACKS_FILE,
     NO_ERRORS,
@@ -125,22 +123,19 @@ int job(int count, char **words);
 int tolerance(int count, char **words);
 int check(int count, char **words);
 
-/* help.c: the help on one command, or on all if there is no such command. */
+/* help.c: the help on one command, or on all where there is no such command. */
 int help_on(const char *command);
 
 /* options.c: takes the options out of the words; the count words that are left, names of files, come first then. */
 int read_options(int *count, char **words, option *options, size_t size);
 
-/* forms.c: the values of options; each function reports what is wrong with its own. A number that is not given stays.
- * A decimal comma is reported before any other fault of a value. */
+/* forms.c: what options say; each tells what is wrong with it. A number that is not given stays. */
 int number_of(const option *given, uint64_t most, uint64_t *number);
 int seeds_of(const option *given, uint32_t numbers[6]);
 int sigma_of(const option *given, measure *sigma);
 int sigmas_of(const option *given, uint32_t sigma[2]);
 int miss_of(const option *given, double miss[2]);
 const char *read_measure(const char *at, measure *read);
-int read_pair(const option *given, saying what, measure *length, measure *angle);
-int wrong_measure(saying what, const option *given);
 
 /* seeds.c: six numbers from the system's randomness that the library accepts as seeds, and their line in a job. */
 int draw_seeds(uint32_t numbers[6]);

@@ -2,7 +2,7 @@
 #include "tolerance.h"
 #include <inttypes.h>
 
-/* Rows in one write. */
+/* Rows are written so many at once. */
 #define ROWS 4096
 
 int put_csv(const task *t) {

@@ -1,10 +1,10 @@
-/* Standard deviations on the command line, each with its name. */
+/* Standard deviations among the words of the command line, each with its name. */
 #include "check.h"
 
 #include "../survey/mathematics.h"
 #include <string.h>
 
-/* The names, whether each is a length, and its largest value in metres or degrees. */
+/* The names, what each is in, and the most that is taken of it, in metres or degrees. */
 static const struct {
     const char *name;
     enum judge_error error;
@@ -38,15 +38,17 @@ static const char *read_error(const char *at, struct judge_sigmas *sigmas) {
     return NULL;
 }
 
-/* Tape and compass alone. */
-static int read_two(const option *given, struct judge_sigmas *sigmas) {
+/* Tape and compass alone: a number without a unit is millimetres, or steps. */
+static bool read_pair(const char *at, struct judge_sigmas *sigmas) {
     measure tape, compass;
-    int status = read_pair(given, NO_ERRORS, &tape, &compass);
-    if (status != DONE) return status;
+    at = read_measure(at, &tape);
+    at = at != NULL && *at == ',' ? read_measure(at + 1, &compass) : NULL;
+    if (at == NULL || *at != '\0') return false;
+    if (tape.in == NO_UNIT) tape.in = MILLIMETRES;
+    if (compass.in == NO_UNIT) compass.in = STEPS;
     bool good = value_of(&tape, true, &sigmas->of[JUDGE_TAPE]) && value_of(&compass, false, &sigmas->of[JUDGE_COMPASS]);
     sigmas->given[JUDGE_TAPE] = sigmas->given[JUDGE_COMPASS] = true;
-    good = good && sigmas->of[JUDGE_TAPE] <= NAMES[0].most && sigmas->of[JUDGE_COMPASS] <= NAMES[1].most;
-    return good ? DONE : wrong(NO_ERRORS, given->name, given->value);
+    return good && sigmas->of[JUDGE_TAPE] <= NAMES[0].most && sigmas->of[JUDGE_COMPASS] <= NAMES[1].most;
 }
 
 /* Names with their values, each once. */
@@ -67,8 +69,8 @@ static bool read_list(const char *at, struct judge_sigmas *sigmas) {
 int errors_of(const option *given, struct judge_sigmas *sigmas) {
     if (given->value == NULL) return DONE;
     sigmas->from = given->name;
-    if (strchr(given->value, '=') == NULL) return read_two(given, sigmas);
-    return read_list(given->value, sigmas) ? DONE : wrong_measure(NO_ERRORS, given);
+    bool good = strchr(given->value, '=') == NULL ? read_pair(given->value, sigmas) : read_list(given->value, sigmas);
+    return good ? DONE : wrong(NO_ERRORS, given->name, given->value);
 }
 
 int trip_of(const option *given, struct judge_sigmas *sigmas) {
@@ -78,7 +80,7 @@ int trip_of(const option *given, struct judge_sigmas *sigmas) {
     bool good =
         end != NULL && *end == '\0' && value_of(&read, false, &sigmas->of[JUDGE_TRIP]) && sigmas->of[JUDGE_TRIP] <= 90;
     sigmas->given[JUDGE_TRIP] = true;
-    return good ? DONE : wrong_measure(NO_TRIP, given);
+    return good ? DONE : wrong(NO_TRIP, given->name, given->value);
 }
 
 /* Whole millimetres, and the nearest steps, as a job has them. */
@@ -98,7 +100,7 @@ static int whole_errors(const option *given, const struct judge_sigmas *read, su
 int shot_errors_of(const option *given, survey *s) {
     struct judge_sigmas read = {{0}, {false}, NULL};
     if (strchr(given->value, '=') == NULL) return sigmas_of(given, s->sigma);
-    if (!read_list(given->value, &read) || read.given[JUDGE_POINT]) return wrong_measure(NO_ERRORS, given);
+    if (!read_list(given->value, &read) || read.given[JUDGE_POINT]) return wrong(NO_ERRORS, given->name, given->value);
     if (s->about != JOB && (!read.given[JUDGE_TAPE] || !read.given[JUDGE_COMPASS]))
         return wrong(NEEDS, given->name, "tape and compass");
     return whole_errors(given, &read, s);

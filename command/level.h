@@ -40,7 +40,7 @@ typedef struct {
     walk walked;
     renamed *stations;
     size_t station_count, *place;
-    bool by_case; /* upper and lower case make different names */
+    bool by_case; /* names are told apart by their letters' case */
     reason why;
     size_t bad_leg;
 } levelling;

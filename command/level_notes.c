@@ -8,11 +8,11 @@
 
 static const char *const SENTENCES[] = {
     [NO_MEMORY] = "out of memory",
-    [MANY_LEGS] = "more than 500 legs: a job holds 500",
-    [LONG_LEG] = "leg is longer than 1000 m in plan: a job holds 1000 m",
+    [MANY_LEGS] = "more than 500 legs, and a job takes 500",
+    [LONG_LEG] = "leg above 1000 m in plan, and a job takes 1000 m",
     [NO_SUCH_LOOP] = "no such loop",
     [NO_LOOP_AT_ALL] = "no leg closes a loop",
-    [SEVERAL_LOOPS] = "several loops; choose one with --loop N",
+    [SEVERAL_LOOPS] = "several loops; choose one by --loop N",
 };
 
 bool refuse_level(levelling *l, reason why) {
@@ -80,7 +80,7 @@ void say_refusal(levelling *l, growing *said) {
         return;
     }
     add(said, "%s: %s", l->s->files[0].name, SENTENCES[why]);
-    if (why == NO_SUCH_LOOP) add(said, ": there are %zu", l->loop_count);
+    if (why == NO_SUCH_LOOP) add(said, ": it has %zu", l->loop_count);
     add(said, "\n");
     if (why == SEVERAL_LOOPS) list_loops(l, said);
 }
@@ -92,14 +92,15 @@ bool is_steep(const struct survey_leg *leg) { return fabs(leg->slope) > 1e-9; }
 void say_steep(const levelling *l, growing *said) {
     size_t steep = 0;
     for (size_t j = 0; j < l->walked.count; j++) steep += is_steep(&l->s->legs[l->walked.steps[j].leg]);
-    if (steep > 0) add(said, "%s: steep legs, written with their plan length: %zu\n", l->s->files[0].name, steep);
+    if (steep > 0)
+        add(said, "%s: legs that are not level, written with their plan length: %zu\n", l->s->files[0].name, steep);
 }
 
 static void say_backwards(const levelling *l, growing *said) {
     size_t backwards = 0;
     for (size_t j = 0; j < l->walked.count; j++) backwards += l->walked.steps[j].backwards;
     if (backwards > 0)
-        add(said, "%s: legs walked backwards, with their bearing reversed: %zu\n", l->s->files[0].name, backwards);
+        add(said, "%s: legs walked backwards, turned by half a circle: %zu\n", l->s->files[0].name, backwards);
 }
 
 /* The first legs that are on no step, by file and line. */
@@ -123,7 +124,8 @@ static void say_left_out(const levelling *l, growing *said) {
 /* Fixed points close loops that have no legs between them. */
 static void say_fixes(const levelling *l, growing *said) {
     if (l->s->fix_count > 1) {
-        add(said, "%s: %zu fixed points: loops between them are not written; jabulghi check judges them\n",
+        add(said,
+            "%s: %zu fixed points: loops between them have no legs, and are not written; jabulghi check judges them\n",
             l->s->files[0].name, l->s->fix_count);
     }
 }
@@ -169,11 +171,11 @@ void say_names(const levelling *l, growing *said) {
 }
 
 void say_notes(const levelling *l, growing *said) {
-    add(said, "jabulghi: level is not proved: compare its output with your survey\n");
+    add(said, "jabulghi: level is not proved: compare what it writes with your survey\n");
     say_steep(l, said);
     say_backwards(l, said);
     say_left_out(l, said);
     say_fixes(l, said);
-    if (!l->walked.is_loop) add(said, "%s: no loop: all legs are written in their order\n", l->s->files[0].name);
+    if (!l->walked.is_loop) add(said, "%s: no loop: all legs are written as they stand\n", l->s->files[0].name);
     say_names(l, said);
 }

@@ -75,14 +75,14 @@ static int take(int count, char **words, const option asked[ASKED], survey *s) {
     return asked[LOOP].value == NULL ? take_whole(source, asked[SVX].value == NULL, s) : take_survey(source, wanted, s);
 }
 
-/* Reports seeds that were drawn, since a listing does not hold them. */
+/* What is drawn is told where the output has no place for it. */
 static void tell_seeds(const option asked[ASKED], const playing *p) {
     const uint32_t *n = p->seeds;
     if (asked[SEEDS].value == NULL && asked[SVX].value == NULL && p->s.about != JOB)
         note(SEEDS_DRAWN, n[0], n[1], n[2], n[3], n[4], n[5]);
 }
 
-/* Notes a whole traverse that is not a loop. */
+/* Where all shots of a traverse are played, what is no loop is noted. */
 static void note_loop(const option asked[ASKED], const playing *p) {
     static traverse t;
     if (p->shots > MOST_SHOTS || p->s.read != NULL || asked[FROM].value != NULL) return;

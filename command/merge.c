@@ -35,8 +35,8 @@ static int follows(const part *before, const part *next) {
            memcmp(&before->more, &next->more, sizeof next->more) == 0;
     uint64_t end = before->runs.first + before->runs.runs;
     if (!same) return wrong(OTHER_PART, next->job.name, before->job.name), REFUSED;
-    if (end > next->runs.first) return wrong(SAME_PLAYS, next->job.name, before->job.name), REFUSED;
-    if (end < next->runs.first) return wrong(MISSING_PLAYS, end, next->runs.first - 1), REFUSED;
+    if (end > next->runs.first) return wrong(SAME_RUNS, next->job.name, before->job.name), REFUSED;
+    if (end < next->runs.first) return wrong(MISSING_RUNS, end, next->runs.first - 1), REFUSED;
     return DONE;
 }
 

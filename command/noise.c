@@ -36,7 +36,7 @@ static int start(const uint32_t n[6], uint64_t skip, run *r) {
     return number == JABULGHI_OK ? DONE : refuse_option("--skip", number);
 }
 
-/* The given seeds, or drawn ones, which are reported. */
+/* The seeds that are given, or some that are drawn, and told. */
 static int seeds_or_some(const option *given, uint32_t n[6]) {
     if (given->value != NULL) return seeds_of(given, n);
     int status = draw_seeds(n);

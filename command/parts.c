@@ -1,4 +1,4 @@
-/* Reads a part that --json wrote, in exactly the form that it writes. */
+/* Reads a part that --json wrote. A text that was written in any other way is no part. */
 #include "tolerance.h"
 #include <errno.h>
 #include <stdlib.h>

@@ -16,13 +16,13 @@ uint32_t play_some_runs(void *context, uint64_t start, size_t runs) {
 
 int room_for_runs(task *t) {
     t->misses = malloc((size_t)t->runs * sizeof t->misses[0]);
-    return t->misses == NULL ? trouble("--plays", strerror(ENOMEM)) : DONE;
+    return t->misses == NULL ? trouble("--runs", strerror(ENOMEM)) : DONE;
 }
 
 int play_all(task *t) {
     int status = room_for_runs(t);
     if (status != DONE) return status;
     labour work = {play_some_runs, t, t->runs, STRETCH, t->jobs};
-    uint32_t number = by_threads(&work, "plays");
+    uint32_t number = by_threads(&work, "runs");
     return number == JABULGHI_OK ? DONE : refuse_option("--first", number);
 }

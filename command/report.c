@@ -35,16 +35,16 @@ static void describe(const task *t, const tally *kept, growing *to) {
     if (more) add(to, ", %g mm of stations, %g degrees of the clino", t->s.station, t->s.clino);
     add(to, "\n%s\n", sentence(more ? MODELLED_MORE : MODELLED));
     add(to, SEEDS_LINE "\n", n[0], n[1], n[2], n[3], n[4], n[5]);
-    add(to, "%" PRIu64 " plays, from play %" PRIu64 " on\n", kept->runs, kept->first);
+    add(to, "%" PRIu64 " runs, from run %" PRIu64 " on\n", kept->runs, kept->first);
     add(to, "miss without noise: east %" PRId64 ", north %" PRId64 ", distance %.0f mm\n\n", t->own[0], t->own[1],
         hypot((double)t->own[0], (double)t->own[1]));
 }
 
-/* Each figure of the plays with the formula's beside it. */
+/* Each figure of the runs with the closed form's beside it. */
 static void tabulate(const task *t, const tally *kept, growing *to) {
     closed_form closed = closed_form_of(t);
-    add(to, "noise in mm            east               north            distance   (formula: errors added up)\n");
-    add(to, "             plays   formula     plays   formula     plays   formula\nrms     ");
+    add(to, "noise in mm            east               north            distance   (closed: the closed form)\n");
+    add(to, "              runs    closed      runs    closed      runs    closed\nrms     ");
     for (int j = 0; j < MEASURES; j++) add(to, "%10.1f%10.1f", rms_of(kept, j), closed.rms[j]);
     for (int row = 0; row < QUANTILES; row++) {
         add(to, "\n%4.4g %%  ", THOUSANDTHS[row] / 10.0);
@@ -76,7 +76,7 @@ static double bearing_of(vector v) {
     return degrees < -0.5 ? degrees + 360 : fabs(degrees);
 }
 
-/* How the miss compares with the plays, by their ellipse. */
+/* What the runs say of the miss, by their ellipse. */
 static void judge(const task *t, const tally *kept, const ellipse *e, growing *to) {
     char beyond[32], farther[32];
     double distance = hypot(t->miss.east, t->miss.north);

@@ -74,9 +74,9 @@ static bool keep_origins(const levelling *l, survey *s) {
     return s->origins != NULL;
 }
 
-static const char NOT_PROVED[] = "jabulghi: the way this survey is read is not proved\n";
+static const char NOT_PROVED[] = "jabulghi: level, which reads the survey, is not proved\n";
 
-/* The shots of the legs that were found, with the notes on them. */
+/* The shots of legs that were found, and what is said of them. */
 static int take_walk(const levelling *l, growing *said, survey *s) {
     growing shots = {NULL, 0, 0, false};
     put_shots(l, &shots);
@@ -206,7 +206,7 @@ void free_shots(survey *s) {
     survey_free(s->read);
 }
 
-/* Whether a line of a Survex text is more than blanks and a comment. */
+/* Whether a line of a Survex text has something besides blanks and a comment. */
 bool says_something(const uint8_t *at, const uint8_t *end) {
     while (at < end && (*at == ' ' || *at == '\t')) at++;
     return at < end && *at != ';' && *at != '\n';

@@ -104,7 +104,7 @@ static void draw_histogram(const task *t, const tally *kept, growing *to) {
             right - left - 0.5, p.bottom - upper);
     }
     add_marks(kept, &p, miss, far_off, to);
-    add_axes(to, &p, "distance of the noise, mm", "percent of the plays");
+    add_axes(to, &p, "distance of the noise, mm", "percent of the runs");
 }
 
 /* Where the runs are known one by one, some of them, evenly chosen. */

@@ -102,7 +102,7 @@ int system_random(uint32_t numbers[6]) {
 
 const char SYSTEM_END_OF_INPUT[] = "Ctrl-D";
 
-/* A write to a closed pipe, or beyond a limit on files, fails and is reported like any other. */
+/* A write to a closed pipe, or beyond a limit on files, fails, and is told as any other. */
 void system_start(void) {
     signal(SIGPIPE, SIG_IGN);
     signal(SIGXFSZ, SIG_IGN);

@@ -12,7 +12,7 @@ static int named_text(int count, char **words, text *read) {
     return read_named(count, words, read);
 }
 
-/* Notes on standard error a listing that is not a loop. */
+/* Notes on standard error where the rows of a listing are no loop. */
 static void note_loop(const text *t) {
     traverse read;
     read_shots(t->bytes, t->length, true, &read);

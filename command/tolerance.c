@@ -4,10 +4,10 @@
 #include <stdlib.h>
 #include <string.h>
 
-/* Options that mean nothing together with --merge. */
+/* Options that say nothing where runs are merged. */
 static int alone(const option asked[TOLERANCE_ASKED]) {
-    static const int OTHERS[] = {TOLERANCE_SIGMA, TOLERANCE_SEEDS,   TOLERANCE_PLAYS, TOLERANCE_FIRST, TOLERANCE_RUN,
-                                 TOLERANCE_MISS,  TOLERANCE_THREADS, TOLERANCE_LOOP,  TOLERANCE_CSV};
+    static const int OTHERS[] = {TOLERANCE_SIGMA, TOLERANCE_SEEDS,   TOLERANCE_RUNS, TOLERANCE_FIRST, TOLERANCE_RUN,
+                                 TOLERANCE_MISS,  TOLERANCE_THREADS, TOLERANCE_LOOP, TOLERANCE_CSV};
     for (size_t j = 0; j < sizeof OTHERS / sizeof OTHERS[0]; j++) {
         if (asked[OTHERS[j]].value != NULL) return wrong(NOT_MERGED, asked[OTHERS[j]].name);
     }

@@ -7,7 +7,7 @@
 /* More runs are refused: each takes 16 bytes. */
 #define MOST_RUNS 10000000
 
-/* The quantiles that are printed, in thousandths of the plays. */
+/* The figures that are told, in thousandths of the runs. */
 #define QUANTILES 5
 extern const unsigned THOUSANDTHS[QUANTILES];
 
@@ -65,8 +65,8 @@ typedef struct {
     double rms[MEASURES], within[MEASURES][QUANTILES];
 } closed_form;
 
-/* One leg whose correction would bring the miss within the noise; remains is the share of blunder-free
- * surveys that miss by what is left. */
+/* One leg whose correction would bring the miss within the noise; remains is the share of sound surveys that would then
+ * miss by as much. */
 typedef struct {
     size_t leg;
     bool bearing;
@@ -77,7 +77,6 @@ typedef struct {
 enum {
     TOLERANCE_SIGMA,
     TOLERANCE_SEEDS,
-    TOLERANCE_PLAYS,
     TOLERANCE_RUNS,
     TOLERANCE_FIRST,
     TOLERANCE_RUN,
@@ -138,7 +137,7 @@ uint64_t width_for(const closed_form *closed);
 bool is_near_limit(const candidate *c);
 size_t candidates_of(const task *t, const ellipse *e, candidate found[2 * MOST_SHOTS]);
 
-/* A miss that noise alone causes in fewer than 5 % of plays is doubtful, below 0.1 % likely a blunder. */
+/* Below 5 % of sound surveys a miss is worth a look, below 0.1 % it is likely a blunder. */
 enum { DOUBTFUL = 50, UNLIKELY = 1 };
 
 /* report.c: for a person; and whether a share of the runs is below a limit in thousandths, the judged miss being

@@ -4,8 +4,7 @@
 #include <string.h>
 
 static int either(const option asked[TOLERANCE_ASKED]) {
-    static const int BOTH[][2] = {{TOLERANCE_CSV, TOLERANCE_JSON},  {TOLERANCE_PLAYS, TOLERANCE_RUNS},
-                                  {TOLERANCE_RUN, TOLERANCE_PLAYS}, {TOLERANCE_RUN, TOLERANCE_RUNS},
+    static const int BOTH[][2] = {{TOLERANCE_CSV, TOLERANCE_JSON},  {TOLERANCE_RUN, TOLERANCE_RUNS},
                                   {TOLERANCE_RUN, TOLERANCE_FIRST}, {TOLERANCE_RUN, TOLERANCE_CSV},
                                   {TOLERANCE_RUN, TOLERANCE_JSON},  {TOLERANCE_RUN, TOLERANCE_SVG}};
     for (size_t j = 0; j < sizeof BOTH / sizeof BOTH[0]; j++) {
@@ -15,18 +14,15 @@ static int either(const option asked[TOLERANCE_ASKED]) {
     return DONE;
 }
 
-/* --runs is another name of --plays. */
 int options_of_tolerance(int *count, char **words, option asked[TOLERANCE_ASKED]) {
     static const option OPTIONS[TOLERANCE_ASKED] = {
-        {"--sigma", false, NULL}, {"--seeds", false, NULL}, {"--plays", false, NULL}, {"--runs", false, NULL},
-        {"--first", false, NULL}, {"--run", false, NULL},   {"--miss", false, NULL},  {"--jobs", false, NULL},
-        {"--loop", false, NULL},  {"--csv", true, NULL},    {"--json", true, NULL},   {"--svg", false, NULL},
-        {"--merge", true, NULL},  {"-o", false, NULL}};
+        {"--sigma", false, NULL}, {"--seeds", false, NULL}, {"--runs", false, NULL}, {"--first", false, NULL},
+        {"--run", false, NULL},   {"--miss", false, NULL},  {"--jobs", false, NULL}, {"--loop", false, NULL},
+        {"--csv", true, NULL},    {"--json", true, NULL},   {"--svg", false, NULL},  {"--merge", true, NULL},
+        {"-o", false, NULL}};
     memcpy(asked, OPTIONS, sizeof OPTIONS);
     int status = read_options(count, words, asked, TOLERANCE_ASKED);
-    if (status == DONE) status = either(asked);
-    if (asked[TOLERANCE_RUNS].value != NULL) asked[TOLERANCE_PLAYS] = asked[TOLERANCE_RUNS];
-    return status;
+    return status == DONE ? either(asked) : status;
 }
 
 int numbers_of_tolerance(const option asked[TOLERANCE_ASKED], task *t) {
@@ -34,12 +30,12 @@ int numbers_of_tolerance(const option asked[TOLERANCE_ASKED], task *t) {
     t->runs = asked[TOLERANCE_RUN].value == NULL ? 10000 : 1;
     t->jobs = system_processors();
     t->loop = ANY_LOOP;
-    int status = number_of(&asked[TOLERANCE_PLAYS], MOST_RUNS, &t->runs);
+    int status = number_of(&asked[TOLERANCE_RUNS], MOST_RUNS, &t->runs);
     if (status == DONE) status = number_of(&asked[TOLERANCE_FIRST], UINT64_MAX, &t->first);
     if (status == DONE) status = number_of(&asked[TOLERANCE_RUN], UINT64_MAX, &t->first);
     if (status == DONE) status = number_of(&asked[TOLERANCE_THREADS], 256, &t->jobs);
     if (status == DONE && asked[TOLERANCE_MISS].value != NULL) status = miss_of(&asked[TOLERANCE_MISS], miss);
-    if (status == DONE && t->runs == 0) status = wrong(NO_PLAYS, asked[TOLERANCE_PLAYS].name);
+    if (status == DONE && t->runs == 0) status = wrong(NO_RUN);
     if (status == DONE && t->jobs == 0) status = wrong(NO_JOBS);
     if (status == DONE) status = number_of(&asked[TOLERANCE_LOOP], ANY_LOOP - 1, &t->loop);
     t->given = asked[TOLERANCE_MISS].value != NULL;

@@ -39,7 +39,7 @@ typedef struct {
 } survey;
 
 /* Which loop of an ordinary survey is meant, by its number or ANY_LOOP for its only one; whether there has to be one;
- * whether new names are reported. */
+ * whether new names are told. */
 typedef struct {
     uint64_t number;
     bool needed, renamed;

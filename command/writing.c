@@ -93,7 +93,7 @@ int finish(int status) {
     return status == DONE && unsound ? REFUSED : status;
 }
 
-/* Writes another file, whole or not at all. */
+/* Writes a file besides the output, whole or not at all. */
 int put_file(const char *name, const void *bytes, size_t length) {
     destination elsewhere = output;
     output = (destination){name, NULL, -1, false};

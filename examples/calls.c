@@ -1,6 +1,6 @@
-/* Every call of jabulghi.h once, as a maker uses it. Each returns 0 or the code of a refusal. A device that checks only
- * the first one misses little: once a record is accepted, it is refused only for its count, its request or a call's own
- * arguments.
+/* Every call of jabulghi.h once, as a maker uses it. Each returns a number, 0 when accepted; a device that checks none
+ * but the first misses little, since a record that was accepted is refused later for its count, its note or a call's
+ * own arguments alone.
  *
  *   cc calls.c $(pkg-config --cflags --libs jabulghi) -o calls
  */

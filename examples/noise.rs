@@ -1,6 +1,6 @@
 // Eight readings of one shot of 12.345 m with a sigma of 4 mm.
 //
-//   rustc --edition 2021 -O noise.rs -L "$(pkg-config --variable=libdir jabulghi)" -l static=jabulghi -o noise
+//   rustc --edition 2021 -O noise.rs $(pkg-config --libs jabulghi) -o noise
 #[repr(C)]
 #[derive(Default)]
 struct Record {

@@ -1,11 +1,11 @@
-// jabulghi.h for C++11 and later: classes for what you keep, results without exceptions, std::span from C++20 on. Link libjabulghi.
+// The calls of jabulghi.h from C++11 on: classes for what the caller keeps, an answer without exceptions, and std::span from C++20 on. Link libjabulghi.
 //
 //     jabulghi::result<jabulghi::generator> rig = jabulghi::generator::seed(3770694558, 3532774216, 2901327257, 4093209576, 2137023497, 2889436789);
-//     if (!rig) return rig.code(); // rig.words() says why
+//     if (!rig) return rig.number(); // rig.words() says why
 //     std::int16_t samples[1000];
 //     rig->block(samples, 1000); // each s is s / 2048 standard deviations
 //
-// Each call does what jabulghi.h says. Nothing is allocated or thrown.
+// Each call does what jabulghi.h says of it; a pointer and a length are passed on as they are. Nothing is allocated or thrown.
 #ifndef JABULGHI_HPP
 #define JABULGHI_HPP
 
@@ -22,22 +22,21 @@
 
 namespace jabulghi {
 
-/// What a call returned: true if it was accepted; else the refusal's code, its words and, for a text, the bad line or 0.
+/// What a call returned: 0 where it was accepted, else the number of the refusal; for a text the bad line, or 0.
 class status {
 public:
-    explicit status(std::uint32_t code, std::size_t line = 0) noexcept : code_(code), line_(line) {}
-    explicit operator bool() const noexcept { return code_ == JABULGHI_OK; }
-    std::uint32_t code() const noexcept { return code_; }
-    std::uint32_t number() const noexcept { return code_; } ///< Another name of code().
+    explicit status(std::uint32_t number, std::size_t line = 0) noexcept : number_(number), line_(line) {}
+    explicit operator bool() const noexcept { return number_ == JABULGHI_OK; }
+    std::uint32_t number() const noexcept { return number_; }
     std::size_t line() const noexcept { return line_; }
-    const char *words() const noexcept { return jabulghi::words(code_); }
+    const char *words() const noexcept { return jabulghi::words(number_); }
 
 private:
-    std::uint32_t code_;
+    std::uint32_t number_;
     std::size_t line_;
 };
 
-/// A status with a value; after a refusal the value is what the call wrote.
+/// A status with a value. The value is there after a refusal too: what the call wrote.
 template <class T> class result : public status {
 public:
     result(status is, const T &value) noexcept : status(is), value_(value) {}
@@ -54,7 +53,7 @@ template <class T> struct pair_of { T first, second; };
 typedef pair_of<std::int16_t> pair16;
 typedef pair_of<std::int32_t> pair32;
 
-/// A generator; you can save its record and restore it.
+/// A generator. Its record can be kept and put back.
 class generator {
 public:
     generator() noexcept : record() {}
@@ -93,7 +92,7 @@ private:
     }
 };
 
-/// The sum and the sum of squares of the latest samples.
+/// The sums of the latest samples.
 class window {
 public:
     window() noexcept : kept() {}
@@ -106,7 +105,7 @@ public:
     jabulghi_window kept;
 };
 
-/// Up to 16 saved generators, by name.
+/// Up to 16 places of generators, under names.
 class marks {
 public:
     marks() noexcept : kept() {}
@@ -137,37 +136,37 @@ inline result<pair32> sample18(std::uint64_t k, std::uint32_t v) noexcept {
 inline result<std::size_t> list(const std::uint8_t *job, std::size_t job_length, std::uint8_t *listing, std::size_t listing_length) noexcept {
     std::uint32_t line = 0;
     std::size_t length = 0;
-    std::uint32_t code = jabulghi_list(job, job_length, listing, listing_length, &line, &length);
-    return result<std::size_t>(status(code, line), length);
+    std::uint32_t number = jabulghi_list(job, job_length, listing, listing_length, &line, &length);
+    return result<std::size_t>(status(number, line), length);
 }
 
 /// The shot lines of a Survex text's level legs; the value is their length.
 inline result<std::size_t> legs(const std::uint8_t *survey, std::size_t survey_length, std::uint8_t *shots, std::size_t shots_length) noexcept {
     std::size_t line = 0, length = 0;
-    std::uint32_t code = jabulghi_legs(survey, survey_length, shots, shots_length, &line, &length);
-    return result<std::size_t>(status(code, line), length);
+    std::uint32_t number = jabulghi_legs(survey, survey_length, shots, shots_length, &line, &length);
+    return result<std::size_t>(status(number, line), length);
 }
 
-/// How far a loop misses, east and north: in mm times 2^30 and in mm.
+/// How far a loop misses: sums at 2^30 and millimetres, east and north.
 struct miss { std::int64_t sums[2], millimetres[2]; };
 inline result<miss> misclosure(const std::uint8_t *listing, std::size_t length) noexcept {
     miss found = {};
-    std::uint32_t line = 0, code = jabulghi_misclosure(listing, length, found.sums, found.millimetres, &line);
-    return result<miss>(status(code, line), found);
+    std::uint32_t line = 0, number = jabulghi_misclosure(listing, length, found.sums, found.millimetres, &line);
+    return result<miss>(status(number, line), found);
 }
 
-/// The same for distances between two readings: east low, east high, north low, north high.
+/// The same between two readings: east low, east high, north low, north high.
 struct misses { std::int64_t sums[4], millimetres[4]; };
 inline result<misses> intervals(const std::uint8_t *listing, std::size_t length) noexcept {
     misses found = {};
-    std::uint32_t line = 0, code = jabulghi_intervals(listing, length, found.sums, found.millimetres, &line);
-    return result<misses>(status(code, line), found);
+    std::uint32_t line = 0, number = jabulghi_intervals(listing, length, found.sums, found.millimetres, &line);
+    return result<misses>(status(number, line), found);
 }
 
-/// How far a job's loop misses in each play, from play `first` on: east and north in mm.
-inline status play(const std::uint8_t *job, std::size_t job_length, std::uint64_t first, std::int64_t (*found)[2], std::size_t plays) noexcept {
-    std::uint32_t line = 0, code = jabulghi_play(job, job_length, first, found, plays, &line);
-    return status(code, line);
+/// How far a job's loop misses in each play from the first on: east and north in millimetres.
+inline status play(const std::uint8_t *job, std::size_t job_length, std::uint64_t first, std::int64_t (*found)[2], std::size_t runs) noexcept {
+    std::uint32_t line = 0, number = jabulghi_play(job, job_length, first, found, runs, &line);
+    return status(number, line);
 }
 
 #ifdef JABULGHI_HAS_SPAN

@@ -30,18 +30,14 @@ static double likelihood(const struct case_of *c, double gain) {
     return (gain - c->cave->best_gain) / 2 / c->cave->excess;
 }
 
-/* How usual a length is in this cave, by the legs besides this one that are about as long; no length is impossible. */
-#define NEVER_SEEN 0.1
-static double usual(const struct case_of *c, double length) {
-    return ((double)judge_alike(c->cave, judge_leg_length(c->leg), length) + NEVER_SEEN) / length;
-}
-
-/* How much likelier a length is than the leg's own: at most ten times, and at least a tenth. */
+/* How much likelier a length is in this cave than the leg's own, by the lengths of all legs: at most ten times, and at
+ * least a tenth. */
 #define MOST_LIKELIER 10.0
 static double likelier(const struct case_of *c, double length) {
-    double own = judge_leg_length(c->leg);
+    double mean = c->cave->usual_length, sd = c->cave->spread_of_lengths, own = judge_leg_length(c->leg);
     if (!(own > 0) || !(length > 0)) return own > 0 ? 1 / MOST_LIKELIER : 1;
-    return fmin(fmax(usual(c, length) / usual(c, own), 1 / MOST_LIKELIER), MOST_LIKELIER);
+    double was = (log(own) - mean) / sd, is = (log(length) - mean) / sd;
+    return fmin(fmax(own / length * exp((was * was - is * is) / 2), 1 / MOST_LIKELIER), MOST_LIKELIER);
 }
 
 static double length_of(const double end[3]) { return sqrt(end[0] * end[0] + end[1] * end[1] + end[2] * end[2]); }
@@ -84,7 +80,7 @@ static double times_as_written(const struct survey_reading *r, double by) {
 }
 
 static void explain_distances(const struct case_of *c) {
-    static const struct { double by, weight; } METRES[] = {{1, 6}, {2, 1}, {5, 2}, {10, 3}};
+    static const struct { double by, weight; } METRES[] = {{1, 3}, {2, 1}, {5, 2}, {10, 3}};
     static const double DECIMALS[] = {10, 0.1}, FEET[] = {0.3048, 1 / 0.3048};
     struct judge_explanation e = {0};
     double likely;
@@ -111,7 +107,7 @@ static struct judge_vector turned(const struct case_of *c, double degrees) {
 }
 
 static void explain_bearings(const struct case_of *c) {
-    static const struct { double by, weight; } DEGREES[] = {{5, 1}, {10, 10}, {20, 1}, {90, 1}, {100, 2}};
+    static const struct { double by, weight; } DEGREES[] = {{5, 2}, {10, 4}, {20, 1}, {90, 1}, {100, 2}};
     struct judge_explanation e = {.blunder = JUDGE_BEARING};
     for (size_t j = 0; j < 2 * sizeof DEGREES / sizeof DEGREES[0]; j++) {
         e.correction = j % 2 == 0 ? DEGREES[j / 2].by : -DEGREES[j / 2].by;
@@ -171,7 +167,7 @@ static void explain_exchanges(const struct case_of *c, size_t reading) {
         strcpy(other, text);
         other[at] = text[next];
         other[next] = text[at];
-        offer_reading(c, reading, other, JUDGE_EXCHANGED, 0.5);
+        offer_reading(c, reading, other, JUDGE_EXCHANGED, 1);
     }
 }
 
@@ -185,7 +181,7 @@ static void explain_misreadings(const struct case_of *c, size_t reading) {
             char other[sizeof(((struct judge_explanation *)0)->should_be)];
             strcpy(other, text);
             other[at] = ALIKE[j / 2][1 - j % 2];
-            offer_reading(c, reading, other, JUDGE_MISREAD, 0.15);
+            offer_reading(c, reading, other, JUDGE_MISREAD, 0.3);
         }
     }
 }
@@ -215,7 +211,7 @@ static void explain_any_distance(const struct case_of *c) {
     double density = MIDDLE_DISTANCE / ((MIDDLE_DISTANCE + fabs(by)) * (MIDDLE_DISTANCE + fabs(by))) / 2;
     e.gain = judge_gain(c->pull, c->hold, e.move);
     double likely = likelier(c, judge_leg_length(c->leg) * (length + by) / length);
-    e.mass = log(2 * likely * density * sqrt(TURN * c->cave->excess / hold)) + likelihood(c, e.gain);
+    e.mass = log(4 * likely * density * sqrt(TURN * c->cave->excess / hold)) + likelihood(c, e.gain);
     c->take(c->to, &e);
 }
 
@@ -231,7 +227,7 @@ static void explain_any_bearing(const struct case_of *c) {
         if (gains[j] > e.gain) e.gain = gains[j], e.correction = j - 179;
     }
     for (int j = 0; j < 360; j++) sum += exp(likelihood(c, gains[j]) - likelihood(c, e.gain));
-    e.mass = log(3.0 / 360 * sum) + likelihood(c, e.gain);
+    e.mass = log(6.0 / 360 * sum) + likelihood(c, e.gain);
     for (int j = 0; j < 10; j++, step /= 2) {
         double middle = e.correction;
         for (int side = -1; side <= 1; side += 2) {

@@ -17,8 +17,7 @@ struct judge_graph {
 bool judge_cycles(const struct judge_graph *g, size_t count, struct judge_loop *loops, struct judge_part **parts);
 
 /* model.c: the error that a reading has, JUDGE_ERRORS where *sd alone gives it; the standard deviation of that and the
- * width of its rounding; vectors and covariances of all edges; how long a leg is, in metres; how many legs besides one
- * of a length are about as long as another length. */
+ * width of its rounding; vectors and covariances of all edges; how long a leg is, in metres. */
 enum judge_error judge_error_of(enum survey_quantity what);
 double judge_sd_of(const struct judge_cave *cave, const struct survey_reading *r);
 double judge_plumb_sd_of(const struct judge_cave *cave, const struct survey_leg *leg);
@@ -27,7 +26,6 @@ bool judge_is_played(const struct survey_reading *r);
 bool judge_is_compass(const struct survey_reading *r);
 bool judge_model(struct judge_cave *cave);
 double judge_leg_length(const struct survey_leg *leg);
-size_t judge_alike(const struct judge_cave *cave, double own, double length);
 
 /* solver.c: the misses of vectors of passages; u for misses; g of a passage for any u; a covariance of all misses with
  * other station errors; t for any u. */

@@ -1,6 +1,6 @@
 /* Judges a cave in plan: whether its loops close as well as its instruments allow, and which legs explain it best where
- * they do not. docs/use/check.md has the formulas. No input or output and no state of its own. Nothing of it is proved
- * but the noise that it plays with. */
+ * they do not. docs/check.md has the formulas. No input or output and no state of its own. Nothing of it is proved but
+ * the noise that it plays with. */
 #ifndef JUDGE_H
 #define JUDGE_H
 
@@ -71,7 +71,7 @@ struct judge_loop {
     struct judge_vector miss;
     struct judge_spread own; /* the inverse of its own covariance */
     double reach;            /* q: the square of the miss in standard deviations */
-    double p;                /* chance that noise alone misses this much */
+    double p;                /* sound loops that miss by as much */
     bool bad, too_well;
 };
 
@@ -100,13 +100,12 @@ struct judge_cave {
     double statistic; /* t */
     double best_gain; /* of all moves of one passage */
     double excess;    /* k: by how much variances seem too small where the best explanation is left out, at least 1 */
-    size_t legs_in_no_loop, samples; /* samples: how many a play takes */
-    size_t most_readings;            /* that a leg has */
-    double *values;                  /* room for as many, where one thread works */
-    double *lengths;                 /* of all legs that have one, the shortest first */
-    size_t length_count;
-    struct judge_off *offs;    /* of all readings that are played, in their order */
-    size_t trip_count, *trips; /* the place of each trip of the survey among those with a leg in a loop */
+    size_t legs_in_no_loop, samples;        /* samples: how many a play takes */
+    size_t most_readings;                   /* that a leg has */
+    double *values;                         /* room for as many, where one thread works */
+    double usual_length, spread_of_lengths; /* mean and standard deviation of the logarithms of the legs' lengths */
+    struct judge_off *offs;                 /* of all readings that are played, in their order */
+    size_t trip_count, *trips;              /* the place of each trip of the survey among those with a leg in a loop */
 };
 
 /* What surveyors do wrong. */
@@ -140,8 +139,8 @@ struct judge_suspect {
     struct judge_explanation best;
     double mass;    /* the logarithm of that of all its explanations */
     double share;   /* of all explanations by one blunder */
-    double remains; /* share of plays that look as bad as the corrected cave */
-    size_t others;  /* how many other corrections explain the misses */
+    double remains; /* sound caves that look as bad as this one would, corrected */
+    size_t others;  /* how many other suspects, corrected, leave a sound cave */
 };
 
 /* A figure with its range. */

@@ -90,36 +90,21 @@ double judge_leg_length(const struct survey_leg *leg) {
     return sqrt(leg->east * leg->east + leg->north * leg->north + leg->up * leg->up);
 }
 
-static int rising(const void *a, const void *b) {
-    const double *one = a, *other = b;
-    return (*one > *other) - (*one < *other);
-}
+/* Legs of a cave differ in length at least as much as this, in the logarithm. */
+#define LEAST_SPREAD 0.3
 
-static bool note_lengths(struct judge_cave *cave) {
-    cave->lengths = malloc((cave->survey->leg_count + 1) * sizeof *cave->lengths);
-    if (cave->lengths == NULL) return false;
+static void measure_lengths(struct judge_cave *cave) {
+    double count = 0, sum = 0, squares = 0;
     for (size_t j = 0; j < cave->survey->leg_count; j++) {
         double length = judge_leg_length(&cave->survey->legs[j]);
-        if (length > 0) cave->lengths[cave->length_count++] = length;
+        if (!(length > 0)) continue;
+        count++;
+        sum += log(length);
+        squares += log(length) * log(length);
     }
-    qsort(cave->lengths, cave->length_count, sizeof cave->lengths[0], rising);
-    return true;
-}
-
-static size_t legs_below(const struct judge_cave *cave, double length) {
-    size_t low = 0, high = cave->length_count;
-    while (low < high) {
-        size_t middle = (low + high) / 2;
-        if (cave->lengths[middle] < length) low = middle + 1;
-        else high = middle;
-    }
-    return low;
-}
-
-/* Lengths are alike where one is at most twice the other; a billionth of a metre is left to rounding. */
-size_t judge_alike(const struct judge_cave *cave, double own, double length) {
-    double least = length / 2 - 1e-9, most = length * 2 + 1e-9;
-    return legs_below(cave, most) - legs_below(cave, least) - (own >= least && own < most);
+    cave->usual_length = count > 0 ? sum / count : 0;
+    cave->spread_of_lengths = sqrt(
+        fmax(count > 0 ? squares / count - cave->usual_length * cave->usual_length : 0, LEAST_SPREAD * LEAST_SPREAD));
 }
 
 bool judge_model(struct judge_cave *cave) {
@@ -128,7 +113,8 @@ bool judge_model(struct judge_cave *cave) {
             cave->most_readings = cave->survey->legs[j].reading_count;
     }
     cave->values = malloc((cave->most_readings + 1) * sizeof *cave->values);
-    if (cave->values == NULL || !note_lengths(cave)) return false;
+    if (cave->values == NULL) return false;
+    measure_lengths(cave);
     for (size_t j = 0; j < cave->edge_count; j++) {
         struct judge_edge *e = &cave->edges[j];
         if (e->kind == JUDGE_LEG) model_leg(cave, e);

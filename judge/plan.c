@@ -127,7 +127,7 @@ static void draw_scale(const struct places *p, double height, growing *to) {
     add(to, "<line x1=\"%d\" y1=\"%.1f\" x2=\"%.1f\" y2=\"%.1f\" stroke=\"black\" stroke-width=\"3\"/>\n", MARGIN,
         height - 24, MARGIN + metres * p->scale, height - 24);
     add(to,
-        "<text x=\"%d\" y=\"%.1f\">%g m; north is up; blue: in loops, orange: in bad loops, grey: in no loop, "
+        "<text x=\"%d\" y=\"%.1f\">%g m; north is up; blue: in loops, orange: in a loop that is bad, grey: in no loop, "
         "red: look here</text>\n",
         MARGIN, height - 34, metres);
 }
@@ -143,7 +143,7 @@ void judge_plan(const struct judge_cave *cave, const struct judge_verdict *v, gr
             "font-size=\"22\">\n",
             WIDTH, height);
         add(to, "<title>The cave in plan: %s</title>\n<rect width=\"%d\" height=\"%.0f\" fill=\"white\"/>\n",
-            v->sound ? "no sign of a blunder" : "look for a blunder", WIDTH, height);
+            v->sound ? "sound" : "not sound", WIDTH, height);
         draw_legs(cave, &p, to);
         draw_suspects(cave, v, &p, to);
         draw_scale(&p, height, to);

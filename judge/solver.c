@@ -279,7 +279,6 @@ void judge_free(struct judge_cave *cave) {
     free(cave->u);
     free(cave->trips);
     free(cave->values);
-    free(cave->lengths);
     free(cave->offs);
     free(cave);
 }

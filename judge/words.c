@@ -9,7 +9,7 @@
 /* At most so many suspects and bad loops are printed. */
 enum { MOST_SUSPECTS = 10, MOST_LOOPS = 5 };
 
-/* A smaller p is printed as below this. */
+/* Below this the share of sound loops is not told more exactly. */
 #define LEAST_P 0.001
 
 void judge_thousands(growing *to, uint64_t number) {
@@ -107,7 +107,7 @@ static void tell_errors(const struct judge_cave *cave, growing *to) {
     if (count_points(cave) > 0)
         add(to, ", fixed points %g m",
             cave->sigmas.given[JUDGE_POINT] ? cave->sigmas.of[JUDGE_POINT] : JUDGE_POINT_ERROR);
-    if (cave->sigmas.given[JUDGE_TRIP]) add(to, ", compass of a trip %.3g degrees", cave->sigmas.of[JUDGE_TRIP]);
+    if (cave->sigmas.given[JUDGE_TRIP]) add(to, ", a trip's compass %.3g degrees", cave->sigmas.of[JUDGE_TRIP]);
     if (alike)
         add(to, " (from %s%s)", judge_source(cave, JUDGE_TAPE),
             strcmp(judge_source(cave, JUDGE_TAPE), "--sigma") == 0 ? "" : "; --sigma replaces them");
@@ -133,18 +133,19 @@ static void tell_cave(const struct judge_cave *cave, const char *name, growing *
 /* ---- The whole cave */
 
 static void tell_verdict(const struct judge_verdict *v, growing *to) {
-    add(to, "The whole cave: noise alone makes the worst leg look this bad in ");
+    add(to, "The cave as a whole: in ");
     if (v->beyond == 0) add(to, "none");
     else judge_thousands(to, v->beyond);
     add(to, " of ");
-    counted(to, v->plays, "play", "plays");
-    add(to, ".\n");
+    judge_thousands(to, v->plays);
+    add(to, " sound caves like this %s as here.\n",
+        v->beyond == 0 ? "does the worst leg look as bad" : "the worst leg looks as bad");
     add(to, v->sound ? "That is no sign of a blunder.\n"
                      : "That is below 5 %%: there is a blunder, or these errors are too small.\n");
     if (v->too_well)
         add(to,
-            "The cave closes too well: noise alone closes it this well less than once in 1,000. These errors are too "
-            "large, or somebody adjusted the readings.\n");
+            "It closes better than all but 1 in 1,000 sound caves: these errors are too large, or the readings were "
+            "made to fit.\n");
 }
 
 /* ---- Suspects */
@@ -186,22 +187,18 @@ static void tell_readings(const struct survey_leg *leg, growing *to) {
 void judge_blunder_words(const struct judge_explanation *e, growing *to) {
     double by = e->correction, far = hypot(e->move.east, e->move.north);
     switch (e->blunder) {
-    case JUDGE_DISTANCE: add(to, "a length %g m too %s", fabs(by), by < 0 ? "long" : "short"); break;
-    case JUDGE_DECIMAL: add(to, "a decimal point one place too far %s", by > 1 ? "left" : "right"); break;
-    case JUDGE_FEET: add(to, "%s", by < 1 ? "feet written as metres" : "metres written as feet"); break;
-    case JUDGE_BEARING: add(to, "a bearing %g degrees too %s", fabs(by), by < 0 ? "large" : "small"); break;
-    case JUDGE_BACKWARDS: add(to, "a bearing read backwards (180 degrees off)"); break;
-    case JUDGE_EXCHANGED: add(to, "%s written for %s (digits swapped)", e->reading->text, e->should_be); break;
-    case JUDGE_MISREAD: add(to, "%s written for %s (a digit misread)", e->reading->text, e->should_be); break;
-    case JUDGE_ANY_DISTANCE: add(to, "a length %.2f m too %s", fabs(by), by < 0 ? "long" : "short"); break;
-    case JUDGE_ANY_BEARING: add(to, "a bearing %.1f degrees too %s", fabs(by), by < 0 ? "large" : "small"); break;
-    case JUDGE_LEFT_OUT: add(to, "a missing leg of %.2f m at %.0f degrees", far, judge_bearing(e->move)); break;
-    case JUDGE_EQUATED:
-        add(to, "a wrong equate of stations %.2f m apart at %.0f degrees", far, judge_bearing(e->move));
-        break;
-    case JUDGE_FIXED:
-        add(to, "a fixed point that belongs %.2f m away at %.0f degrees", far, judge_bearing(e->move));
-        break;
+    case JUDGE_DISTANCE: add(to, "%g m too %s", fabs(by), by < 0 ? "long" : "short"); break;
+    case JUDGE_DECIMAL: add(to, "the tape's point one place too far to the %s", by > 1 ? "left" : "right"); break;
+    case JUDGE_FEET: add(to, "%s", by < 1 ? "feet taken for metres" : "metres taken for feet"); break;
+    case JUDGE_BEARING: add(to, "the bearing %g degrees too %s", fabs(by), by < 0 ? "large" : "small"); break;
+    case JUDGE_BACKWARDS: add(to, "read backwards, or the bearing 180 degrees off"); break;
+    case JUDGE_EXCHANGED: add(to, "%s for %s (digits exchanged)", e->should_be, e->reading->text); break;
+    case JUDGE_MISREAD: add(to, "%s for %s (a digit misread)", e->should_be, e->reading->text); break;
+    case JUDGE_ANY_DISTANCE: add(to, "%.2f m too %s", fabs(by), by < 0 ? "long" : "short"); break;
+    case JUDGE_ANY_BEARING: add(to, "the bearing %.1f degrees too %s", fabs(by), by < 0 ? "large" : "small"); break;
+    case JUDGE_LEFT_OUT: add(to, "a leg left out, %.2f m at %.0f", far, judge_bearing(e->move)); break;
+    case JUDGE_EQUATED: add(to, "equated wrongly (%.2f m at %.0f from each other)", far, judge_bearing(e->move)); break;
+    case JUDGE_FIXED: add(to, "fixed wrongly by %.2f m at %.0f", far, judge_bearing(e->move)); break;
     }
 }
 
@@ -232,9 +229,9 @@ static void tell_suspect(const struct judge_cave *cave, const struct judge_verdi
     add(to, s->remains < JUDGE_LIMIT ? " would explain part of it.\n      " : " would explain it.\n      ");
     if (s->share < 0.995) percent(to, s->share);
     else add(to, "Over 99 %%");
-    add(to, " sure. Once corrected, noise alone looks as bad in ");
+    add(to, " sure. Corrected, ");
     percent(to, s->remains);
-    add(to, " of plays.");
+    add(to, " of sound caves look as bad.");
     if (letter != 0) add(to, " [%c]", letter);
     add(to, "\n");
 }
@@ -254,7 +251,7 @@ static void tell_passages(const struct judge_cave *cave, const struct judge_verd
         add(to, ", %s:%zu to %s:%zu.\n", cave->survey->files[from.file].name, from.line,
             cave->survey->files[till.file].name, till.line);
     }
-    if (told > 'A') add(to, "Loops cannot tell the legs of one passage apart; only the size of the blunder can.\n");
+    if (told > 'A') add(to, "No loop can tell the legs of one passage apart, only the size of the blunder can.\n");
 }
 
 static void tell_suspects(const struct judge_cave *cave, const struct judge_verdict *v, growing *to) {
@@ -267,13 +264,13 @@ static void tell_suspects(const struct judge_cave *cave, const struct judge_verd
     const struct judge_suspect *first = &v->suspects[0];
     if (first->remains < JUDGE_LIMIT) {
         add(to,
-            "Correcting the first is not enough: there are several blunders, or these errors are too small. Correct "
-            "what is certainly wrong, then check again.\n");
+            "Corrected, the first does not make the cave sound: there are several blunders, or these errors are too "
+            "small. Correct what is surely wrong, and check again.\n");
     } else if (first->others == 0) {
-        add(to, "No other single correction would explain the misses.\n");
+        add(to, "No other correction would make the cave sound.\n");
     } else {
         counted(to, first->others, "other correction", "other corrections");
-        add(to, " would explain the misses, too.\n");
+        add(to, " would make the cave sound, too.\n");
     }
 }
 
@@ -308,8 +305,8 @@ static size_t worst_loop(const struct judge_cave *cave, double below) {
 /* All loops, or the worst of those that are bad. */
 static void list_loops(const struct judge_cave *cave, const struct judge_verdict *v, bool all, growing *to) {
     size_t told = 0;
-    add(to, " loop  legs    length   misses     %%     east    north        p  (in m; p: chance that noise alone "
-            "misses this much)\n");
+    add(to,
+        " loop  legs    length   misses     %%     east    north        p  (m; p: sound loops that miss by as much)\n");
     for (size_t r = 0; all && r < cave->loop_count; r++) tell_loop(cave, r, to);
     if (all) return;
     for (size_t r = worst_loop(cave, INFINITY); r != JUDGE_NONE && told < MOST_LOOPS; told++) {
@@ -322,13 +319,13 @@ static void list_loops(const struct judge_cave *cave, const struct judge_verdict
 
 static void tell_loops(const struct judge_cave *cave, const struct judge_verdict *v, bool all, growing *to) {
     if (cave->loop_count == 1) {
-        add(to, "The loop is %s", v->bad_loops == 0 ? "good" : "bad");
+        add(to, "The loop is %s", v->bad_loops == 0 ? "sound" : "not sound");
     } else {
         add(to, "Loops: ");
         judge_thousands(to, cave->loop_count - v->bad_loops);
         add(to, " of ");
         judge_thousands(to, cave->loop_count);
-        add(to, " are good");
+        add(to, " are sound");
     }
     add(to, !all && v->bad_loops == 0 ? ".\n" : ":\n");
     if (all || v->bad_loops > 0) list_loops(cave, v, all, to);
@@ -338,8 +335,8 @@ static void tell_too_well(const struct judge_cave *cave, growing *to) {
     for (size_t r = 0; cave->loop_count > 1 && r < cave->loop_count; r++) {
         if (cave->loops[r].too_well)
             add(to,
-                "Loop %zu closes too well: noise alone closes it this well less than once in 1,000. That is chance, or "
-                "somebody adjusted its readings.\n",
+                "Loop %zu closes better than all but 1 in 1,000 sound loops: by chance, or its readings were made to "
+                "fit.\n",
                 r + 1);
     }
 }
@@ -350,15 +347,14 @@ static void tell_sigmas(const struct judge_cave *cave, const struct judge_verdic
     const struct judge_estimate *f = &v->factor, *s = &v->station;
     struct judge_range given = judge_range_of(cave, JUDGE_STATION);
     bool agrees = f->low <= 1 && f->high >= 1;
-    const char *many = cave->loop_count == 1 ? "" : "s", *verb = cave->loop_count == 1 ? "s" : "";
-    if (agrees) add(to, "Your loop%s fit%s these errors. Best fit: ", many, verb);
-    else add(to, "Your loop%s suggest%s %s errors: ", many, verb, f->value > 1 ? "larger" : "smaller");
-    if (agrees || s->value > 0) {
-        add(to, "stations %.0f mm (%.0f to %.0f)", 1000 * s->value, 1000 * s->low, 1000 * s->high);
-        if (!agrees) add(to, " instead of %.0f", 1000 * given.high);
-        add(to, ", or ");
-    }
-    add(to, "all errors times %.2f (%.2f to %.2f).", f->value, f->low, f->high);
+    add(to, "%s fit%s ", cave->loop_count == 1 ? "Your loop" : "Your loops", cave->loop_count == 1 ? "s" : "");
+    if (agrees) add(to, "these errors; best would be ");
+    if (agrees || s->value > 0)
+        add(to, "%.0f mm a station (%.0f to %.0f)", 1000 * s->value, 1000 * s->low, 1000 * s->high);
+    if (!agrees && s->value > 0) add(to, ", not %.0f", 1000 * given.high);
+    add(to, "%s times %.2f (%.2f to %.2f).",
+        agrees || s->value > 0 ? ", or all errors" : "smaller errors than these: all of them", f->value, f->low,
+        f->high);
     if (!v->sound && v->factor_without > 0) add(to, " Without the worst leg: times %.2f.", v->factor_without);
     add(to, "\n");
 }
@@ -390,11 +386,11 @@ static void tell_sizes(const struct judge_cave *cave, growing *to) {
         qsort(degrees, count, sizeof degrees[0], rising);
     }
     if (count > 0) {
-        add(to, "In half of the legs in loops a blunder of ");
+        add(to, "A blunder of ");
         add_size(metres[count / 2], degrees[count / 2], to);
-        add(to, " would show 4 times in 5; in 90 %% of them one of ");
+        add(to, " would show (4 times in 5) in half of the legs in loops, one of ");
         add_size(metres[count * 9 / 10], degrees[count * 9 / 10], to);
-        add(to, ".\n");
+        add(to, " in nine of ten.\n");
     }
     free(metres);
     free(degrees);
@@ -405,7 +401,8 @@ static void tell_unseen(const struct judge_cave *cave, growing *to) {
     judge_thousands(to, cave->legs_in_no_loop);
     add(to, " of ");
     counted(to, cave->survey->leg_count, "leg", "legs");
-    add(to, "%s in no loop and cannot be checked.\n", cave->legs_in_no_loop == 1 ? " is" : " are");
+    add(to, cave->legs_in_no_loop == 1 ? " is in no loop: nothing is known of it.\n"
+                                       : " are in no loop: nothing is known of them.\n");
 }
 
 void judge_words(const struct judge_cave *cave, const struct judge_verdict *v, const struct judge_told *told,
@@ -423,7 +420,7 @@ void judge_words(const struct judge_cave *cave, const struct judge_verdict *v, c
     tell_sigmas(cave, v, to);
     tell_unseen(cave, to);
     tell_sizes(cave, to);
-    add(to, "Plan only: heights are not checked. The noise is proved; the check is not.\n");
+    add(to, "Plan only: heights are not judged. The noise is proved, the check is not.\n");
     add(to,
         "(seeds (a %" PRIu32 " %" PRIu32 " %" PRIu32 ") (b %" PRIu32 " %" PRIu32 " %" PRIu32 ")), plays %" PRIu64
         " to %" PRIu64 "\n",

@@ -1,4 +1,4 @@
-/* The verdict for a program; docs/use/check.md has its members. */
+/* The verdict for a program; docs/check.md has its members. */
 #include "words.h"
 #include <inttypes.h>
 #include <stdlib.h>

@@ -1,6 +1,6 @@
 # shellcheck shell=sh
-# install.sh install | uninstall: copies bin, include, lib and share, which are beside this script, to PREFIX (/usr/local), or removes them there. LIBDIR (lib) and
-# MANDIR (share/man) are below PREFIX unless they begin with a slash. DESTDIR comes before every name, for packagers.
+# install.sh install | uninstall: copies bin, include, lib and share, which are beside this script, below PREFIX (/usr/local), or removes them there.
+# LIBDIR (lib) and MANDIR (share/man) are below PREFIX where they do not begin with a slash. DESTDIR comes before every name, for packagers.
 set -eu
 from=$(dirname "$0")
 under() { case $2 in /*) printf %s "$2" ;; *) printf %s "$1/$2" ;; esac; }
@@ -22,18 +22,18 @@ place() {
 escaped() { quoted "$(printf %s "$1" | sed 's/[^A-Za-z0-9/._+,:@%-]/\\&/g')"; }
 quoted() { printf %s "$1" | sed 's/[\\|&]/\\&/g'; }
 
-# searched: whether the system looks for shared libraries in LIBDIR; elsewhere programs carry its name, which has no comma then.
+# searched: whether programs find a shared library in LIBDIR by themselves.
 searched() { case $libdir/ in /lib*/* | /usr/lib*/* | /usr/local/lib/*) return 0 ;; *) return 1 ;; esac }
-carried() { case $libdir in *,*) return 1 ;; *) ! searched ;; esac }
 
-# lines_to_type: what a shell needs to find the command, jabulghi.pc and the shared library.
-lines_to_type() {
-    case :$PATH: in *":$prefix/bin:"*) ;; *) [ ! -d bin ] || echo "    export PATH='$prefix/bin':\$PATH" ;; esac
-    if ! searched; then
-        case :${PKG_CONFIG_PATH:-}: in *":$libdir/pkgconfig:"*) ;; *) echo "    export PKG_CONFIG_PATH='$libdir/pkgconfig'" ;; esac
+# told: the lines to type before the command, pkg-config and the shared library are found.
+told() {
+    case :$PATH: in *":$prefix/bin:"*) ;; *) echo "    export PATH='$prefix/bin':\$PATH" ;; esac
+    if searched; then
+        [ ! -e lib/libjabulghi.so ] || echo "    ldconfig"
+        return
     fi
-    [ -e lib/libjabulghi.so ] || return 0
-    if searched; then echo "    ldconfig"; elif ! carried; then echo "    export LD_LIBRARY_PATH='$libdir'"; fi
+    case :${PKG_CONFIG_PATH:-}: in *":$libdir/pkgconfig:"*) ;; *) echo "    export PKG_CONFIG_PATH='$libdir/pkgconfig'" ;; esac
+    [ ! -e lib/libjabulghi.so ] || echo "    export LD_LIBRARY_PATH='$libdir'"
 }
 
 # emptied FILE: removes the folders below PREFIX that are empty without the file.
@@ -42,17 +42,12 @@ emptied() {
     while [ "$folder" != "${DESTDIR:-}$prefix" ] && [ "$folder" != / ] && rmdir "$folder" 2>/dev/null; do folder=$(dirname "$folder"); done
 }
 
-# filled FILE: jabulghi.pc with the folders' names.
-filled() {
-    sed "s|^prefix=.*|prefix=$(escaped "$prefix")|; s|^libdir=.*|libdir=$(escaped "$libdir")|" "$1" | if carried; then cat; else sed 's| -Wl,-rpath,[^ ]*||'; fi
-}
-
-# put FILE TO: copies a file; what names folders gets their names.
+# put FILE TO: copies a file; what names folders gets the names of these.
 put() {
     mkdir -p "$(dirname "$2")"
     rm -f "$2"
     case $1 in
-    *.pc) filled "$1" >"$2" ;;
+    *.pc) sed "s|^prefix=.*|prefix=$(escaped "$prefix")|; s|^libdir=.*|libdir=$(escaped "$libdir")|" "$1" >"$2" ;;
     */jabulghiConfig.cmake) sed "s|^set(_jabulghi_prefix .*|set(_jabulghi_prefix \"$(quoted "$prefix")\")|" "$1" >"$2" ;;
     *) cp -P "$1" "$2" ;;
     esac
@@ -66,16 +61,16 @@ files=$(find bin include lib share ! -type d 2>/dev/null | LC_ALL=C sort)
 case ${1:-} in
 install)
     for file in $files; do put "$file" "$(place "$file")"; done
-    echo "Installed in ${DESTDIR:-}$prefix: $(echo "$files" | tr '\n' ' ')"
-    if [ -z "${DESTDIR:-}" ] && [ -n "$(lines_to_type)" ]; then
-        echo "Before you use it, type:"
-        lines_to_type
+    echo "installed below ${DESTDIR:-}$prefix: $(echo "$files" | tr '\n' ' ')"
+    if [ -z "${DESTDIR:-}" ] && [ -n "$(told)" ]; then
+        echo "Type this before you use it:"
+        told
     fi
     ;;
 uninstall)
     for file in $files; do rm -f "$(place "$file")"; done
     for file in $files; do emptied "$(place "$file")"; done
-    echo "Removed from ${DESTDIR:-}$prefix: $(echo "$files" | tr '\n' ' ')"
+    echo "removed below ${DESTDIR:-}$prefix: $(echo "$files" | tr '\n' ' ')"
     ;;
-*) echo "usage: install.sh install | uninstall, with PREFIX, LIBDIR, MANDIR and DESTDIR from the environment" >&2 && exit 2 ;;
+*) echo "install.sh install | uninstall, with PREFIX, LIBDIR, MANDIR and DESTDIR from the environment" >&2 && exit 2 ;;
 esac

@@ -28,7 +28,7 @@ function* tries({ words, x, y, needed }, width) {
 
 const overlap = (one, other) => one.left < other.left + other.wide && other.left < one.left + one.wide && Math.abs(one.top - other.top) < HIGH;
 
-// The labels that have room and whose point is in the view, each with the place of its first letter's foot.
+// Those labels of which the point is in the view and that have room, each with the place of its first letter's foot.
 export function placeLabels(labels, width, height) {
   const taken = [], made = [];
   for (const label of labels) {

@@ -16,7 +16,7 @@ function rowsOf(lines) {
   return rows;
 }
 
-// The page has no options: words about them are dropped.
+// Words that speak of the command's options mean nothing here.
 const OPTIONS = /; --sigma replaces them|^(and \d+ more\. )?--loops .*$/;
 
 export function partsOf(text) {

@@ -22,14 +22,14 @@ export function showWords() {
   sentences('proved', PROVED);
 }
 
-// Green only if neither the cave nor any loop is bad, and nothing closes too well.
+// Green only where nothing is bad: neither the cave nor any loop, and nothing closes too well.
 export function levelOf({ sound, loops, too_well: tooWell }) {
   if (sound === null) return 'none';
   if (!sound) return 'bad';
   return tooWell || loops.some(loop => !loop.sound || loop.too_well) ? 'doubt' : 'good';
 }
 
-// The legs of the plan, then suspects that are not legs as points at their station; and the index of each suspect.
+// The legs of the plan, and after them suspects that are no leg, as points at their station; of each suspect its index.
 function markedLegs(legs, suspects) {
   const all = [...legs], at = new Map(legs.flatMap(({ from, to, ends: [x1, y1, x2, y2] }) => [[from, [x1, y1]], [to, [x2, y2]]]));
   const indices = suspects.map(({ file, line, from, to }) => {
@@ -133,7 +133,7 @@ export function showLoop(row, { misses, miss }) {
   showPicture('histogram', histogramOf(kept, own), histogramText(row.number, kept.plays, ...[0.5, 0.95].map(part => withinOf(kept, part).toPrecision(2)), row.misses));
 }
 
-// Results of an older text or older settings: greyed, and nothing of them can be saved.
+// Results that are no longer those of the text and the settings: greyed, and nothing of them can be saved.
 export function grey(old) {
   $('found').classList.toggle('old', old);
   for (const control of $('found').querySelectorAll('button')) control.disabled = old;

@@ -52,7 +52,7 @@ static bool read_quadrant(const reader *r, part word, double *degrees, int *deci
     return true;
 }
 
-/* up, down and level are words, not readings: they have no corrections. */
+/* up, down and level are no readings, and have no corrections. */
 static bool read_slope_word(part word, double *degrees) {
     static const char *const LEVEL[] = {"level", "h", NULL}, *const UP[] = {"up", "u", "+v", "v", NULL},
                              *const DOWN[] = {"down", "d", "-v", NULL};

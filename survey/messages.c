@@ -6,7 +6,7 @@ const part NO_WORD = {NULL, 0};
 
 static const char *const TROUBLES_SAID[TROUBLES] = {
     [ZERO_BYTE] = "byte 0: save it as plain text, ASCII or UTF-8",
-    [BAD_NAME] = "name is empty, or has a character that *set names does not allow",
+    [BAD_NAME] = "name is empty, or has a sign that *set names does not allow",
     [LONG_NAME] = "name of more than 1000 bytes with its scopes",
     [DEEP_SCOPES] = "more than 1000 *begin inside each other",
     [OPEN_BEGIN] = "*begin has no *end in this file",
@@ -18,55 +18,55 @@ static const char *const TROUBLES_SAID[TROUBLES] = {
     [TWICE] = "reading stands twice on the data line",
     [FEW_READINGS] = "data line lacks a reading that its style needs",
     [MANY_READINGS] = "more than 32 readings on the data line",
-    [NOT_LAST] = "ignoreall must be the last reading of a line",
+    [NOT_LAST] = "ignoreall is the last reading of a line",
     [FEW_FIELDS] = "leg has fewer fields than the data line",
     [MANY_FIELDS] = "leg has more fields than the data line",
     [DECIMAL_COMMA] = "write the number with a decimal point: a comma separates fields",
     [SAME_STATION] = "leg from a station to itself",
     [TWO_SPLAYS] = "leg between two points without a name",
-    [BAD_NUMBER] = "not a number",
-    [BAD_TAPE] = "tape is not a number",
+    [BAD_NUMBER] = "no number",
+    [BAD_TAPE] = "tape is no number",
     [NO_TAPE] = "tape is left out",
-    [BAD_COMPASS] = "compass is not a number",
+    [BAD_COMPASS] = "compass is no number",
     [NO_COMPASS] = "compass is left out on a leg that is not plumbed",
-    [BAD_QUADRANT] = "compass is not a quadrant bearing such as S34E",
-    [BAD_CLINO] = "clino is not a number, -, level, up or down",
-    [MIXED_CLINOS] = "clino and backclino are of different kinds",
-    [BAD_DIRECTION] = "direction must be F or B",
-    [LACKS_STATION] = "leg has no station at its end",
+    [BAD_QUADRANT] = "compass is no quadrant bearing such as S34E",
+    [BAD_CLINO] = "clino is no number, and none of -, level, up and down",
+    [MIXED_CLINOS] = "clino and backclino are not of one kind",
+    [BAD_DIRECTION] = "direction is F or B",
+    [LACKS_STATION] = "leg lacks the station that it leads to",
     [NO_QUANTITY] = "no such quantity",
     [NO_UNIT] = "no such unit",
-    [WRONG_UNIT] = "this quantity has no such unit",
+    [WRONG_UNIT] = "unit is not one of this quantity",
     [ZERO_FACTOR] = "factor is zero",
-    [MIXED_QUANTITIES] = "lengths and angles cannot share one list",
-    [DECLINATION_SCALE] = "a declination takes no scale",
+    [MIXED_QUANTITIES] = "lengths and angles in one list",
+    [DECLINATION_SCALE] = "declination has no scale",
     [NO_DECLINATION] = "*declination takes a number and a unit, or auto",
     [LACKS_NUMBER] = "number is missing",
-    [FIXED_ELSEWHERE] = "station is already fixed elsewhere",
-    [FIXES_DIFFER] = "equated stations are fixed at different places",
-    [FIXED_NOWHERE] = "second *fix has no coordinates",
-    [BAD_FIX] = "*fix takes three coordinates, then one, two, three or six numbers for their errors",
-    [LACKS_FILE_NAME] = "*include needs the name of a file",
-    [NO_FILE] = "file not found",
-    [NO_FILES_HERE] = "file not here: this text cannot include other files",
+    [FIXED_ELSEWHERE] = "station is fixed elsewhere already",
+    [FIXES_DIFFER] = "stations that are fixed at different places are equated",
+    [FIXED_NOWHERE] = "second *fix without coordinates",
+    [BAD_FIX] = "*fix takes three coordinates, and then one, two, three or six numbers for their errors",
+    [LACKS_FILE_NAME] = "*include lacks the name of a file",
+    [NO_FILE] = "file is not found",
+    [NO_FILES_HERE] = "file is not here: other files cannot be read with this text",
     [CYCLE] = "file includes itself",
-    [DEEP_FILES] = "more than 100 files include each other",
-    [MANY_FILES] = "more than 10000 *include lines",
+    [DEEP_FILES] = "more than 100 files that include each other",
+    [MANY_FILES] = "more than 10000 *include",
     [BAD_CASE] = "*case takes tolower, toupper or preserve",
-    [BAD_INFER] = "*infer takes plumbs, equates or exports, then on or off",
+    [BAD_INFER] = "*infer takes plumbs, equates or exports, and then on or off",
     [BAD_FLAG] = "*flags takes duplicate, splay and surface, each with or without not",
     [BAD_ALIAS] = "*alias takes station - or station - ..",
     [BAD_SET] = "*set has no such item",
-    [SET_LETTER] = "*set takes no letters or digits",
+    [SET_LETTER] = "*set takes signs that are no letters or digits",
     [BAD_TRUNCATE] = "*truncate takes a whole number or off",
-    [BAD_DATE] = "not a date such as 1987.07.27",
+    [BAD_DATE] = "date is no date such as 1987.07.27",
     [FEW_EQUATES] = "*equate takes two stations or more",
-    [MORE_WORDS] = "too many words for this command",
+    [MORE_WORDS] = "more words than the command takes",
     [NO_COMMAND_WORD] = "* without a command",
     [OTHER_COMMAND] = "no such command",
     [NO_LEG] = "no leg",
     [IS_UTF16] = "this is UTF-16: save it as plain text, ASCII or UTF-8",
-    [IS_3D] = "this is a processed survey (.3d): use the .svx file that it was made from",
+    [IS_3D] = "this is a processed survey (.3d): give the .svx file that it was made from",
     [IS_THERION] = "this is a Therion file: export it as Survex, or rewrite it as .svx",
     [IS_COMPASS] = "this is a Compass survey (.dat): convert it to Survex first, for example with CaveConverter",
     [IS_COMPASS_PROJECT] =
@@ -75,31 +75,30 @@ static const char *const TROUBLES_SAID[TROUBLES] = {
     [IS_POCKETTOPO] =
         "this is a PocketTopo file: export it as Survex, or convert it first, for example with CaveConverter",
     [IS_TABLE] =
-        "this is a table: put ; before its heading, and add the line *data normal from to tape compass clino above it",
+        "this is a table: put ; before its heading, and before it a line *data normal from to tape compass clino",
     [IS_ARCHIVE] = "this is an archive or an office document: take the survey out of it and save it as plain text",
     [IS_PAGE] = "this is a web page or XML: save the survey itself as plain text",
-    [IS_PROSE] =
-        "this is not a Survex survey: it has neither a command such as *begin nor a leg such as 1 2 12.40 214 -3",
+    [IS_PROSE] = "this is no Survex survey: it has neither a command such as *begin nor a leg such as 1 2 12.40 214 -3",
 };
 
-/* Notes that count come after their number; notes with lines come before the word that they are about. */
+/* Notes that count, the number put before; and those that are told with their lines, the word put behind. */
 static const struct {
     bool counts;
     const char *one, *several;
 } NOTES_SAID[NOTES] = {
     [SPLAYS] = {true, "splay is left out", "splays are left out"},
-    [SIGHTS] = {true, "leg without readings (nosurvey) joins its stations but does not count as a leg",
-                "legs without readings (nosurvey) join their stations but do not count as legs"},
-    [SURFACE_LEGS] = {true, "leg is flagged surface and kept", "legs are flagged surface and kept"},
-    [DUPLICATE_LEGS] = {true, "leg is flagged duplicate and kept", "legs are flagged duplicate and kept"},
+    [SIGHTS] = {true, "leg without readings (nosurvey) joins its stations, and is no leg",
+                "legs without readings (nosurvey) join their stations, and are no legs"},
+    [SURFACE_LEGS] = {true, "leg is flagged surface, and is kept", "legs are flagged surface, and are kept"},
+    [DUPLICATE_LEGS] = {true, "leg is flagged duplicate, and is kept", "legs are flagged duplicate, and are kept"},
     [PASSAGE_LINES] = {true, "line of passage data is skipped", "lines of passage data are skipped"},
-    [SOLVES] = {true, "*solve is skipped: all loops are judged together",
-                "*solve commands are skipped: all loops are judged together"},
+    [SOLVES] = {true, "*solve is skipped: all loops are taken together",
+                "*solve are skipped: all loops are taken together"},
     [AUTO_DECLINATION] = {true,
                           "*declination auto is not computed: bearings stay magnetic, so give each trip its "
-                          "declination if trips are years apart",
-                          "*declination auto commands are not computed: bearings stay magnetic, so give each trip its "
-                          "declination if trips are years apart"},
+                          "declination where trips are years apart",
+                          "*declination auto are not computed: bearings stay magnetic, so give each trip its "
+                          "declination where trips are years apart"},
     [CONVERTED_FIXES] = {true, "fixed point is left out: coordinates of another system than *cs out are not converted",
                          "fixed points are left out: coordinates of another system than *cs out are not converted"},
     [LARGE_COMPASS] = {false, "compass is not from 0 to 360", NULL},
@@ -109,9 +108,9 @@ static const struct {
     [COMPASSES_DIFFER] = {false, "compass and backcompass differ by more than three standard deviations", NULL},
     [CLINOS_DIFFER] = {false, "clino and backclino differ by more than three standard deviations", NULL},
     [TAPES_DIFFER] = {false, "tape and backtape differ by more than three standard deviations", NULL},
-    [COMPASS_ON_PLUMB] = {false, "compass of a plumbed leg is not used", NULL},
-    [MILS] = {false, "mils are read as grads, as Survex does", NULL},
-    [FIXED_TWICE] = {false, "station is already fixed there", NULL},
+    [COMPASS_ON_PLUMB] = {false, "compass on a plumbed leg is not used", NULL},
+    [MILS] = {false, "mils are taken for grads, as Survex does", NULL},
+    [FIXED_TWICE] = {false, "station is fixed there already", NULL},
     [EQUATED_TO_ITSELF] = {false, "station is equated to itself", NULL},
 };
 
@@ -204,7 +203,7 @@ void remark(reader *r, note_kind what, part word) {
     add_note(r, r->at.file, r->at.number, with_word(r, NOTES_SAID[what].one, word));
 }
 
-/* The counts, and how many more notes there are than were given. */
+/* The counts, and how many more there are of what was told. */
 void tell_notes(reader *r) {
     for (int j = 0; j < NOTES; j++) {
         size_t count = r->notes[j].count;

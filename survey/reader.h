@@ -10,7 +10,7 @@ enum {
     MOST_FIELDS = 32,      /* of a data line */
     MOST_DEEP = 100,       /* files that include each other */
     MOST_INCLUDES = 10000, /* *include in all */
-    MOST_LISTED = 10,      /* notes of one kind that have their lines */
+    MOST_LISTED = 10,      /* notes of one kind that are told with their lines */
 };
 
 /* Bytes of a file. */
@@ -19,7 +19,7 @@ typedef struct {
     size_t length;
 } part;
 
-/* ---- messages.c: a sentence for each of these. */
+/* ---- messages.c: what is said; messages.c has a sentence for each. */
 
 typedef enum {
     ZERO_BYTE,
@@ -160,7 +160,7 @@ enum {
     FIELD_IGNORE_ALL
 };
 
-/* Styles without legs. */
+/* Styles that are no legs. */
 enum { STYLE_NOSURVEY = SURVEY_CARTESIAN + 1, STYLE_PASSAGE };
 
 /* The order of fields that *data gives; newline is the place of FIELD_NEWLINE, or that of the end. */
@@ -345,7 +345,7 @@ void take_include(reader *r);
 /* commands.c */
 void take_command(reader *r);
 
-/* others.c: what a text is if it is not Survex, or TROUBLES. */
+/* others.c: what a text is that is no Survex, or TROUBLES. */
 trouble_kind other_format(const reader *r, const struct survey_file *file);
 
 #endif

@@ -11,7 +11,7 @@ void survey_free(struct survey *s) {
     free(s);
 }
 
-/* A file with troubles, or without a leg, is named for what it is. */
+/* What a file is that has troubles, or no leg, decides what is said of it. */
 static void judge_text(reader *r) {
     if (r->s->trouble_count == 0 && r->s->leg_count > 0) return;
     trouble_kind other = other_format(r, &r->s->files[0]);

@@ -38,7 +38,7 @@ struct survey_reading {
     const char *text; /* as written, ended by a NUL */
     size_t file, line;
     size_t at;      /* where it starts in the bytes of its file */
-    int decimals;   /* digits after the point; -1 if it is not a number */
+    int decimals;   /* digits after the point; -1 where it is no number */
     double written; /* the number; 0 where there is none */
     double unit;    /* metres or degrees in one of the unit written; for percent the slope in one of it */
     double zero;    /* *calibrate, in metres or degrees */
@@ -132,7 +132,7 @@ struct survey_file {
     const char *name;
     const uint8_t *bytes;
     size_t length;
-    bool latin1; /* it is not UTF-8 */
+    bool latin1; /* it is no UTF-8 */
 };
 
 /* *include, in the order of reading: its line is the bytes of `file` from `at` to before `end`, its line feed included.

@@ -76,7 +76,7 @@ def main() -> None:
                 rules.update(given)
         try:
             wrong += [f'{path}:{number}: {what}' for number, what in faults(path, rules)]
-        except (FileNotFoundError, IsADirectoryError):
+        except FileNotFoundError:
             continue
         count += 1
     if wrong:

@@ -123,9 +123,7 @@ def compare():
                 print(f"{path.name}: {row}, worked out {new}")
     path, name, f = LISTS[0]
     bounds = {size: (low, high) for size, low, high in stored(path, name)}
-    for sigma, count, _ in json.loads((TOP / "docs" / "trust" / "datasheet" / "numbers.json").read_text())["exact"][
-        "tails"
-    ]:
+    for sigma, count, _ in json.loads((TOP / "docs" / "datasheet" / "numbers.json").read_text())["exact"]["tails"]:
         low, high = bounds[math.ceil(sigma * 2**f)]
         if not low <= 2 * count <= high:
             same = False

@@ -1,13 +1,13 @@
-/* What the command's sources need of the C library, for WebAssembly: memory, strings, sorting and reading. */
+/* What the command's sources call of C's library, for WebAssembly: memory, strings, sorting and reading. */
 #include "c.h"
 
-/* ---- Memory: a stack of blocks. A block's memory is free once it and all blocks above it are freed. */
+/* ---- Memory: what is taken last is given back first; a block that is freed earlier waits for those above it. */
 
-/* The bytes by which WebAssembly's memory grows. */
+/* WebAssembly's memory grows by pages of so many bytes. */
 #define PAGE 65536u
 extern uint8_t __heap_base;
 
-/* The head of a block, before its bytes. */
+/* Stands before the bytes of a block, which have so many, and knows the block below it. */
 typedef struct block {
     struct block *below;
     size_t size;
@@ -47,7 +47,7 @@ void *calloc(size_t count, size_t size) {
     return made == NULL ? NULL : memset(made, 0, count * size);
 }
 
-/* The last block grows in place. */
+/* The last block grows where it stands. */
 void *realloc(void *old, size_t size) {
     if (old == NULL) return malloc(size);
     block *before = (block *)(void *)((uint8_t *)old - HEAD);
@@ -129,7 +129,7 @@ size_t strcspn(const char *string, const char *refused) {
 
 char *strerror(int number) { return number == ENOMEM ? (char *)"Cannot allocate memory" : (char *)""; }
 
-/* ---- Sorting: by merging, so that equal elements keep their order */
+/* ---- Sorting: merges, so that what is equal keeps its order */
 
 typedef int compared(const void *one, const void *other);
 
@@ -149,7 +149,7 @@ static void sort(uint8_t *bytes, size_t count, size_t size, compared *compare, u
     merge(bytes, count / 2, count, size, compare, room);
 }
 
-/* Without memory to merge in, each element is inserted at its place. */
+/* Without room nothing is sorted by halves: each goes down to its place. */
 void qsort(void *bytes, size_t count, size_t size, compared *compare) {
     uint8_t *room = malloc(count * size), *at = bytes;
     if (room != NULL) sort(bytes, count, size, compare, room);
@@ -165,7 +165,7 @@ void qsort(void *bytes, size_t count, size_t size, compared *compare) {
     free(room);
 }
 
-/* ---- Reading: names (%12s), 32-bit numbers (%u), blanks, and any other character as itself */
+/* ---- Reading: names (%12s), numbers of 32 bits (%u), blanks, and all else as it stands */
 
 static bool is_blank(char sign) { return sign == ' ' || (sign >= '\t' && sign <= '\r'); }
 static bool is_digit(char sign) { return sign >= '0' && sign <= '9'; }
@@ -211,7 +211,7 @@ int sscanf(const char *at, const char *format, ...) {
     return read;
 }
 
-/* ---- What the compiler needs: a 128-bit product, from 32-bit halves */
+/* ---- What the compiler asks for: a product of 128 bits, by halves of 32 */
 
 __int128 __multi3(__int128 one, __int128 other) {
     uint64_t a = (uint64_t)one, b = (uint64_t)other, low_a = (uint32_t)a, low_b = (uint32_t)b;

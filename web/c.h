@@ -1,5 +1,5 @@
-/* What the command's sources need of C's headers, for a compiler that has none; the functions are in c.c, print.c and
- * math.c. */
+/* What the command's sources take of C's headers, for a compiler that has none; c.c, print.c and math.c have the
+ * functions. */
 #pragma once
 #define NULL ((void *)0)
 #define bool _Bool

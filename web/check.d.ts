@@ -1,4 +1,4 @@
-/** `jabulghi check` and `jabulghi tolerance` in JavaScript: see docs/build/web.md. */
+/** `jabulghi check` and `jabulghi tolerance` in JavaScript; docs/WEB.md says more. */
 
 /** A file: the survey, or one that it includes. */
 export interface SurveyFile {
@@ -6,7 +6,7 @@ export interface SurveyFile {
   bytes: Uint8Array | string;
 }
 
-/** A message about a survey or an option: the file and line (0 for the whole file), or the option's name, and the text. */
+/** What is said of a survey or an option: the file and the line (0 for all of it), or the option's name, and the words. */
 export interface Message {
   file: string;
   line: number;
@@ -14,29 +14,27 @@ export interface Message {
   text: string;
 }
 
-/** The command's options, as the command line has them. */
+/** The command's options. Strings are taken as the command takes them. */
 export interface Options {
-  /** The file that is the survey; by default the first. */
+  /** The file that is the survey; the first where it is not given. */
   main?: string;
-  /** "tape=10mm,compass=1deg,clino=1deg,station=5cm", or "4mm,0.5deg". */
+  /** "tape=10mm,compass=1deg,clino=1deg,station=50mm", or "4mm,0.5deg". */
   sigma?: string;
-  /** Six seeds, as a list or as text; drawn by default. */
+  /** Six seeds, or a line of them; drawn where they are not given. */
   seeds?: readonly number[] | Uint32Array | string;
   /** The first play. */
   first?: number | bigint | string;
-  /** Called between stretches of plays; if it returns false, the verdict is that of the plays so far. */
+  /** Called between stretches of plays; where it returns false, the verdict is that of the plays so far. */
   progress?: (done: number, all: number) => boolean | void;
 }
 export interface CheckOptions extends Options {
   plays?: number | string;
-  /** The compass error of a whole trip, "0.5deg". */
+  /** The error of a trip's compass, "0.5deg". */
   trip?: string;
-  /** Lists every loop in the text. */
+  /** Whether the text lists every loop. */
   loops?: boolean;
 }
 export interface ToleranceOptions extends Options {
-  plays?: number | string;
-  /** Another name of plays. */
   runs?: number | string;
   /** East and north in mm, "-35,22", judged instead of the loop's own miss. */
   miss?: string;
@@ -77,7 +75,7 @@ export interface Suspect extends Place {
   others: number;
   passage: number;
 }
-/** `jabulghi check --json`; docs/use/check.md has all members. */
+/** `jabulghi check --json`; docs/check.md has all members. */
 export interface CheckJson {
   jabulghi: string;
   file: string;
@@ -117,38 +115,36 @@ export interface ToleranceJson {
 }
 
 /** What the command prints. */
-export interface Printed<Json> {
-  /** The command's exit status. Check: 0 no sign of a blunder or no loop, 1 a sign of a blunder, 2 refused. Tolerance: 0, or another number if refused. */
+export interface Told<Json> {
+  /** The command's exit status: of a check 0 sound or without a loop, 1 not sound, 2 refused; of a tolerance 0, or another number where it is refused. */
   status: number;
-  /** null if the survey or an option is refused. */
+  /** null where the survey or the options are refused. */
   json: Json | null;
   jsonText: string;
   text: string;
   svg: string;
   /** Why it is refused. */
   troubles: Message[];
-  /** What is worth knowing about a survey that is accepted. */
+  /** What is worth knowing of a survey that is taken. */
   notes: Message[];
-  /** What the command prints on standard error. */
+  /** All that the command says on standard error. */
   said: string;
   /** Names of included files as messages have them, with the names that you gave. */
   files: Record<string, string>;
 }
-/** Another name of Printed. */
-export type Told<Json> = Printed<Json>;
-export type Verdict = Printed<CheckJson>;
-export interface Tolerance extends Printed<ToleranceJson> {
-  /** East and north of each play, in mm. */
+export type Verdict = Told<CheckJson>;
+export interface Tolerance extends Told<ToleranceJson> {
+  /** East and north of each run, in mm. */
   misses: Int32Array;
 }
 
-/** A leg in plan: east and north of both ends in m, and its loops, counted from 1. */
+/** A leg in plan: east and north of both ends in m, and the loops that it is in, counted from 1. */
 export interface PlanLeg extends Place {
   ends: [number, number, number, number];
   loops: number[];
 }
 
-/** A cave that has been read, to be played step by step. */
+/** A cave that is read, to be played step by step. */
 export interface Cave {
   readonly status: number;
   readonly taken: boolean;
@@ -156,11 +152,11 @@ export interface Cave {
   readonly notes: Message[];
   readonly said: string;
   readonly files: Record<string, string>;
-  /** The plays asked for, the fewest that a verdict needs, and those played so far. */
+  /** How many plays are asked for, the fewest that a verdict takes, and how many are played. */
   readonly plays: number;
   readonly least: number;
   readonly done: number;
-  /** Plays on, at most to the last play, and returns how many were played so far. */
+  /** Plays on, as far as there are plays; how many are played then. */
   play(count: number): number;
   /** The verdict of the plays so far. */
   verdict(): Verdict;

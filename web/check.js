@@ -5,12 +5,12 @@
 //     console.log(verdict.text, verdict.json.suspects);
 //
 // The files are the survey, first or named by `main`, and those that it includes; bytes are a Uint8Array or a string. Options are those of the command:
-// sigma, plays, seeds (six numbers), trip, first; for tolerance sigma, plays (or runs), seeds, first, miss, loop. `progress(done, all)` is called between
-// stretches of plays; if it returns false, the verdict is that of the plays so far. A verdict has what the command prints: `text`, `json` (and `jsonText`),
-// `svg`, and `status`, its exit status. Messages are in `troubles` if the survey or an option is refused, else in `notes`.
+// sigma, plays, seeds (six numbers), trip, first; of tolerance sigma, runs, seeds, first, miss, loop. `progress(done, all)` is called between stretches of
+// plays; the verdict is that of the plays so far where it returns false. A verdict has what the command prints: `text`, `json` (and `jsonText`), `svg`, and
+// `status`, its exit status; what it says of the survey and the options is in `troubles` where it refuses them, else in `notes`.
 // The noise is proved, the check is not.
 
-const COMMANDS = { check: ['sigma', 'trip', 'seeds', 'plays', 'first'], tolerance: ['sigma', 'seeds', 'plays', 'runs', 'first', 'miss', 'loop'] };
+const COMMANDS = { check: ['sigma', 'trip', 'seeds', 'plays', 'first'], tolerance: ['sigma', 'seeds', 'runs', 'first', 'miss', 'loop'] };
 // The texts of bindings/judge.h, in its order.
 const [SAID, MESSAGES, , FOUND, WORDS, JSON_TEXT, SVG, PLAN] = Array.from({ length: 8 }, (_, j) => j);
 
@@ -19,7 +19,7 @@ const STRETCH = 50;
 
 const encode = text => (typeof text === 'string' ? new TextEncoder().encode(text) : text);
 
-// Six seeds that the library accepts: numbers below 16 are drawn again.
+// Six numbers that the library takes for seeds: those below 16 are drawn again.
 function drawSeeds() {
   const numbers = new Uint32Array(6);
   do globalThis.crypto.getRandomValues(numbers);
@@ -27,23 +27,23 @@ function drawSeeds() {
   return numbers;
 }
 
-// The options as words of the command line, each with a NUL at its end.
+// The options as the command's words, each ended by a NUL.
 function wordsOf(command, options) {
   const given = COMMANDS[command].filter(name => options[name] !== undefined && options[name] !== '');
   return encode(given.map(name => `--${name}\0${Array.isArray(options[name]) || ArrayBuffer.isView(options[name]) ? Array.from(options[name]).join(',') : options[name]}\0`).join(''));
 }
 
 function inOrder(files, main) {
-  if (!Array.isArray(files) || files.length === 0) throw new TypeError('files must be a list of at least one { name, bytes }');
+  if (!Array.isArray(files) || files.length === 0) throw new TypeError('files are a list of { name, bytes }, at least one');
   for (const { name, bytes } of files) {
-    if (typeof name !== 'string' || (typeof bytes !== 'string' && !(bytes instanceof Uint8Array))) throw new TypeError('a file must be { name, bytes }: a string, and a Uint8Array or a string');
+    if (typeof name !== 'string' || (typeof bytes !== 'string' && !(bytes instanceof Uint8Array))) throw new TypeError('a file is { name, bytes }, a string and a Uint8Array or a string');
   }
   const first = main === undefined ? files[0] : files.find(({ name }) => name === main);
   if (first === undefined) throw new TypeError(`no file is named ${main}`);
   return [first, ...files.filter(file => file !== first)];
 }
 
-// A survey that has been read: play it on, and ask for a verdict at any time. It has a memory of its own.
+// A case that is read: it can be played on, and judged at any time. It has a memory of its own, which goes with it.
 class Case {
   #exports;
   #at;
@@ -77,14 +77,14 @@ class Case {
     return new TextDecoder().decode(bytes.subarray(at, bytes.indexOf(0, at)));
   }
 
-  // The command's exit status: 2, or 1 for a tolerance, if the survey or an option is refused.
+  // The command's exit status: 2, or 1 for a tolerance, where the survey or the options are refused.
   get status() { return this.#status; }
   get taken() { return this.#status === 0; }
   get said() { return this.#text(SAID); }
   get #messages() { return JSON.parse(this.#text(MESSAGES)); }
   get troubles() { return this.taken ? [] : this.#messages; }
   get notes() { return this.taken ? this.#messages : []; }
-  // Names of included files as messages have them, with the names that you gave.
+  // Names of included files as messages have them, where you gave them another.
   get files() {
     const lines = this.#text(FOUND).split('\n');
     return Object.fromEntries(Array.from({ length: lines.length >> 1 }, (_, j) => [lines[2 * j], lines[2 * j + 1]]));
@@ -92,8 +92,8 @@ class Case {
 
   // Plays on, as far as there are plays.
   play(count) {
-    const now = Math.min(count, this.plays - this.done), code = this.#exports.jabulghi_case_play(this.#at, this.done, now);
-    if (code !== 0) throw new RangeError(`the plays are refused (${code})`);
+    const now = Math.min(count, this.plays - this.done), number = this.#exports.jabulghi_case_play(this.#at, this.done, now);
+    if (number !== 0) throw new RangeError(`the plays are refused (${number})`);
     this.done += now;
     return this.done;
   }
@@ -130,7 +130,7 @@ class Case {
 
 const nextTask = () => new Promise(done => setTimeout(done));
 
-// Plays to the end, or until progress returns false, and lets other tasks run between stretches.
+// Plays to the end, or until progress says no, and lets other tasks run between stretches.
 async function playAll(one, progress) {
   for (let stretch = Math.max(one.least, 1); one.done < one.plays;) {
     const start = Date.now();
@@ -147,7 +147,7 @@ export class Judge {
 
   async #begin(command, files, options) { return new Case((await WebAssembly.instantiate(this.#module)).exports, command, files, options); }
 
-  // Reads a cave, to be played step by step.
+  // A cave that is read, to be played step by step.
   async read(files, options = {}) { return this.#begin('check', files, options); }
 
   async check(files, options = {}) {

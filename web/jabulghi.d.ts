@@ -1,19 +1,17 @@
-/** The library in JavaScript. include/jabulghi.h says what each call does, docs/build/web.md how to load jabulghi.wasm. */
+/** The library in JavaScript; include/jabulghi.h says what each call does, docs/WEB.md how to find jabulghi.wasm. */
 import { CheckOptions, SurveyFile, Tolerance, ToleranceOptions, Verdict } from './check.js';
 
-/** The codes of jabulghi.h, by name. */
+/** The numbers of jabulghi.h, by name. */
 export const CODES: Readonly<Record<string, number>>;
 
-/** A refused call. */
+/** A call that was refused, with the bad line of a text, or 0. */
 export class Refusal extends Error {
   readonly code: number;
-  /** The bad line of a text, or 0. */
   readonly line: number;
-  /** Why, without the line and the code. */
   readonly sentence: string;
 }
 
-/** A struct of C: save a copy of its bytes, and restore it by bytes.set(saved). */
+/** Bytes that can be kept, and put back by bytes.set(kept). */
 export interface Kept {
   readonly bytes: Uint8Array;
 }
@@ -60,10 +58,10 @@ export interface Jabulghi {
   legs(survey: string | Uint8Array): string;
   misclosure(listing: string | Uint8Array): { east: number; north: number; sums: BigInt64Array };
   intervals(listing: string | Uint8Array): { east: [number, number]; north: [number, number]; sums: BigInt64Array };
-  play(job: string | Uint8Array, plays: number, first?: number | bigint): Int32Array;
-  /** Is there a blunder in a cave? */
+  play(job: string | Uint8Array, runs: number, first?: number | bigint): Int32Array;
+  /** Whether a cave is sound. */
   check(files: readonly SurveyFile[], options?: CheckOptions): Promise<Verdict>;
-  /** How does one loop compare with instrument noise? */
+  /** How one loop compares with instrument noise. */
   tolerance(files: readonly SurveyFile[], options?: ToleranceOptions): Promise<Tolerance>;
 }
 

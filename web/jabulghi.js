@@ -4,8 +4,8 @@
 //     const record = jabulghi.seed(3770694558, 3532774216, 2901327257, 4093209576, 2137023497, 2889436789);
 //     const samples = record.block(new Int16Array(1000)); // each s is s / 2048 standard deviations
 //
-// Each call does what jabulghi.h says. A refused call throws a Refusal and leaves every array as it was. A 64-bit number is a number or, from 2^53 on, a BigInt.
-// Texts are strings or Uint8Array. Where samples are returned, give their number, or an array to fill.
+// Each call does what jabulghi.h says of it. A refusal is thrown, and leaves every array as it was. Numbers of 64 bits are given as numbers or, from 2^53
+// on, as BigInt. Texts are strings or Uint8Array. For samples give the array that they are written to, or how many you want.
 import { CODES, LISTING_ROOM, SUBJECTS, WORDS } from './constants.js';
 import { Judge } from './check.js';
 export { CODES };
@@ -18,7 +18,7 @@ export class Refusal extends Error {
 }
 
 function whole(value, least, most) {
-  if (typeof value !== 'number' && typeof value !== 'bigint') throw new TypeError(`expected a number, not ${typeof value}`);
+  if (typeof value !== 'number' && typeof value !== 'bigint') throw new TypeError(`a number is needed, not ${typeof value}`);
   if (typeof value === 'number' && !Number.isSafeInteger(value)) throw new RangeError(`${value} is not a whole number below 2^53`);
   if (value < least || value > most) throw new RangeError(`${value} is not between ${least} and ${most}`);
   return value;
@@ -27,7 +27,7 @@ const u32 = value => Number(whole(value, 0, 2 ** 32 - 1));
 const u64 = value => BigInt(whole(value, 0, 2n ** 64n - 1n));
 
 function ofKind(Kind, value) {
-  if (!(value instanceof Kind)) throw new TypeError(`expected ${Kind.name}`);
+  if (!(value instanceof Kind)) throw new TypeError(`${Kind.name} is needed`);
   return value;
 }
 const room = (Kind, value) => (typeof value === 'number' ? new Kind(u32(value)) : ofKind(Kind, value));
@@ -35,21 +35,21 @@ const encode = text => (typeof text === 'string' ? new TextEncoder().encode(text
 const decode = bytes => new TextDecoder().decode(bytes);
 const bytesOf = array => new Uint8Array(array.buffer, array.byteOffset, array.byteLength);
 
-// Calls a function on copies of typed arrays, which lie above the library's own memory at multiples of 8. Those not in brackets are copied back.
+// A call on copies of typed arrays, which stand above the library's own memory at multiples of 8. They are copied back, but for those in brackets.
 function call({ exports, start }, name, ...values) {
-  const copies = [], memory = exports.memory;
+  const lent = [], memory = exports.memory;
   let end = start;
   const passed = values.map(value => {
     const array = Array.isArray(value) ? value[0] : value, at = end;
     if (!ArrayBuffer.isView(array)) return value;
-    copies.push([array, at, array === value]);
+    lent.push([array, at, array === value]);
     end += Math.ceil(array.byteLength / 8) * 8;
     return at;
   });
   if (end > memory.buffer.byteLength) memory.grow(Math.ceil((end - memory.buffer.byteLength) / 65536));
-  for (const [array, at] of copies) new Uint8Array(memory.buffer, at, array.byteLength).set(bytesOf(array));
+  for (const [array, at] of lent) new Uint8Array(memory.buffer, at, array.byteLength).set(bytesOf(array));
   const code = exports[`jabulghi_${name}`](...passed);
-  for (const [array, at, back] of copies) if (back) bytesOf(array).set(new Uint8Array(memory.buffer, at, array.byteLength));
+  for (const [array, at, back] of lent) if (back) bytesOf(array).set(new Uint8Array(memory.buffer, at, array.byteLength));
   return code;
 }
 
@@ -59,23 +59,23 @@ export function stringAt(memory, at) {
   return decode(bytes.slice(0, bytes.indexOf(0)));
 }
 
-// The command's sentence for a refused text, "refused" if it has none.
+// The command's sentence for a refusal of a text, "refused" where it has none.
 export function sentenceOf(library, subject, code, line, text) {
   const bytes = encode(text);
   return stringAt(library.exports.memory, call(library, 'sentence', SUBJECTS.indexOf(subject), code, line, [bytes], bytes.length));
 }
 
-// Throws a Refusal with the words of jabulghi.h, unless the code is OK.
+// Throws a Refusal where a call returned another number than 0, with the header's words.
 function check(code) { if (code !== CODES.OK) throw new Refusal(code, 0, WORDS[code]); }
 
-// The same for a text, with the command's sentence if it has one.
+// The same for a text: with the command's sentence, or the header's words where it has none.
 function checkText(library, code, subject, line, text) {
   if (code === CODES.OK) return;
   const sentence = sentenceOf(library, subject, code, line, text);
   throw new Refusal(code, line, sentence === 'refused' ? WORDS[code] : sentence);
 }
 
-// A struct of C. You can save its bytes and restore them by bytes.set(saved).
+// A struct of C that the caller keeps. Its bytes can be saved, and put back by bytes.set(saved).
 class Kept {
   #library;
   constructor(library, size) { this.#library = library, this.bytes = new Uint8Array(size); }
@@ -105,7 +105,7 @@ class Record extends Kept {
   giveUp() { return this.call('give_up', this.bytes); }
 }
 
-// The sums of the latest samples. An unfit window becomes zeros, as in C.
+// The drift over the latest samples. An unfit window (17) becomes zeros, as in C.
 class Window extends Kept {
   constructor(library) { super(library, 8224); }
   get size() { return this.u32(0); }
@@ -131,10 +131,10 @@ class Marks extends Kept {
 
 class Jabulghi {
   #judge;
-  // The library's calls and its memory; what lies beyond its first size is free.
+  // The library's calls and its memory, of which it uses nothing beyond the first size.
   constructor(exports, judge) { this.exports = exports, this.start = exports.memory.buffer.byteLength, this.#judge = judge; }
 
-  // Is there a blunder in a cave, and how does one loop compare with instrument noise? See check.js.
+  // Whether a cave is sound, and how one loop of a survey compares; check.js says more.
   check(files, options) { return this.#judge.check(files, options); }
   tolerance(files, options) { return this.#judge.tolerance(files, options); }
 
@@ -158,7 +158,7 @@ class Jabulghi {
   list(job) { return this.#lines('list', 'JOB', job, () => LISTING_ROOM); }
   legs(survey) { return this.#lines('legs', 'SURVEY', survey, length => 3 * length + 1); } // a leg of 10 bytes gives a shot line of at most 21
 
-  // The sums of a listing, in mm times 2^30 as BigInt, and in mm.
+  // The sums of a listing at 2^30, as BigInt, and in millimetres.
   #miss(name, listing, length) {
     const bytes = encode(listing), sums = new BigInt64Array(length), mm = new BigInt64Array(length), line = new Uint32Array(1);
     checkText(this, call(this, name, [bytes], bytes.length, sums, mm, line), 'LISTING', line[0], bytes);
@@ -173,10 +173,10 @@ class Jabulghi {
     return { east: [eastLow, eastHigh], north: [northLow, northHigh], sums };
   }
 
-  // East and north, in mm, of each play of a job's loop, from play first on; 500 shots stay below 2^31.
-  play(job, plays, first = 0) {
-    const bytes = encode(job), misses = new BigInt64Array(2 * u32(plays)), line = new Uint32Array(1);
-    checkText(this, call(this, 'play', [bytes], bytes.length, u64(first), misses, Number(plays), line), 'JOB', line[0], bytes);
+  // East and north of so many plays of a job's loop, one after another, in millimetres; each is below 2^31, as 500 shots are.
+  play(job, runs, first = 0) {
+    const bytes = encode(job), misses = new BigInt64Array(2 * u32(runs)), line = new Uint32Array(1);
+    checkText(this, call(this, 'play', [bytes], bytes.length, u64(first), misses, Number(runs), line), 'JOB', line[0], bytes);
     return Int32Array.from(misses, Number);
   }
 }

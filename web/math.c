@@ -1,4 +1,4 @@
-/* The exact functions of C's mathematics, for WebAssembly; survey/mathematics.c has the rest. */
+/* What C's mathematics has that is exact, for WebAssembly; survey/mathematics.c has the rest. */
 #include "c.h"
 
 double floor(double x) { return __builtin_floor(x); }
@@ -15,7 +15,7 @@ double round(double x) {
 }
 long long llround(double x) { return (long long)round(x); }
 
-/* Exact: subtracts multiples of y by powers of two, the largest first. The rest has the sign of x. */
+/* Exact: multiples of y by powers of two are taken off, the largest first. What is left has the sign of x. */
 double fmod(double x, double y) {
     double left = fabs(x), by = fabs(y), step = by;
     if (!(by > 0) || left - left != 0) return x - x + (y - y) / (by > 0 ? 1 : 0);

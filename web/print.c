@@ -1,5 +1,5 @@
-/* Printing for WebAssembly and Python, as the C library prints in the locale "C". All digits of a double are worked out
- * before it is rounded, halves to even. */
+/* Printing for WebAssembly and Python, as C's library prints where it is told no language: numbers to the digit, since
+ * a double is worked out whole before it is rounded, halves to even. */
 #include <stdarg.h>
 #include <stdbool.h>
 #include <stdint.h>
@@ -8,17 +8,18 @@
 
 /* ---- The digits of a double */
 
-/* Limbs of nine digits before and after the point; a double has at most 309 digits before it and 1074 after it. */
+/* Limbs of nine digits: those before the point, and those behind it. A double has at most 309 digits before it and 1074
+ * behind it. */
 enum { BEFORE = 36, LIMBS = BEFORE + 120, DIGITS = 9 * LIMBS };
 #define LIMB 1000000000u
 
-/* A decimal without its sign: its digits, and how many of them are before the point. */
+/* A decimal without its sign: digits, of which so many stand before the point. */
 typedef struct {
     char digits[DIGITS + 1];
     int count, point;
 } decimal;
 
-/* Doubles the limbs from a place on, up to 29 times. */
+/* Doubles the limbs from one on, up to 29 times. */
 static int times_two(uint32_t *limbs, int high, int by) {
     uint64_t carry = 0;
     for (int j = BEFORE - 1; j >= high; j--) {
@@ -30,7 +31,7 @@ static int times_two(uint32_t *limbs, int high, int by) {
     return high;
 }
 
-/* Halves the limbs up to a place, up to 9 times; returns the place after the last. */
+/* Halves the limbs up to one, up to 9 times; the place after the last. */
 static int by_two(uint32_t *limbs, int high, int low, int by) {
     uint32_t left = 0;
     for (int j = high; j < low; j++) {
@@ -42,7 +43,7 @@ static int by_two(uint32_t *limbs, int high, int low, int by) {
     return low;
 }
 
-/* The digits of the limbs, without leading and trailing zeros. */
+/* The digits of the limbs, without zeros in front and at the end. */
 static void write_digits(const uint32_t *limbs, int high, int low, decimal *d) {
     d->count = 0;
     d->point = 9 * (BEFORE - high);
@@ -57,7 +58,7 @@ static void write_digits(const uint32_t *limbs, int high, int low, decimal *d) {
     while (d->count > 0 && d->digits[d->count - 1] == '0') d->count--;
 }
 
-/* m 2^e for a finite double of at least 0. */
+/* m 2^e for a finite double that is not below 0. */
 static void expand(double value, decimal *d) {
     uint32_t limbs[LIMBS] = {0};
     uint64_t bits;
@@ -70,10 +71,10 @@ static void expand(double value, decimal *d) {
     for (; e > 0; e -= e < 29 ? e : 29) high = times_two(limbs, high, e < 29 ? e : 29);
     for (; e<0; e += e> - 9 ? -e : 9) low = by_two(limbs, high, low, e > -9 ? -e : 9);
     write_digits(limbs, high, low, d);
-    if (d->count == 0) d->point = 1; /* the digit of 0 */
+    if (d->count == 0) d->point = 1; /* 0 is written as such */
 }
 
-/* Rounds to a number of digits. */
+/* Keeps so many digits, rounded. */
 static void round_to(decimal *d, int keep) {
     if (keep >= d->count) return;
     bool up = keep >= 0 && d->digits[keep] >= '5';
@@ -96,7 +97,7 @@ typedef struct {
     size_t room, length;
 } printed;
 
-/* What is between % and the letter. */
+/* What stands between % and the letter. */
 typedef struct {
     bool left, plus, zeros;
     int width, precision; /* -1 for none */
@@ -107,7 +108,7 @@ static void put_byte(printed *p, char byte) {
     p->length++;
 }
 
-/* A sign and bytes, padded to the width. */
+/* A sign and bytes, filled up to the width. */
 static void put_padded(printed *p, const form *f, const char *sign, const char *bytes, int length) {
     int fill = f->width - length - (int)strlen(sign);
     for (; !f->left && !f->zeros && fill > 0; fill--) put_byte(p, ' ');
@@ -133,7 +134,7 @@ static void put_whole(printed *p, const form *f, const char *sign, uint64_t numb
 
 static char digit_at(const decimal *d, int j) { return j >= 0 && j < d->count ? d->digits[j] : '0'; }
 
-/* Writes digits, some of them after the point; returns the bytes written. */
+/* Digits with so many behind the point; how many bytes were written. */
 static int write_fixed(const decimal *d, int behind, char *to) {
     int length = 0;
     for (int j = d->point > 0 ? 0 : d->point - 1; j < d->point; j++) to[length++] = digit_at(d, j);
@@ -156,7 +157,7 @@ static int write_exponent(const decimal *d, int behind, int exponent, char *to) 
     return length;
 }
 
-/* %g: significant digits without trailing zeros. */
+/* %g: so many digits that say something, zeros at the end left out. */
 static int write_short(decimal *d, int precision, char *to) {
     int kept = precision == 0 ? 1 : precision;
     round_to(d, kept);
@@ -203,7 +204,7 @@ static const char *read_form(const char *at, form *f, va_list *values) {
     return *at == '.' ? read_number(at + 1, &f->precision, values) : at;
 }
 
-/* A whole number of a size in bytes. */
+/* A whole number of that many bytes. */
 static void put_integer(printed *p, const form *f, char letter, bool wide, va_list *values) {
     int64_t number = wide ? va_arg(*values, int64_t) : va_arg(*values, int);
     bool negative = letter != 'u' && letter != 'x' && number < 0;
@@ -211,7 +212,7 @@ static void put_integer(printed *p, const form *f, char letter, bool wide, va_li
     put_whole(p, f, negative ? "-" : f->plus ? "+" : "", size, letter == 'x' ? 16 : 10);
 }
 
-/* Writes what follows a %; returns the place after it. */
+/* What follows a %; the place after it. */
 static const char *put_value(printed *p, const char *at, va_list *values) {
     form f;
     at = read_form(at, &f, values);

@@ -3,9 +3,9 @@
 #include "../command/sentences.c"
 #include "../command/legs_cause.c"
 
-/* The sentence for a refused text, its code and its bad line; "refused" if the table has none. */
-const char *jabulghi_sentence(subject about, uint32_t code, size_t line, uint8_t *bytes, size_t length) {
+/* The sentence for a refusal of a text, a line of it and a number; "refused" where the table has none. */
+const char *jabulghi_sentence(subject about, uint32_t number, size_t line, uint8_t *bytes, size_t length) {
     text refused = {"", bytes, length};
     bad_line bad = line_of(&refused, line);
-    return sentence_of(about, code, &bad);
+    return sentence_of(about, number, &bad);
 }

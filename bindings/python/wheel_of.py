@@ -1,4 +1,4 @@
-"""Builds the wheel, which contains the shared library, with Python's standard library only: `make wheel`, or pip through pyproject.toml."""
+"""Builds the wheel with Python's own library alone: `make wheel`, or pip through pyproject.toml. The wheel carries the shared library."""
 import base64
 import hashlib
 import os

@@ -38,7 +38,7 @@ def answer(call, *values):
     try:
         return 0, 0, call(*values)
     except Refused as error:
-        return int(error.code), error.line, None
+        return int(error.number), error.line, None
 
 
 def words(kind, values):

@@ -59,8 +59,8 @@ def examples():
     ):
         beside("check", name, {"seeds": comma, "plays": 200, "first": 2**40}, seeds=SEEDS, plays=200, first=2**40)
         sigma = "tape=10mm,compass=1deg,station=20mm"
-        options = {"seeds": comma, "sigma": sigma, "plays": 500}
-        beside("tolerance", name, options, seeds=SEEDS, sigma=sigma, plays=500)
+        options = {"seeds": comma, "sigma": sigma, "runs": 500}
+        beside("tolerance", name, options, seeds=SEEDS, sigma=sigma, runs=500)
 
 
 def made_cave(rng):
@@ -141,18 +141,17 @@ def verdicts():
     page = bad._repr_html_()
     assert (
         "<svg" in page
-        and "A sign of a blunder" in page
+        and "Not sound" in page
         and "streamway.svx:7" in page
-        and repr(bad) == "<jabulghi.Verdict: a sign of a blunder, legs 12, loops 1>"
+        and repr(bad) == "<jabulghi.Verdict: not sound, legs 12, loops 1>"
     )
     assert "&lt;b&gt;" in jabulghi.check(RING, name="<b>")._repr_html_()
     assert jabulghi.check("a b 10 0 0\nb c 10 20 0\n").sound is None
     assert copy.copy(bad).json == pickle.loads(pickle.dumps(bad)).json == bad.json
-    loop = jabulghi.tolerance("loop.job", plays=50, miss=(500, 0.5), seeds=SEEDS)
-    assert jabulghi.tolerance("loop.job", runs=50, miss=(500, 0.5), seeds=SEEDS).json == loop.json
+    loop = jabulghi.tolerance("loop.job", runs=50, miss=(500, 0.5))
     assert (
         loop.miss == (500, 0.5)
-        and loop.plays == loop.runs == 50 == len(loop.misses)
+        and loop.runs == 50 == len(loop.misses)
         and loop.share_beyond == 0
         and len(loop.rms) == 3
         and "<svg" in loop._repr_html_()

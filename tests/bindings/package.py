@@ -21,7 +21,7 @@ def raises(kind, call, *values):
 
 def refused(number, call, *values):
     error = raises(Refused, call, *values)
-    assert error.code == error.number == number, (number, error)
+    assert error.number == number, (number, error)
     return error
 
 
@@ -75,8 +75,6 @@ def refusals():
         (25, jabulghi.intervals, "FROM TO LOW HIGH STEP\nA B 2 1 0\n"),
         (13, jabulghi.play, JOB, 1, 2**64 - 1),
     ]
-    assert list(map(tuple, jabulghi.play(JOB, runs=2))) == list(map(tuple, jabulghi.play(JOB, plays=2)))
-    raises(TypeError, jabulghi.play, JOB)
     for number, call, *values in rows:
         kept = getattr(call, "__self__", None)
         before = bytes(kept) if isinstance(kept, (Generator, Marks)) else b""
@@ -105,7 +103,7 @@ def margins():
                 assert getattr(rig, name)(middle) is middle
                 assert list(middle) == list(getattr(Generator(SEEDS), name.replace("take", "block"))(length)), name
             except Refused as error:
-                assert length == 7 and error.code in (4, 16) and bytes(rig) == before and set(whole) == {0xA5}
+                assert length == 7 and error.number in (4, 16) and bytes(rig) == before and set(whole) == {0xA5}
             assert set(whole[:16] + whole[16 + size * length :]) == {0xA5}, name
 
 
@@ -187,7 +185,7 @@ def kept():
     for same in (copy.copy(rig), copy.deepcopy(rig), pickle.loads(pickle.dumps(rig)), Generator.from_bytes(bytes(rig))):
         assert same == rig and list(same.block(6)) == list(rig.look(6)) and same != rig
     error = pickle.loads(pickle.dumps(refused(6, jabulghi.list_job, "x")))
-    assert (error.code, error.line) == (6, 1)
+    assert (error.number, error.line) == (6, 1)
     growing = array.array("h", bytes(8))
     rig.block(growing)
     growing.append(1)  # nothing is held after a call
@@ -236,7 +234,7 @@ def beside(count):
             got = getattr(ours, name)(*([] if two or name == "give_up" else [n]))
             number = 0
         except Refused as error:
-            number = error.code
+            number = error.number
         assert number == code and bytes(ours) == bytes(raw), (done, name, n)
         assert number or got is None or list(got) == list(memory), (done, name, n)
         seen[name, int(number)] = seen.get((name, int(number)), 0) + 1

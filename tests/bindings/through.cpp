@@ -8,7 +8,7 @@ using jabulghi::window;
 
 static uint32_t kept(jabulghi_record *record, const generator &after, jabulghi::status is) {
     *record = after.record;
-    return is.code();
+    return is.number();
 }
 #define ON_RECORD(call)                                                                                                \
     generator rig(*record);                                                                                            \
@@ -18,7 +18,7 @@ static uint32_t kept(jabulghi_record *record, const generator &after, jabulghi::
 template <class T> static uint32_t two(const jabulghi::result<jabulghi::pair_of<T>> &is, T *samples) {
     samples[0] = is->first;
     samples[1] = is->second;
-    return is.code();
+    return is.number();
 }
 
 static window window_of(const uint32_t *size, const uint32_t *held, const uint32_t *place, const int16_t *places,
@@ -34,7 +34,7 @@ static uint32_t put(const window &from, uint32_t *size, uint32_t *held, uint32_t
     *size = from.kept.size, *held = from.kept.held, *place = from.kept.place, *sum = from.kept.sum,
     *squares = from.kept.squares;
     for (int j = 0; j < 4096; j++) places[j] = from.kept.places[j];
-    return is.code();
+    return is.number();
 }
 #define ON_WINDOW(call)                                                                                                \
     window kept = window_of(size, held, place, places, sum, squares);                                                  \
@@ -54,7 +54,7 @@ static uint32_t put(const marks &from, uint32_t *used, uint32_t *lengths, uint8_
     for (int j = 0; j < 16; j++)
         used[j] = from.kept.used[j], lengths[j] = from.kept.length[j], records[j] = from.kept.records[j];
     for (int j = 0; j < 192; j++) names[j] = from.kept.names[j / 12][j % 12];
-    return is.code();
+    return is.number();
 }
 
 extern "C" {
@@ -67,15 +67,15 @@ uint32_t through_sample(uint64_t k, uint32_t v, int16_t *samples) { return two(j
 uint32_t through_sample18(uint64_t k, uint32_t v, int32_t *samples) { return two(jabulghi::sample18(k, v), samples); }
 uint32_t through_pair(jabulghi_record *record, int16_t *samples) {
     generator rig(*record);
-    uint32_t code = two(rig.pair(), samples);
+    uint32_t number = two(rig.pair(), samples);
     *record = rig.record;
-    return code;
+    return number;
 }
 uint32_t through_pair18(jabulghi_record *record, int32_t *samples) {
     generator rig(*record);
-    uint32_t code = two(rig.pair18(), samples);
+    uint32_t number = two(rig.pair18(), samples);
     *record = rig.record;
-    return code;
+    return number;
 }
 #ifdef JABULGHI_HAS_SPAN
 #define SAMPLES std::span(block, length)
@@ -85,10 +85,10 @@ uint32_t through_pair18(jabulghi_record *record, int32_t *samples) {
 uint32_t through_block(jabulghi_record *record, int16_t *block, size_t length){ON_RECORD(block(SAMPLES))} uint32_t
     through_block18(jabulghi_record *record, int32_t *block, size_t length){ON_RECORD(block18(SAMPLES))} uint32_t
     through_look(const jabulghi_record *record, int16_t *block, size_t length) {
-    return generator(*record).look(SAMPLES).code();
+    return generator(*record).look(SAMPLES).number();
 }
 uint32_t through_look18(const jabulghi_record *record, int32_t *block, size_t length) {
-    return generator(*record).look18(SAMPLES).code();
+    return generator(*record).look18(SAMPLES).number();
 }
 uint32_t through_take(jabulghi_record *record, int16_t *block, size_t length){ON_RECORD(take(SAMPLES))} uint32_t
     through_take18(jabulghi_record *record, int32_t *block, size_t length){ON_RECORD(take18(SAMPLES))} uint32_t
@@ -99,31 +99,31 @@ uint32_t through_take(jabulghi_record *record, int16_t *block, size_t length){ON
                  size_t *length) {
     jabulghi::result<size_t> is = jabulghi::list(text, text_length, listing, listing_length);
     *line = (uint32_t)is.line(), *length = *is;
-    return is.code();
+    return is.number();
 }
 uint32_t through_legs(const uint8_t *text, size_t text_length, uint8_t *shots, size_t shots_length, size_t *line,
                       size_t *length) {
     jabulghi::result<size_t> is = jabulghi::legs(text, text_length, shots, shots_length);
     *line = is.line(), *length = *is;
-    return is.code();
+    return is.number();
 }
 uint32_t through_misclosure(const uint8_t *text, size_t length, int64_t *sums, int64_t *millimetres, uint32_t *line) {
     jabulghi::result<jabulghi::miss> is = jabulghi::misclosure(text, length);
     for (int j = 0; j < 2; j++) sums[j] = is->sums[j], millimetres[j] = is->millimetres[j];
     *line = (uint32_t)is.line();
-    return is.code();
+    return is.number();
 }
 uint32_t through_intervals(const uint8_t *text, size_t length, int64_t *sums, int64_t *millimetres, uint32_t *line) {
     jabulghi::result<jabulghi::misses> is = jabulghi::intervals(text, length);
     for (int j = 0; j < 4; j++) sums[j] = is->sums[j], millimetres[j] = is->millimetres[j];
     *line = (uint32_t)is.line();
-    return is.code();
+    return is.number();
 }
 uint32_t through_play(const uint8_t *text, size_t text_length, uint64_t first, int64_t (*misses)[2], size_t runs,
                       uint32_t *line) {
     jabulghi::status is = jabulghi::play(text, text_length, first, misses, runs);
     *line = (uint32_t)is.line();
-    return is.code();
+    return is.number();
 }
 uint32_t through_window_make_members(uint32_t *size, uint32_t *held, uint32_t *place, int16_t *places, int64_t *sum,
                                      int64_t *squares, uint32_t n){ON_WINDOW(make(n))} uint32_t

@@ -4,11 +4,11 @@ use jabulghi::{Generator, Marks, Miss, Refusal, TextRefusal, Window};
 use std::slice::{from_raw_parts, from_raw_parts_mut};
 
 fn number<T>(answer: &Result<T, Refusal>) -> u32 {
-    answer.as_ref().err().map_or(0, |refusal| refusal.code())
+    answer.as_ref().err().map_or(0, |refusal| refusal.number())
 }
 
 fn text_number<T>(answer: &Result<T, TextRefusal>) -> (u32, usize) {
-    answer.as_ref().err().map_or((0, 0), |refused| (refused.refusal.code(), refused.line))
+    answer.as_ref().err().map_or((0, 0), |refused| (refused.refusal.number(), refused.line))
 }
 
 /// A value, or its zeros, into the caller's memory.

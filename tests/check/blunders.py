@@ -1,7 +1,6 @@
-"""The suspects of docs/use/check.md: what blunders correct a leg, how they weigh, and how the edges rank."""
+"""The suspects of docs/check.md: what blunders correct a leg, how they weigh, and how the edges rank."""
 
 import math
-from bisect import bisect_left, bisect_right
 from dataclasses import dataclass
 from typing import Any, Iterator
 
@@ -10,8 +9,8 @@ from other import Cave
 from readings import Leg, Reading
 
 Array = Any
-DISTANCES = {1: 6, 2: 1, 5: 2, 10: 3}
-TURNS = {5: 1, 10: 10, 20: 1, 90: 1, 100: 2}
+DISTANCES = {1: 3, 2: 1, 5: 2, 10: 3}
+TURNS = {5: 2, 10: 4, 20: 1, 90: 1, 100: 2}
 MISREAD = ("06", "08", "14", "17", "27", "35", "38", "49", "56", "58", "68")
 LEAST_MOVE = 0.2 - 1e-9
 
@@ -35,22 +34,19 @@ class Suspect:
 
 
 class Lengths:
-    """How long the legs of a cave are."""
+    """How long the legs of a cave are, by a Gaussian distribution of their logarithms."""
 
     def __init__(self, legs: list[Leg]) -> None:
-        self.all = sorted(leg.length for leg in legs if leg.length > 0)
+        logs = numpy.log([leg.length for leg in legs if leg.length > 0])
+        self.mean, self.sd = float(logs.mean()), max(float(logs.std()), 0.3)
 
-    def usual(self, leg: Leg, x: float) -> float:
-        """By the other legs whose lengths are from a half to the double of x."""
-        least, most = x / 2 - 1e-9, 2 * x + 1e-9
-        alike = bisect_right(self.all, most) - bisect_left(self.all, least) - (least <= leg.length <= most)
-        return (alike + 0.1) / x
+    def density(self, x: float) -> float:
+        return math.exp(-(((math.log(x) - self.mean) / self.sd) ** 2) / 2) / x if x > 0 else 0.0
 
     def likelier(self, leg: Leg, length: float) -> float:
         """How much likelier a length is than the leg's own."""
-        if leg.length <= 0 or length <= 0:
-            return 0.1 if leg.length > 0 else 1.0
-        return min(max(self.usual(leg, length) / self.usual(leg, leg.length), 0.1), 10.0)
+        own = self.density(leg.length)
+        return min(max(self.density(length) / own, 0.1), 10.0) if leg.length > 0 else 1.0
 
 
 def tape_corrections(leg: Leg, v: Array, lengths: Lengths) -> Iterator[tuple[str, float, Array]]:
@@ -68,11 +64,11 @@ def rewritten(text: str) -> Iterator[tuple[str, float, str]]:
     """A number with two neighbouring digits exchanged, or a digit misread."""
     places = [j for j, c in enumerate(text) if c.isdigit()]
     for i, j in zip(places, places[1:]):
-        yield "digits exchanged", 0.5, text[:i] + text[j] + text[i + 1 : j] + text[i] + text[j + 1 :]
+        yield "digits exchanged", 1, text[:i] + text[j] + text[i + 1 : j] + text[i] + text[j + 1 :]
     for i in places:
         for pair in MISREAD:
             if text[i] in pair:
-                yield "digit misread", 0.15, text[:i] + pair[1 - pair.index(text[i])] + text[i + 1 :]
+                yield "digit misread", 0.3, text[:i] + pair[1 - pair.index(text[i])] + text[i + 1 :]
 
 
 def allowed(r: Reading, text: str) -> bool:
@@ -107,7 +103,7 @@ def another_distance(leg: Leg, lengths: Lengths, v: Array, g: Array, H: Array, k
     x = max(float(-(e @ g)) / curve, -P)
     likelier = lengths.likelier(leg, leg.length * (P + x) / P)
     mass = (
-        math.log(2 * likelier / (2 + abs(x)) ** 2) + gain(g, H, x * e) / (2 * k) + math.log(2 * math.pi * k / curve) / 2
+        math.log(4 * likelier / (2 + abs(x)) ** 2) + gain(g, H, x * e) / (2 * k) + math.log(2 * math.pi * k / curve) / 2
     )
     return Hypothesis("another distance", mass, x * e)
 
@@ -126,7 +122,7 @@ def another_bearing(v: Array, g: Array, H: Array, k: float) -> Hypothesis:
     for _ in range(10):
         best = max((best, best - step, best + step), key=lambda a: gain(g, H, turns(v, a)))
         step /= 2
-    return Hypothesis("another bearing", math.log(3 / 360) + log_sum(gains / (2 * k)), turns(v, best))
+    return Hypothesis("another bearing", math.log(6 / 360) + log_sum(gains / (2 * k)), turns(v, best))
 
 
 def free(name: str, weight: float, g: Array, H: Array, k: float) -> Hypothesis:

@@ -1,4 +1,4 @@
-"""Another implementation of `jabulghi check`, from the formulas of docs/use/check.md alone; its samples are those of `jabulghi noise`."""
+"""Another implementation of `jabulghi check`, from the formulas of docs/check.md alone; its samples are those of `jabulghi noise`."""
 
 import heapq
 import math

@@ -130,7 +130,7 @@ def as_survex(path, sigma, number, splits):
         file.write(svx.stdout)
     again = listed(name, '--sigma', '0,0', '--seeds', SEEDS)
     if any(int(row[2]) > 1000000 for row in rows_of(plain.stdout)):
-        assert again.returncode == 1 and b'leg is longer than 1000 m' in again.stderr, f'{name}: a leg above 1 km'
+        assert again.returncode == 1 and b'leg above 1000 m' in again.stderr, f'{name}: a leg above 1 km'
         return b''
     strict = run(COMMAND, 'legs', path).returncode == 0
     alike = (

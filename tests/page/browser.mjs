@@ -2,7 +2,7 @@
 // types, sorts, zooms, prints and saves, with input as the browser gets it from a person. It asks nothing of a network and says nothing on the console.
 import assert from 'node:assert/strict';
 import { execFileSync, spawnSync } from 'node:child_process';
-import { existsSync, mkdirSync, readdirSync, readFileSync, statSync, writeFileSync } from 'node:fs';
+import { existsSync, mkdirSync, readdirSync, readFileSync, writeFileSync } from 'node:fs';
 import { join, resolve } from 'node:path';
 import { Chromium, wait } from './chromium.mjs';
 import { Firefox } from './firefox.mjs';
@@ -53,13 +53,13 @@ async function paste(words) {
 // ---- What comes in
 
 async function loaded() {
-  assert.match(await text('verdict'), /^The whole cave: noise alone makes the worst leg look this bad in [\d,]+ of 1,000 plays; that is no sign of a blunder\.$/);
+  assert.match(await text('verdict'), /^The cave as a whole: in [\d,]+ of 1,000 sound caves .*; that is no sign of a blunder\.$/);
   assert.equal(await value("document.getElementById('verdict').className"), 'good');
   assert.equal(await value("document.getElementById('suspects').hidden"), true);
 }
 
 const isBlunder = async () => {
-  assert.match(await text('verdict'), /^The whole cave: noise alone .* in none of 1,000 plays; that is below 5 %: there is a blunder, or these errors are too small\.$/);
+  assert.match(await text('verdict'), /^The cave as a whole: in none of 1,000 .*there is a blunder, or these errors are too small\.$/);
   assert.equal(await value("document.getElementById('verdict').className"), 'bad');
   assert.match(await value("document.querySelector('#suspectRows li').textContent"), /cave\.main\.5 - cave\.main\.6, 13\.74 at 151.*5 6 13\.74 151 \+6$/);
 };
@@ -112,8 +112,8 @@ async function fields() {
   await choose('tapeUnit', 'cm');
   await after(() => browser.key('Enter'));
   assert.match(await text('about'), /errors: tape 15 mm, compass 0\.5 degrees, clino 0\.5 degrees, stations 30 mm \(from --sigma\)/);
-  const wrong = [['tape', '1,000.5', /^Tape: ‘1,000\.5’ is not a number/], ['compass', '5 mm', /^Compass: ‘5 mm’ is not a number/], ['compass', '91', /compass=91deg/],
-    ['station', 'wide', /not a number/], ['plays', '10', /100/], ['seeds', '1,2,3', /seeds/i], ['trip', '95', /95deg/]];
+  const wrong = [['tape', '1,000.5', /^Tape: ‘1,000\.5’ is no number/], ['compass', '5 mm', /^Compass: ‘5 mm’ is no number/], ['compass', '91', /compass=91deg/],
+    ['station', 'wide', /no number/], ['plays', '10', /100/], ['seeds', '1,2,3', /seeds/i], ['trip', '95', /95deg/]];
   for (const [id, words, sentence] of wrong) {
     const before = await value(`document.getElementById('${id}').value`);
     await fill(id, words);
@@ -210,7 +210,7 @@ const drawnLoop = name => browser.until(`document.getElementById('oneName').text
 
 async function loops() {
   await column(0, '2,1,3');
-  await column(6, 'bad,good,good');
+  await column(6, 'bad,sound,sound');
   await browser.click('#loopHead [data-key=loopNumber]');
   await column(0, '1,2,3');
   await value("document.querySelector('#loopHead [data-key=legs]').focus()");
@@ -221,7 +221,7 @@ async function loops() {
   assert.deepEqual(await value("[...document.querySelectorAll('#loopHead th')].map(head => head.getAttribute('aria-sort'))"), ['none', 'descending', 'none', 'none', 'none', 'none', 'none']);
   await browser.click('#loopRows [data-loop="3"]');
   await drawnLoop('Loop 3: 32 legs');
-  assert.match(await value("document.querySelector('#cloud svg').getAttribute('aria-label')"), /^Loop 3: the misses of [\d,]+ plays as points.*own miss of 1\.16 m is inside that of (50|95) %\.$/);
+  assert.match(await value("document.querySelector('#cloud svg').getAttribute('aria-label')"), /^Loop 3: the misses of [\d,]+ plays as points.*own miss of 1\.16 m is within that of (50|95) %\.$/);
   assert.match(await value("document.querySelector('#histogram svg').getAttribute('aria-label')"), /^Loop 3: how far [\d,]+ plays miss: half by less than [\d.]+ m/);
   await browser.click('#loopRows [data-loop="2"]');
   await drawnLoop('Loop 2: 30 legs');
@@ -232,17 +232,11 @@ async function loops() {
 
 // ---- What goes out
 
-// A file is saved when its size has stayed the same for a second.
 async function saved(id, name) {
-  const file = join(browser.downloads, name), size = () => (existsSync(file) ? statSync(file).size : 0);
+  const file = join(browser.downloads, name);
   await browser.click(`#${id}`);
-  let before = 0, same = 0;
-  for (let left = 1200; same < 20 && left > 0; left--) {
-    await wait(50);
-    const now = size();
-    same = now > 0 && now === before ? same + 1 : 0;
-    before = now;
-  }
+  for (let left = 400; !existsSync(file) && left > 0; left--) await wait(25);
+  await wait(200);
   return readFileSync(file, 'utf8');
 }
 
@@ -296,7 +290,7 @@ async function large() {
     const tick = now => { seen.late = Math.max(seen.late, now - seen.last); seen.last = now; requestAnimationFrame(tick); }; requestAnimationFrame(tick); })()`);
   const slow = slowness(), start = Date.now(), before = await checks();
   await choose('example', 'large');
-  await browser.until("/First verdict, from 100 of 20,000 plays/.test(document.getElementById('told').textContent)");
+  await browser.until("/First verdict, by 100 of 20,000 plays/.test(document.getElementById('told').textContent)");
   const seconds = (Date.now() - start) / 1000;
   assert.match(await text('about'), /3,080 legs, .* 100 loops/);
   assert(await value("document.getElementById('progress').value > 0 && !document.getElementById('busy').hidden"));
@@ -306,7 +300,7 @@ async function large() {
   await browser.until("document.getElementById('progress').value > 0.02");
   await browser.click('#stop');
   await browser.until(`document.body.dataset.done > ${before}`);
-  assert.match(await text('told'), /Stopped after [\d,]+ of 20,000 plays: this is their verdict\./);
+  assert.match(await text('told'), /Stopped after [\d,]+ of 20,000 plays: the verdict is by those\./);
   const late = await value('seen.late');
   assert(seconds < 5 * slow, `the first verdict took ${seconds} s, on a machine that is ${slow} times slower than alone`);
   const rows = () => value("[...document.querySelectorAll('#loopRows tr')].filter(row => row.getClientRects().length > 0).length");

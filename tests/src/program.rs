@@ -56,7 +56,7 @@ pub fn writes(output: &Output, stdout: &[u8], stderr: &str, what: &str) {
     assert_eq!(err.to_string(), stderr.as_bytes().escape_ascii().to_string(), "standard error of {what}");
 }
 
-/// An example and the rows for a job of docs/use/refusals.md, as they are printed there.
+/// An example and the rows for a job of docs/refusals.md, as they are printed there.
 fn rows() -> Vec<(String, String)> {
     let head = format!("{SEEDS}{SIGMA}");
     let rows = [
@@ -126,7 +126,7 @@ pub fn program(tables: &Tables, random: &mut Random) -> String {
     let at_once = |text: &[u8]| run(PROGRAM, text, text.len().max(1), Duration::ZERO);
     let rows = rows();
     for (text, printed) in &rows {
-        writes(&at_once(text.as_bytes()), printed.as_bytes(), "", "a row of docs/use/refusals.md");
+        writes(&at_once(text.as_bytes()), printed.as_bytes(), "", "a row of docs/refusals.md");
         assert_eq!(expected(tables, text.as_bytes()), printed.as_bytes());
     }
     let mut texts = given::texts();

@@ -1,4 +1,4 @@
-"""A reader of surveys once more, from Survex's manual and docs/use/survey.md alone: the other side of tests/surveys/beside_other.
+"""A reader of surveys once more, from Survex's manual and docs/survey.md alone: the other side of tests/surveys/beside_other.
 
 read(path) gives legs, stations, equates, fixes, sights and the lines that are refused. Files are read as bytes and taken for Latin-1, which keeps every byte."""
 import copy, math, os, re

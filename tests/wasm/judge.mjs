@@ -44,7 +44,7 @@ async function examplesBeside() {
   for (const name of ['cave.svx', 'streamway.svx', 'dotted.svx', 'loop.svx', 'loop.job', 'traverse.job', 'tape-book.listing']) {
     const files = [{ name, bytes: new Uint8Array(readFileSync(name)) }];
     await beside('check', files, { seeds: SEEDS });
-    await beside('tolerance', files, { seeds: SEEDS, sigma: 'tape=10mm,compass=1deg,clino=1deg,station=50mm', plays: 2000 });
+    await beside('tolerance', files, { seeds: SEEDS, sigma: 'tape=10mm,compass=1deg,clino=1deg,station=50mm', runs: 2000 });
   }
 }
 
@@ -69,7 +69,7 @@ async function files() {
   const beside = await judge.check([{ name: 'top.svx', bytes: outer }, { name: 'inner.SVX', bytes: inner }]);
   assert.deepEqual([beside.status, beside.json, beside.text], [2, null, '']);
   assert.deepEqual(beside.files, { 'Part/Inner.svx': 'inner.SVX' });
-  assert.deepEqual(beside.troubles, [{ file: 'Part/Inner.svx', line: 3, option: '', text: 'tape is not a number (x)' }]);
+  assert.deepEqual(beside.troubles, [{ file: 'Part/Inner.svx', line: 3, option: '', text: 'tape is no number (x)' }]);
   const whole = [{ name: 'other.svx', bytes: 'x' }, { name: 'dir/Part/Inner.svx', bytes: inner.replace('x', '10.5') }, { name: 'dir/top.svx', bytes: outer }];
   const found = await judge.check(whole, { main: 'dir/top.svx', seeds: SEEDS });
   assert.deepEqual([found.status, found.troubles, found.json.loops[0].file], [found.json.sound ? 0 : 1, [], 'dir/Part/Inner.svx']);
@@ -88,7 +88,7 @@ async function messages() {
   }
   const { troubles } = await judge.tolerance([{ name: 'two.svx', bytes: 'a b 10 0 0\nb c 10 120 0\nc a 10 240 0\nb d 10 60 0\nd c 10 180 0\n' }], { sigma: '4mm,1deg' });
   assert.equal(troubles.length, 1);
-  assert.match(troubles[0].text, /^several loops; choose one with --loop N\n {2}--loop 1: /);
+  assert.match(troubles[0].text, /^several loops; choose one by --loop N\n {2}--loop 1: /);
 }
 
 // Steps: a verdict after 100 plays, then of all; the same as at once; stops; loops and misses.
@@ -111,10 +111,8 @@ async function steps() {
   const east = misses.filter((_, j) => j % 2 === 0), variance = east.reduce((sum, one) => sum + one * one, 0) / east.length;
   assert(variance > 0.6 * spread[0] && variance < 1.6 * spread[0], `${variance} of ${spread[0]}`);
   assert.throws(() => cave.loop(4, 10), RangeError);
-  for (const name of ['plays', 'runs']) {
-    const { misses } = await jabulghi.tolerance([{ name: 'loop.job', bytes: readFileSync('loop.job') }], { [name]: 10 });
-    assert.deepEqual([...misses], [...jabulghi.play(readFileSync('loop.job', 'utf8'), 10)]);
-  }
+  const runs = await jabulghi.tolerance([{ name: 'loop.job', bytes: readFileSync('loop.job') }], { runs: 10 });
+  assert.deepEqual([...runs.misses], [...jabulghi.play(readFileSync('loop.job', 'utf8'), 10)]);
 }
 
 async function misuse() {

@@ -102,7 +102,7 @@ class Maker {
 export function madeOf(seed) {
   const maker = new Maker(seed), name = `made${seed}`, files = maker.chance(0.1) ? maker.job(name) : maker.survey(name);
   const seeds = Array.from({ length: 6 }, () => 16 + maker.whole(2 ** 32 - 16)).join(',');
-  const check = { seeds, plays: 100 + maker.whole(50) }, tolerance = { seeds, plays: 1 + maker.whole(400) };
+  const check = { seeds, plays: 100 + maker.whole(50) }, tolerance = { seeds, runs: 1 + maker.whole(400) };
   tolerance.sigma = maker.one(['tape=10mm,compass=1deg', '4mm,0.5deg', 'tape=2cm,compass=0.5deg,clino=1deg,station=50mm']);
   if (maker.chance(0.5)) check.sigma = maker.one(['tape=10mm,compass=1deg,clino=1deg,station=50mm', 'tape=1cm', '4mm,0.5deg', 'compass=2deg,fix=3m', 'tape=10,compass=1', 'station=1.5 mm']);
   if (maker.chance(0.2)) check.trip = maker.one(['0.5deg', '1', '2deg']);

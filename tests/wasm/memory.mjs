@@ -1,5 +1,5 @@
-// The exports of jabulghi.wasm as C has them: arguments lie in their memory, with marks all around. Holds after every call that the library wrote nowhere
-// else, after a refused one that it wrote only what its comment in the header says, and that it took no more stack than docs/build/processors.md says.
+// The exports of jabulghi.wasm as C has them: what a call is lent stands in their memory, marked all around. Holds after every call that the library wrote
+// nowhere else, after a refused one that it wrote nothing but what its line in the header says, and that it took no more stack than the header says.
 import assert from 'node:assert/strict';
 import { readFileSync } from 'node:fs';
 
@@ -7,10 +7,10 @@ const MARK = 0xa5, STACK = 262144, ROOM = 4 * 65536; // the stack has the memory
 // The calls that leave every byte as it was where they are refused. The others then write zeros, or a line and a length.
 const STILL = /^(block|look|take|skip|ask|give_up|marks_)/;
 
-// The page's limits of stack.
+// The header's table of stack sizes.
 const most = {};
-for (const [, size, names] of readFileSync(new URL('../../docs/build/processors.md', import.meta.url), 'utf8').matchAll(/^\| ([\d,]+) bytes \| ([a-z0-9_, ]+) \|$/gm)) {
-  for (const name of names.split(', ')) most[name] = Number(size.replace(',', ''));
+for (const [, size, names] of readFileSync(new URL('../../include/jabulghi.h', import.meta.url), 'utf8').matchAll(/^ \*   ([\d,]+) bytes: (.*?)(?: \*\/)?$/gm)) {
+  for (const name of names.split(', ')) most[name.replace('jabulghi_', '')] = Number(size.replace(',', ''));
 }
 
 const { instance, module } = await WebAssembly.instantiate(readFileSync(process.argv[2]));
@@ -40,7 +40,7 @@ export function call(name, ...values) {
   assert(Buffer.compare(before, bytes.subarray(start)) === 0, `${name} wrote where it must not`);
   assert(Buffer.compare(tables, bytes.subarray(STACK, start)) === 0, `${name} wrote to the library's tables`);
   const deepest = bytes.subarray(0, STACK).findIndex(byte => byte !== MARK), taken = deepest < 0 ? 0 : STACK - deepest, limit = most[name.replace('_members', '')];
-  assert(taken <= limit, `${name} takes ${taken} bytes of stack, and the page says ${limit}`);
+  assert(taken <= limit, `${name} takes ${taken} bytes of stack, and the header says ${limit}`);
   return code;
 }
 

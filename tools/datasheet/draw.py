@@ -1,4 +1,4 @@
-"""Draws the pictures of the data sheet, docs/trust/datasheet/*.png, from docs/trust/datasheet/numbers.json. Needs Debian's python3-matplotlib."""
+"""Draws the pictures of the data sheet, docs/datasheet/*.png, from docs/datasheet/numbers.json. Needs Debian's python3-matplotlib."""
 import json, math, statistics
 import matplotlib
 
@@ -10,7 +10,7 @@ from sheet import GSL, proved
 BLUE, RED, GREY, GREEN, ORANGE = '#1f5fa8', '#c0392b', '#777777', '#2a8c4a', '#d98200'
 UNITS = 2048
 
-with open('docs/trust/datasheet/numbers.json', encoding='utf-8') as numbers_file:
+with open('docs/datasheet/numbers.json', encoding='utf-8') as numbers_file:
     numbers = json.load(numbers_file)
 
 
@@ -23,7 +23,7 @@ def panels(height=4.8):
 
 def save(figure, name):
     """With few colours, so that the file is small."""
-    path = f'docs/trust/datasheet/{name}.png'
+    path = f'docs/datasheet/{name}.png'
     figure.savefig(path, dpi=100)
     plt.close(figure)
     with Image.open(path) as picture:

@@ -1,12 +1,12 @@
 """figures.py PART FOLDER: works out from what the programs counted (FOLDER/*.tsv) the numbers of one part of the data sheet and puts them into
-docs/trust/datasheet/numbers.json, where those of the other parts stay."""
+docs/datasheet/numbers.json, where those of the other parts stay."""
 import json, math, os, sys
 import loops as closed
 
 UNITS = 2048  # of a sample, in a standard deviation
 LARGEST = 16879
 INPUTS = 2**64
-NUMBERS = 'docs/trust/datasheet/numbers.json'
+NUMBERS = 'docs/datasheet/numbers.json'
 TAILS = [1, 2, 3, 4, 5, 6, 7, 7.5, 8, 8.2]
 STEP = 32  # units of a step of the picture's curve
 

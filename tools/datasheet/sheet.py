@@ -1,15 +1,15 @@
-"""Fills in the text of the data sheet, tools/datasheet/sheet.md, from docs/trust/datasheet/numbers.json; what is proved of the distribution comes from the rows of specs/, the
-processors from the tables of docs/build/processors.md, the version from include/jabulghi.h.
+"""Fills in the text of the data sheet, tools/datasheet/sheet.md, from docs/datasheet/numbers.json; what is proved of the distribution comes from the rows of specs/, the
+processors from the tables of docs/PROCESSORS.md, the version from include/jabulghi.h.
 
-  python3 tools/datasheet/sheet.py         writes docs/trust/datasheet.md
-  python3 tools/datasheet/sheet.py check   holds that docs/trust/datasheet.md is what it would write"""
+  python3 tools/datasheet/sheet.py         writes docs/DATASHEET.md
+  python3 tools/datasheet/sheet.py check   holds that docs/DATASHEET.md is what it would write"""
 import difflib, json, math, os, re, statistics, sys
 
 sys.path.append(os.path.join(os.path.dirname(os.path.abspath(__file__)), '..'))
 import normal as normal_rows, tails as tail_rows
 from loops import SIGMA, TURN
 
-SHEET = 'docs/trust/datasheet.md'
+SHEET = 'docs/DATASHEET.md'
 INPUTS = 2**64
 UNITS = 2048
 LARGEST = 16879
@@ -22,7 +22,7 @@ PEERS = {
     'boost': 'Boost `normal_distribution`',
 }
 
-with open('docs/trust/datasheet/numbers.json', encoding='utf-8') as numbers_file:
+with open('docs/datasheet/numbers.json', encoding='utf-8') as numbers_file:
     numbers = json.load(numbers_file)
 
 
@@ -66,24 +66,28 @@ def size_of(sigma, place=0):
     return math.ceil(sigma * 2 ** tail_rows.LISTS[place][2])
 
 
-LONG = 10**12
-
-
-def short(n, up=False):
-    """A long number in 7 digits, rounded down, or up."""
-    digits = 10 ** (len(str(n)) - 7)
-    return scientific((n + digits - 1) // digits * digits if up else n // digits * digits, 6) if n >= LONG else plain(n)
-
-
 def between(row):
-    """The bounds of a row, rounded outward where they are long."""
-    low, high = short(row[0]), short(row[1], up=True)
-    return f'exactly {low}' if row[0] == row[1] else f'{low.split(" × ")[0] if "×" in low else low} to {high}'
+    return f'exactly {plain(row[0])}' if row[0] == row[1] else f'{plain(row[0])} to {plain(row[1])}'
 
 
 def at_most(n):
     """n in 10^8, rounded up."""
     return '0' if n == 0 else f'{n / 100:.2f} in 10^6' if n < 10**4 else f'{math.ceil(n / 1000) / 1000:.3f} %'
+
+
+def other_rows():
+    """The proved rows that are not in the table of tails."""
+    counted = {size_of(x) for x, _, _ in numbers['exact']['tails']}
+    yield '| samples | of this size or more | inputs of 2^64, proved | short of a normal number\'s by at most | above by at most |'
+    yield '|---|---:|---:|---:|---:|'
+    for place, bits in enumerate((16, 18)):
+        for size, row in proved(place).items():
+            if place or size not in counted:
+                sigma = size / 2 ** tail_rows.LISTS[place][2]
+                size = f'{plain(size)} {"unit" if size == 1 else "units"}' + (
+                    f', {float(f"{sigma:.4f}"):g} σ' if size > 1 else ''
+                )
+                yield f'| {bits} bits | {size} | {between(row)} | {at_most(row[2])} | {at_most(row[3])} |'
 
 
 def variance(name):
@@ -97,7 +101,7 @@ def variance(name):
 
 def tails():
     drawn, rows = numbers['drawn'], proved(0)
-    yield '| size or more | inputs of 2^64, proved | counted | short of normal, proved: at most | counted | of 10^10 drawn, seeds pi | seeds e | expected |'
+    yield '| of this size or more | inputs of 2^64, proved | counted | short of a normal number\'s share, proved: at most | counted | of 10^10 drawn, seeds pi | seeds e | expected |'
     yield '|---:|---:|---:|---:|---:|---:|---:|---:|'
     for j, (x, count, normal) in enumerate(numbers['exact']['tails']):
         lack = 1 - count / INPUTS / normal
@@ -108,7 +112,7 @@ def tails():
             f'{expected:,.0f}' if expected >= 10 else f'{expected:.1g}' if expected >= 0.01 else scientific(expected, 0)
         )
         row = rows[size_of(x)]
-        yield f'| {x} σ | {between(row)} | {short(2 * count)} | {at_most(row[2])} | {lack} | {found} | {expected} |'
+        yield f'| {x} σ | {between(row)} | {plain(2 * count)} | {at_most(row[2])} | {lack} | {found} | {expected} |'
 
 
 def moments():
@@ -128,18 +132,32 @@ def moments():
 
 
 def neighbours():
-    """The largest correlation of neighbouring samples, or of their squares, in standard errors."""
-    unit = math.sqrt(2 / numbers['drawn']['pi']['samples'])
-    return max(
-        abs(each[place]) / unit for seeds in SEEDS for each in numbers['drawn'][seeds]['neighbours'] for place in (1, 2)
-    )
+    drawn = numbers['drawn']
+    unit = math.sqrt(2 / drawn['pi']['samples'])
+    yield '| in standard errors, ' + scientific(
+        unit, 1
+    ) + ' | correlation, seeds pi | seeds e | of squares, seeds pi | seeds e |'
+    yield '|---|---:|---:|---:|---:|'
+    for one, other in zip(drawn['pi']['neighbours'], drawn['e']['neighbours']):
+        found = ' | '.join(places(each[place] / unit, 1) for place in (1, 2) for each in (one, other))
+        yield f'| {one[0]} | {found} |'
 
 
 TESTS = {'anderson-darling': 'Anderson-Darling', 'cells': 'χ² of σ/64', 'units': 'χ² of units'}
 
 
-def p_ours():
-    return ', '.join(f'{numbers["drawn"][seeds]["tests"][test][-1]:.3f}' for seeds in SEEDS for test in TESTS)
+def tests():
+    yield '| | samples | seeds | Anderson-Darling | p | χ², cells of σ/64 | p | χ², cells of a unit | p |'
+    yield '|---|---:|---|---:|---:|---:|---:|---:|---:|'
+    lines = [(who, '10^9', seeds, numbers['tests'][who][seeds]) for who in PEERS for seeds in SEEDS]
+    lines += [('jabulghi', '10^10', seeds, numbers['drawn'][seeds]['tests']) for seeds in SEEDS]
+    for who, samples, seeds, part in lines:
+        a, p = part['anderson-darling']
+        cells = ' | '.join(
+            f'{statistic:,.0f} of {freedom:,} | {chance:.3f}'
+            for statistic, freedom, chance in (part['cells'], part['units'])
+        )
+        yield f'| {PEERS[who]} | {samples} | {seeds} | {a:.2f} | {p:.3f} | {cells} |'
 
 
 def low_p():
@@ -180,12 +198,12 @@ def each_loop():
 
 
 def loops():
-    yield '| loop | | ellipse, mm | half within, mm | 90 % | 99 % | 99.9 % | beyond 3 σ | 4 σ | farthest off |'
-    yield '|---|---|---:|---:|---:|---:|---:|---:|---:|---:|'
+    yield '| loop | | rms east, mm | north | ellipse, mm | its bearing | half are within, mm | 90 % | 99 % | 99.9 % | beyond 3 σ | 4 σ | farthest off |'
+    yield '|---|---|---:|---:|---:|---:|---:|---:|---:|---:|---:|---:|---:|'
     for legs, loop in each_loop():
         plays = loop['pi']['plays']
         for of, name in (('closed', 'closed form'), ('pi', 'seeds pi'), ('e', 'seeds e')):
-            _, _, longer, shorter, _ = loop[of]['figures']
+            east, north, longer, shorter, bearing = loop[of]['figures']
             within, beyond = (
                 ' | '.join(each)
                 for each in (
@@ -195,7 +213,7 @@ def loops():
             )
             first = f'{legs} legs, {plain(round(loop["closed"]["metres"]))} m' if of == 'closed' else ''
             far = '' if of == 'closed' else f'{max(off(loop, of)):.1f}'
-            yield f'| {first} | {name} | {longer:,.1f}, {shorter:,.1f} | {within} | {beyond} | {far} |'
+            yield f'| {first} | {name} | {east:,.1f} | {north:,.1f} | {longer:,.1f}, {shorter:,.1f} | {bearing:.2f}° | {within} | {beyond} | {far} |'
 
 
 # ---- speed and size
@@ -211,15 +229,13 @@ def time_of(name, digits):
 
 def speeds():
     ziggurat = runs_of(GSL)
-    yield '| | ns a sample | beside GSL\'s ziggurat (least to greatest of five) |'
-    yield '|---|---:|---:|'
+    yield '| | ns a sample | beside GSL\'s ziggurat | spread of five runs |'
+    yield '|---|---:|---:|---:|'
     for name, unit, runs in numbers['speed']:
-        if unit == 'ns a sample' and not re.search(
-            r'of (2048|1024|512|256|128|32|16|8|4)$|plain C|C\+\+|gsl_ran_gaussian`', name
-        ):
+        if unit == 'ns a sample' and not re.search(r'of (2048|1024|512|256|128|32|8|4)$|plain C|C\+\+', name):
             ratios = sorted(time / other for time, other in zip(runs, ziggurat))
             name = name.replace('the same, rounded by a sum in place of `lrint`', 'the same, rounded by a sum')
-            yield f'| {name} | {statistics.median(runs):.2f} | {statistics.median(ratios):.3f} ({ratios[0]:.3f} to {ratios[-1]:.3f}) |'
+            yield f'| {name} | {statistics.median(runs):.2f} | {statistics.median(ratios):.3f} | {ratios[0]:.3f} to {ratios[-1]:.3f} |'
 
 
 def calls():
@@ -235,10 +251,23 @@ def calls():
     return ', '.join(form.format(time_of(name, digits)) for name, form, digits in listed)
 
 
+def stacks():
+    """The calls by the stack that they take, in groups; the calls of 18 bits take what those of 16 do, or less."""
+    stack = {
+        name: taken
+        for name, taken in numbers['memory']['stack'].items()
+        if not (name.endswith('18') and taken <= numbers['memory']['stack'][name[:-2]])
+    }
+    groups: dict[int, list[str]] = {}
+    for name, taken in sorted(stack.items(), key=lambda each: (each[1], each[0])):
+        groups.setdefault(taken, []).append(f'`{name}`')
+    return '; '.join(f'{", ".join(names)} {plain(taken)}' for taken, names in groups.items())
+
+
 def tables_of_processors():
-    """The cells of the tables of docs/build/processors.md by table, row and processor."""
+    """The cells of the tables of docs/PROCESSORS.md by table, row and processor."""
     cells, names = {}, None
-    with open('docs/build/processors.md', encoding='utf-8') as file:
+    with open('docs/PROCESSORS.md', encoding='utf-8') as file:
         for line in file:
             row = [cell.strip() for cell in line.strip('| \n').split('|')]
             if line.startswith(('| Instructions', '| Flash', '| Stack')):
@@ -275,7 +304,18 @@ def processors():
         'Instructions',
         'block of 64, a sample',
     )
+    yield row(
+        'a sample of a block of 4096',
+        times('block of 4096, a sample', time_of('`jabulghi_block` of 4096', 1), 1),
+        None,
+        None,
+    )
+    yield row(
+        'the same by jabulghi.js, which copies', times('block of 4096, a sample, by jabulghi.js', '', 1), None, None
+    )
+    yield row('a pair by jabulghi.js', times('pair, by jabulghi.js', '', 0), None, None)
     yield row('bytes of flash: seed and pair', ['', '', ''], 'Flash', 'seed pair')
+    yield row('seed and block', ['', '', ''], 'Flash', 'seed block')
     yield row(
         'all calls',
         [plain(numbers['memory']['code']), plain(numbers['wasm']['module']), plain(numbers['wasm']['module'])],
@@ -292,16 +332,21 @@ def processors():
 # ---- errors and seeds
 
 
-def worst(bits):
-    rows = [row for sweep in 'vk' for row in numbers['errors'][bits][sweep]['worst']]
-    which, k, v, _, error = max(rows, key=lambda row: abs(row[-1]))
-    return f'{error:.4f} ({which} sample of k = {k}, v = {v})'
+def worst():
+    yield '| samples | swept | worst first sample, units | at k, v | worst second sample | at k, v | proved below |'
+    yield '|---|---|---:|---|---:|---|---:|'
+    for bits, limit in (('16', '33/64 = 0.5156'), ('18', '3/4')):
+        for sweep, swept in (('v', 'every v, 187 k'), ('k', '2,000,000 k, 12 v')):
+            found = ' | '.join(
+                f'{error:.4f} | {k}, {v}' for _, k, v, _, error in numbers['errors'][bits][sweep]['worst']
+            )
+            yield f'| {bits} bits | {swept} | {found} | {limit} |'
 
 
 def firsts():
     yield '| s0, s1, s2 of both streams | first four pairs, σ |'
     yield '|---|---|'
-    for name, *samples in (numbers['seeds']['first'][0], numbers['seeds']['first'][-1]):
+    for name, *samples in numbers['seeds']['first']:
         pairs = '; '.join(f'{places(x, 2)}, {places(y, 2)}' for x, y in zip(samples[::2], samples[1::2]))
         yield f'| {name} | {pairs} |'
 
@@ -317,17 +362,15 @@ def of_distribution():
     count = len(tested) * len(SEEDS) * len(TESTS)
     return {
         'tails': tails,
+        'other-rows': other_rows,
         'moments': moments,
-        'neighbours': f'{math.ceil(neighbours() * 10) / 10:.1f}',
-        'correlations': str(4 * len(drawn['pi']['neighbours'])),
-        'p-ours': p_ours(),
-        **{f'worst-of-{bits}': worst(bits) for bits in ('16', '18')},
+        'neighbours': neighbours,
+        'tests': tests,
+        'worst': worst,
         'variance': variance('bounds'),
         'variance18': variance('bounds18'),
         **{f'inputs{x}': between(row) for x, row in rows.items()},
         **{f'least{x}': at_most(row[2]) for x, row in rows.items()},
-        **{f'least18-{x}': at_most(proved(1)[size_of(x, 1)][2]) for x in (6, 7, 8)},
-        'largest-inputs': between(proved(0)[LARGEST]),
         'above': at_most(max(row[3] for row in proved(0).values())),
         **{f'short{x}': f'{short[x] * 1e6:.{digits}f}' for x, digits in ((5, 1), (6, 1), (7, 0))},
         'short7.5': f'{short[7.5] * 100:.3f} %',
@@ -388,6 +431,7 @@ def of_speed_and_seeds():
         'speeds': speeds,
         'calls': calls(),
         'processors': processors,
+        'stacks': stacks(),
         'firsts': firsts,
         'engines': ', '.join(tail_rows.sought(r'^\D*[\d.]+', engine).group() for engine in numbers['wasm']['engines']),
         'small-first': f'{seeds["small"]["squares"][0]:.1f}',
@@ -462,7 +506,7 @@ def main(check=None):
                 [*found[:20], f'FAILED: {SHEET} is not what its numbers say; run python3 tools/datasheet/sheet.py']
             )
         )
-    print(f'{SHEET} is what docs/trust/datasheet/numbers.json, specs/, docs/build/processors.md and the header say')
+    print(f'{SHEET} is what docs/datasheet/numbers.json, specs/, docs/PROCESSORS.md and the header say')
 
 
 if __name__ == '__main__':

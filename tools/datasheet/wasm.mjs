@@ -1,4 +1,4 @@
-// Times of the library in WebAssembly (docs/build/web.md), in node and in Chromium: node wasm.mjs FOLDER, which has jabulghi.wasm and jabulghi.js. Prints
+// Times of the library in WebAssembly (docs/WEB.md), in node and in Chromium: node wasm.mjs FOLDER, which has jabulghi.wasm and jabulghi.js. Prints
 // "where TAB what TAB nanoseconds", the least of some short runs, all in turns.
 import { createServer } from 'node:http';
 import { readFileSync } from 'node:fs';

@@ -7,11 +7,10 @@
 >>> rig.count
 2
 
-`check` looks for a blunder in a cave, `tolerance` says how one loop compares with instrument noise: what the command says, tested, not proved. The rest are the
-proved calls of libjabulghi.
+`check` says whether a cave is sound, `tolerance` how one loop compares; both are the command's own sources, and not proved. The rest are the calls of libjabulghi.
 
-A sample s is s / 2048 standard deviations; of 18 bits, s / 8192. Each call does what jabulghi.h says. A refused call raises Refused and leaves generators,
-marks and buffers as they were; an unfit window becomes zeros.
+A sample s is s / 2048 standard deviations; of 18 bits, s / 8192. Each call does what jabulghi.h says of it. A refusal is raised as Refused, and leaves
+generator, marks and buffers as they were; an unfit window becomes zeros.
 """
 import ctypes
 import operator
@@ -43,7 +42,6 @@ from .judging import (
     Tolerance,
     Verdict,
     check,
-    one_of,
     seeds,
     tolerance,
 )
@@ -91,19 +89,14 @@ Misses = Union[List[Tuple[int, int]], "NDArray[numpy.int64]"]
 
 
 class Refused(ValueError):
-    """A call was refused: its code, the bad line of a text or 0, and a sentence that says why."""
+    """A call was refused: its number, the bad line of a text or 0, and the header's words."""
 
-    def __init__(self, code: int, line: int = 0) -> None:
-        self.code, self.line, self.sentence = Refusal(code), line, WORDS[code]
-        super().__init__(f"{f'line {line}: ' if line else ''}{self.sentence} ({code})")
-
-    @property
-    def number(self) -> Refusal:
-        """Another name of code."""
-        return self.code
+    def __init__(self, number: int, line: int = 0) -> None:
+        self.number, self.line, self.sentence = Refusal(number), line, WORDS[number]
+        super().__init__(f"{f'line {line}: ' if line else ''}{self.sentence} ({number})")
 
     def __reduce__(self) -> Tuple[Type["Refused"], Tuple[int, int]]:
-        return Refused, (int(self.code), self.line)
+        return Refused, (int(self.number), self.line)
 
 
 class _Record(ctypes.Structure):
@@ -144,13 +137,13 @@ _Sample = Union[Type[ctypes.c_int16], Type[ctypes.c_int32]]
 
 
 def _call(name: str, *values: object, line: Optional[_Line] = None) -> None:
-    code = getattr(library, "jabulghi_" + name)(*values)
-    if code:
-        raise Refused(code, line.value if line is not None else 0)
+    number = getattr(library, "jabulghi_" + name)(*values)
+    if number:
+        raise Refused(number, line.value if line is not None else 0)
 
 
 def _whole(value: SupportsIndex, least: int, most: int) -> int:
-    """A number in a range; ctypes would truncate one outside it."""
+    """ctypes would cut a number that is too large."""
     whole = operator.index(value)
     if not least <= whole <= most:
         raise OverflowError(f"{whole} is not between {least} and {most}")
@@ -170,15 +163,15 @@ def _bytes(text: Text) -> bytes:
 
 
 def _samples_of(buffer: Buffer, size: int) -> memoryview:
-    """A buffer of numbers of this size in bytes, in this machine's order."""
+    """A buffer of numbers of so many bytes, in this machine's order."""
     view = memoryview(cast(bytes, buffer))
     if view.itemsize != size or view.format.lstrip("@=<^") not in (("h",) if size == 2 else ("i", "l")):
         raise TypeError(f"samples are signed numbers of {8 * size} bits, not '{view.format}'")
     return view
 
 
-def _memory(buffer: Buffer, size: int) -> "ctypes.Array[ctypes.c_char]":
-    """The memory of a writable buffer, which cannot be resized while this lives."""
+def _lent(buffer: Buffer, size: int) -> "ctypes.Array[ctypes.c_char]":
+    """The memory of a buffer that can be written; it cannot be resized while this lives."""
     view = _samples_of(buffer, size)
     memory = (ctypes.c_char * view.nbytes).from_buffer(view)
     if view.nbytes and ctypes.addressof(memory) % size:
@@ -187,7 +180,7 @@ def _memory(buffer: Buffer, size: int) -> "ctypes.Array[ctypes.c_char]":
 
 
 def _room(samples: Union[int, Buffer], size: int) -> Buffer:
-    """The caller's buffer, or a new one for this many samples."""
+    """The buffer given, or a new one of that many samples."""
     if not isinstance(samples, int if numpy is None else (int, numpy.integer)):
         return cast(Buffer, samples)
     length = _whole(samples, 0, 2**62)
@@ -204,7 +197,7 @@ def _kept_from(kind: Type[_K], saved: bytes) -> _K:
 
 
 class _Kept:
-    """A struct of C. bytes() saves it and from_bytes restores it. Calls on one object from several threads run one after another."""
+    """A struct of C. bytes(it) can be saved, and from_bytes gives it back. Calls on one go one after another, in whatever threads."""
 
     _kind: Type[ctypes.Structure]
     __hash__ = None  # type: ignore[assignment]
@@ -214,7 +207,7 @@ class _Kept:
 
     @classmethod
     def from_bytes(cls: Type[_K], saved: bytes) -> _K:
-        """Restores what bytes() saved."""
+        """What bytes() saved."""
         if len(saved) != ctypes.sizeof(cls._kind):
             raise ValueError(f"{cls.__name__} has {ctypes.sizeof(cls._kind)} bytes")
         new = cls.__new__(cls)
@@ -237,7 +230,7 @@ class _Kept:
 
 
 class Generator(_Kept):
-    """A generator from six seeds. Where samples are returned, give their number, or a buffer to fill: array.array, numpy or any other."""
+    """A generator from six seeds. For samples give how many you want, or the buffer that they are written to: array.array, numpy or any other."""
 
     _kind = _Record
 
@@ -253,17 +246,17 @@ class Generator(_Kept):
 
     @property
     def count(self) -> int:
-        """The pairs drawn or skipped since seeding."""
+        """How many pairs were drawn since the seeds."""
         return int(self._kept.count)
 
     @property
     def open(self) -> bool:
-        """Whether a request is open."""
+        """Whether pairs are asked for and not taken."""
         return bool(self._kept.open)
 
     @property
     def asked(self) -> int:
-        """The pairs requested."""
+        """How many pairs are asked for."""
         return int(self._kept.asked)
 
     def __repr__(self) -> str:
@@ -283,7 +276,7 @@ class Generator(_Kept):
 
     def _fill(self, name: str, samples: Union[int, Buffer], size: int) -> Buffer:
         filled = _room(samples, size)
-        memory = _memory(filled, size)
+        memory = _lent(filled, size)
         self._run(name, ctypes.addressof(memory), ctypes.sizeof(memory) // size)
         return filled
 
@@ -307,7 +300,7 @@ class Generator(_Kept):
         return self._fill("block18", samples, 4)
 
     def look(self, samples: Union[int, Buffer]) -> Buffer:
-        """What block would give; the generator does not move."""
+        """The samples that block would give; the generator stays."""
         return self._fill("look", samples, 2)
 
     def look18(self, samples: Union[int, Buffer]) -> Buffer:
@@ -315,15 +308,15 @@ class Generator(_Kept):
         return self._fill("look18", samples, 4)
 
     def skip(self, pairs: int) -> None:
-        """Skips any number of pairs at once."""
+        """Moves on by so many pairs at once."""
         self._run("skip", _u64(pairs))
 
     def ask(self, pairs: int) -> None:
-        """Requests pairs, to be taken or given up before the next draw."""
+        """Asks for pairs, to be taken or given up before the next call."""
         self._run("ask", _u32(pairs))
 
     def take(self, samples: Union[None, int, Buffer] = None) -> Buffer:
-        """Takes the pairs requested: two samples for each."""
+        """What was asked for: two samples for each pair."""
         return self._fill("take", self._all_asked() if samples is None else samples, 2)
 
     def take18(self, samples: Union[None, int, Buffer] = None) -> Buffer:
@@ -331,7 +324,7 @@ class Generator(_Kept):
         return self._fill("take18", self._all_asked() if samples is None else samples, 4)
 
     def give_up(self) -> None:
-        """Gives up the request; its pairs are the next ones."""
+        """Gives up what was asked for: the pairs are the next ones."""
         self._run("give_up")
 
 
@@ -365,13 +358,13 @@ class Window(_Kept):
         return int(self._kept.squares)
 
     def push(self, sample: int) -> None:
-        """Pushes a sample; a full window drops its oldest one."""
+        """Adds a sample; the oldest goes once the window is full."""
         sample = _whole(sample, -(2**15), 2**15 - 1)
         with self._lock:
             _call("window_push_members", *self._members(), sample)
 
     def push_all(self, samples: Buffer) -> None:
-        """Pushes the samples of a buffer of int16."""
+        """Samples of 16 bits in a buffer."""
         memory = _samples_of(samples, 2).tobytes()
         with self._lock:
             _call(
@@ -389,7 +382,7 @@ def _is_generator(given: Generator) -> Generator:
 
 
 class Marks(_Kept):
-    """Up to 16 saved generators, by name."""
+    """Up to 16 generators' places, under names."""
 
     _kind = _Marks
 
@@ -408,20 +401,20 @@ class Marks(_Kept):
             )
 
     def save(self, generator: Generator, name: Text) -> None:
-        """Saves a generator under a name of 1 to 12 letters or digits."""
+        """Keeps where the generator is, under a name of 1 to 12 letters or digits."""
         self._run("save", name, _is_generator(generator))
 
     def return_to(self, generator: Generator, name: Text) -> None:
-        """Sets the generator back to the one saved under the name."""
+        """The generator goes back to where it was saved."""
         self._run("return", name, _is_generator(generator))
 
     def drop(self, name: Text) -> None:
-        """Drops a mark."""
+        """Forgets a name."""
         self._run("drop", name, None)
 
 
 class Miss(NamedTuple):
-    """How far a loop misses: east and north in mm, and both in mm times 2^30."""
+    """How far a loop misses: millimetres east and north, and both sums at 2^30."""
 
     east: int
     north: int
@@ -429,7 +422,7 @@ class Miss(NamedTuple):
 
 
 class Intervals(NamedTuple):
-    """The same for distances between two readings: lowest and highest; sums has east low, east high, north low, north high."""
+    """The same between two readings: the lowest and the highest of each; sums has east low, east high, north low, north high."""
 
     east: Tuple[int, int]
     north: Tuple[int, int]
@@ -473,7 +466,7 @@ def list_job(job: Text) -> str:
 
 
 def legs(survey: Text) -> str:
-    """A Survex text's level legs as shot lines."""
+    """The shot lines of a Survex text's level legs."""
     text = _bytes(survey)
     return _lines("legs", text, 3 * len(text) + 1, _SIZE())  # a leg of 10 bytes gives a shot line of at most 21
 
@@ -501,17 +494,11 @@ def intervals(listing: Text) -> Intervals:
     return Intervals((east_low, east_high), (north_low, north_high), sums)
 
 
-def play(
-    job: Text,
-    plays: Optional[int] = None,
-    first: int = 0,
-    *,
-    runs: Optional[int] = None,
-) -> Misses:
-    """How far a job's loop misses in each play, from play first on: rows of east and north in mm. runs is another name of plays."""
+def play(job: Text, runs: int, first: int = 0) -> Misses:
+    """How far a job's loop misses in each of so many plays: rows of east and north in millimetres."""
     text, misses, line = (
         _bytes(job),
-        ((ctypes.c_int64 * 2) * _whole(one_of(plays, runs), 0, 2**58))(),
+        ((ctypes.c_int64 * 2) * _whole(runs, 0, 2**58))(),
         _U32(),
     )
     _call(

@@ -13,7 +13,7 @@ _FILL, _LINES, _SUMS = (
     [_P, _SIZE, _P, _SIZE, _P, _P],
     [_P, _SIZE, _P, _P, _P],
 )
-# The calls of jabulghi.h; each returns a code.
+# The calls of jabulghi.h; each returns a number.
 CALLS = {
     "seed": [_U32] * 6 + [_P],
     "skip": [_P, _U64],
@@ -41,7 +41,7 @@ CALLS = {
     "marks_return_members": [_P] * 6 + [_SIZE],
     "marks_drop_members": [_P] * 5 + [_SIZE],
 }
-# The calls of bindings/judge.h, which only the wheel's library has: what each takes and returns.
+# The calls of bindings/judge.h, which the library of the wheel has besides: what each takes and returns.
 CASES = {
     "new": ([ctypes.c_char_p, ctypes.c_char_p, _SIZE, _P], _P),
     "free": ([_P], None),
@@ -61,8 +61,9 @@ CASES = {
 def _load() -> ctypes.CDLL:
     """The library of JABULGHI_LIBRARY, else the one in this folder, else the system's."""
     beside = os.path.join(os.path.dirname(__file__), "libjabulghi.so")
-    file = os.environ.get("JABULGHI_LIBRARY") or (beside if os.path.exists(beside) else "libjabulghi.so.1")
-    loaded = ctypes.CDLL(os.path.abspath(file) if os.path.exists(file) else file)
+    loaded = ctypes.CDLL(
+        os.environ.get("JABULGHI_LIBRARY") or (beside if os.path.exists(beside) else "libjabulghi.so.1")
+    )
     for name, types in CALLS.items():
         call = getattr(loaded, "jabulghi_" + name)
         call.argtypes, call.restype = types, _U32

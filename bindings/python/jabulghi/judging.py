@@ -1,4 +1,4 @@
-"""Is there a blunder in a cave, and how does one loop compare with instrument noise: `jabulghi check` and `jabulghi tolerance`, by the command's own sources."""
+"""Is a cave sound, and how does one loop compare: `jabulghi check` and `jabulghi tolerance`, by the command's own sources."""
 import ctypes
 import html
 import json
@@ -119,7 +119,7 @@ _Runs = TypedDict(
 
 
 class Message(NamedTuple):
-    """A message about a survey or an option: the file and line (0 for the whole file), or the option's name, and the text."""
+    """What is said of a survey, or of an option: the file and line (0 for all of it), or the option's name, and the words."""
 
     file: str
     line: int
@@ -128,7 +128,7 @@ class Message(NamedTuple):
 
 
 class NotJudged(ValueError):
-    """A survey or an option was refused; `messages` has everything that is wrong, and `str` prints it."""
+    """A survey or an option was refused; `messages` has all that is wrong, and `str` prints it."""
 
     def __init__(self, said: str, messages: Sequence[Message]) -> None:
         super().__init__(said.rstrip("\n"))
@@ -141,7 +141,7 @@ class NotJudged(ValueError):
 
 
 class Sigma(NamedTuple):
-    """A standard deviation: the least and the largest of all legs, and where they come from."""
+    """A standard deviation of the legs, from the least to the largest, and what gave it."""
 
     low: float
     high: float
@@ -149,7 +149,7 @@ class Sigma(NamedTuple):
 
 
 class Estimate(NamedTuple):
-    """A figure with its 95 % range."""
+    """A figure with its range of 95 %."""
 
     value: float
     low: float
@@ -157,7 +157,7 @@ class Estimate(NamedTuple):
 
 
 class Loop(NamedTuple):
-    """A loop: its miss in mm, and p, the share of plays in which it misses by as much."""
+    """A loop: its miss in mm, and the share p of sound loops that miss by as much."""
 
     legs: int
     length_m: float
@@ -172,8 +172,8 @@ class Loop(NamedTuple):
 
 
 class Suspect(NamedTuple):
-    """A leg that would explain the misses: the blunder in words, how likely it is (`share`), and the share of plays that look as bad as the
-    cave would with this leg corrected (`remains`)."""
+    """A leg that would explain the misses: the blunder in words, how sure (`share`), and the share of sound caves that look as bad as this one would,
+    corrected (`remains`)."""
 
     file: str
     line: int
@@ -189,7 +189,7 @@ class Suspect(NamedTuple):
 
 
 class Candidate(NamedTuple):
-    """A leg, counted from 1, whose correction would explain a loop's miss: by so many mm of distance, or degrees of bearing; the other is None."""
+    """A leg, counted from 1, whose correction would bring a loop's miss within the noise: its distance in mm, or its bearing in degrees, else None."""
 
     leg: int
     from_station: str
@@ -202,8 +202,8 @@ class Candidate(NamedTuple):
 _UNSTYLED = '<div style="max-width: 50em">{}{}<pre style="white-space: pre-wrap">{}</pre></div>'
 
 
-class _Printed:
-    """What the command prints, as text, JSON and SVG."""
+class _Told:
+    """What the command prints, as text, as JSON and as a picture."""
 
     def __init__(self, text: str, json_text: str, svg: str, messages: Sequence[Message]) -> None:
         self.text, self.json, self.svg, self.notes = (
@@ -224,30 +224,30 @@ class _Printed:
         )
 
 
-class Verdict(_Printed):
-    """What `jabulghi check` says of a cave: `text`, `json` and `svg` as the command prints them, `notes` on the survey, and the figures below."""
+class Verdict(_Told):
+    """What `jabulghi check` says of a cave: `text`, `json` and `svg` as the command prints them, `notes` of the reader, and the figures below."""
 
     def __init__(self, text: str, json_text: str, svg: str, messages: Sequence[Message]) -> None:
         super().__init__(text, json_text, svg, messages)
         self._data = cast(_Check, json.loads(json_text))
 
     def to_dict(self) -> _Check:
-        """What `jabulghi check --json` prints, as a new dictionary."""
+        """The members of `jabulghi check --json`, anew each time."""
         return cast(_Check, json.loads(self.json))
 
     @property
     def sound(self) -> Optional[bool]:
-        """Whether there is no sign of a blunder: p is at least 0.05; None if the cave has no loop."""
+        """Whether the cave is sound; None where it has no loop."""
         return self._data["sound"]
 
     @property
     def p(self) -> Optional[float]:
-        """The share of plays that look as bad; None if the cave has no loop."""
+        """The share of sound caves that look as bad; None where there is no loop."""
         return self._data["p"]
 
     @property
     def too_well(self) -> bool:
-        """Whether it closes better than all but 1 in 1,000 plays."""
+        """Whether it closes better than all but 1 in 1,000 sound caves."""
         return self._data["too_well"]
 
     @property
@@ -257,12 +257,12 @@ class Verdict(_Printed):
 
     @property
     def length_m(self) -> float:
-        """The total length of the legs."""
+        """The length of all legs."""
         return self._data["length_m"]
 
     @property
     def legs_in_no_loop(self) -> int:
-        """Legs that are in no loop, so that nothing tests them."""
+        """Legs that nothing is known of."""
         return self._data["legs_in_no_loop"]
 
     @property
@@ -286,7 +286,7 @@ class Verdict(_Printed):
 
     @property
     def suspects(self) -> Tuple[Suspect, ...]:
-        """The legs to look at, the likeliest first; none if there is no sign of a blunder."""
+        """The legs to look at, the best first; none where the cave is sound."""
         return tuple(
             Suspect(
                 s["file"],
@@ -306,42 +306,40 @@ class Verdict(_Printed):
 
     @property
     def sigmas(self) -> Dict[str, Sigma]:
-        """The standard deviations used: tape_mm, compass_degrees, clino_degrees and station_mm."""
+        """The standard deviations that were taken: tape_mm, compass_degrees, clino_degrees and station_mm."""
         ranges = {name: given for name, given in self._data["sigma"].items() if isinstance(given, dict)}
         return {name: Sigma(given["low"], given["high"], given["from"]) for name, given in ranges.items()}
 
     @property
     def factor(self) -> Estimate:
-        """The factor on all standard deviations that would make the loops agree with them."""
+        """What all errors would have to be multiplied by for the loops to agree with them."""
         return Estimate(**self._data["factor"])
 
     @property
     def station_mm(self) -> Estimate:
-        """The station error that fits the loops."""
+        """The station error that the loops fit."""
         return Estimate(**self._data["station_mm"])
 
     @property
     def seeds(self) -> Tuple[int, ...]:
-        """The seeds of the plays; the same seeds give the same verdict."""
+        """The seeds of the plays; with them the verdict is the same again."""
         return tuple(self._data["seeds"])
 
     @property
     def plays(self) -> int:
-        """The number of plays."""
+        """How many sound caves were played."""
         return self._data["plays"]
 
-    def _headline(self) -> str:
-        return {None: "No loop", True: "No sign of a blunder", False: "A sign of a blunder"}[self.sound]
-
     def __repr__(self) -> str:
-        return f"<jabulghi.Verdict: {self._headline().lower()}, legs {self.legs}, loops {len(self._data['loops'])}>"
+        word = {None: "no loop", True: "sound", False: "not sound"}[self.sound]
+        return f"<jabulghi.Verdict: {word}, legs {self.legs}, loops {len(self._data['loops'])}>"
 
     def _repr_html_(self) -> str:
-        return self._html(self._headline())
+        return self._html({None: "No loop", True: "Sound", False: "Not sound"}[self.sound])
 
 
-class Tolerance(_Printed):
-    """What `jabulghi tolerance` says of a loop: `text`, `json` and `svg` as the command prints them, `notes`, `misses` (east and north of each play in mm), and
+class Tolerance(_Told):
+    """What `jabulghi tolerance` says of a loop: `text`, `json` and `svg` as the command prints them, `notes`, `misses` (east and north of each run in mm), and
     the figures below."""
 
     def __init__(
@@ -357,18 +355,18 @@ class Tolerance(_Printed):
         self._data = cast(_Runs, json.loads(json_text))
 
     def to_dict(self) -> _Runs:
-        """What `jabulghi tolerance --json` prints, as a new dictionary."""
+        """The members of `jabulghi tolerance --json`, anew each time."""
         return cast(_Runs, json.loads(self.json))
 
     @property
     def miss(self) -> Tuple[float, float]:
-        """The miss judged: east and north in mm."""
+        """The miss that is judged: east and north in mm."""
         east, north = self._data["miss"]
         return east, north
 
     @property
     def share_beyond(self) -> float:
-        """The share of plays that miss by as much or more, measured by their ellipse."""
+        """The share of runs that miss by as much or more, by their ellipse."""
         return self._data["share_beyond"]
 
     @property
@@ -378,7 +376,7 @@ class Tolerance(_Printed):
 
     @property
     def candidates(self) -> Tuple[Candidate, ...]:
-        """Single legs whose correction would explain the miss, the best first; none if noise explains it."""
+        """Single legs whose correction would bring the miss within the noise, the best first; none where it is within it."""
         return tuple(
             Candidate(
                 c["leg"],
@@ -392,36 +390,31 @@ class Tolerance(_Printed):
         )
 
     @property
-    def plays(self) -> int:
-        """The number of plays."""
+    def runs(self) -> int:
+        """How many runs were played."""
         return self._data["runs"]
 
-    @property
-    def runs(self) -> int:
-        """Another name of plays."""
-        return self.plays
-
     def __repr__(self) -> str:
-        return f"<jabulghi.Tolerance: {100 * self.share_beyond:.2g} % of {self.plays} plays miss by as much>"
+        return f"<jabulghi.Tolerance: {100 * self.share_beyond:.2g} % of {self.runs} runs miss by as much>"
 
     def _repr_html_(self) -> str:
-        return self._html(f"Noise alone causes a miss this large in {100 * self.share_beyond:.2g} % of plays")
+        return self._html(f"{100 * self.share_beyond:.2g} % of sound loops miss by as much or more")
 
 
 # The texts of a case, in the order of bindings/judge.h.
 _SAID, _MESSAGES, _MISSING, _, _WORDS, _JSON, _SVG = range(7)
-# For all calls but plays, which may run at once.
+# Only plays run beside other calls.
 _LOCK = threading.Lock()
-# Seconds between two calls of progress.
+# Seconds of a stretch of plays.
 _STRETCH = 0.1
 
 
 def _words(options: Dict[str, Given]) -> bytes:
-    """The options as words of the command line, each with a NUL at its end."""
+    """The options as the command's words, each ended by a NUL."""
     given = [(name, str(value)) for name, value in options.items() if value is not None]
     for name, value in given:
         if "\0" in value:
-            raise ValueError(f"{name} contains a NUL")
+            raise ValueError(f"{name}: has a NUL")
     return b"".join(f"--{name}\0{value}\0".encode() for name, value in given)
 
 
@@ -441,7 +434,7 @@ class _Case:
 
     def __init__(self, command: str, options: Dict[str, Given], random: Sequence[int]) -> None:
         if not hasattr(library, "jabulghi_case_new"):
-            raise NotImplementedError("this library has no check; the wheel's library does")
+            raise NotImplementedError("the library of JABULGHI_LIBRARY has no check; the wheel's has")
         words = _words(options)
         self._at = library.jabulghi_case_new(command.encode(), words, len(words), (ctypes.c_uint32 * 6)(*random))
         if not self._at:
@@ -466,12 +459,12 @@ class _Case:
 
     def add(self, name: str, content: bytes) -> None:
         if "\0" in name:
-            raise ValueError("a file name contains a NUL")
+            raise ValueError("a name has a NUL")
         if not library.jabulghi_case_file(self._at, os.fsencode(name), content, len(content)):
             raise MemoryError
 
     def _add_missing(self) -> bool:
-        """Adds the included files that exist; whether there were any."""
+        """Adds the files that were looked for and are there; whether there are any."""
         names = [name for name in dict.fromkeys(self._text(_MISSING).splitlines()) if os.path.isfile(name)]
         for name in names:
             with open(name, "rb") as file:
@@ -479,7 +472,7 @@ class _Case:
         return bool(names)
 
     def begin(self, on_disk: bool) -> List[Message]:
-        """Reads the survey and the files that it includes; returns its notes."""
+        """Reads the survey, and with it the files that it includes; its notes."""
         with _LOCK:
             status = library.jabulghi_case_begin(self._at)
             while on_disk and self._add_missing():
@@ -490,12 +483,12 @@ class _Case:
             return messages
 
     def _play(self, stretch: range) -> None:
-        code = library.jabulghi_case_play(self._at, stretch.start, len(stretch))
-        if code:
-            raise NotJudged(f"the plays are refused ({code})", ())
+        number = library.jabulghi_case_play(self._at, stretch.start, len(stretch))
+        if number:
+            raise NotJudged(f"the plays are refused ({number})", ())
 
     def play(self, jobs: int, progress: Optional[Progress]) -> int:
-        """Plays all, several stretches at a time, or until progress returns False; returns how many were played."""
+        """Plays all, several stretches at a time, or until progress says no; how many are played."""
         plays, least, done, size = (
             library.jabulghi_case_plays(self._at),
             library.jabulghi_case_least(self._at),
@@ -515,24 +508,16 @@ class _Case:
         return done
 
     def end(self, plays: int) -> Tuple[str, str, str]:
-        """The verdict as text, JSON and SVG."""
+        """The texts: words, JSON and SVG."""
         with _LOCK:
             if library.jabulghi_case_end(self._at, plays, 0) == 2:
                 raise MemoryError
             return self._text(_WORDS), self._text(_JSON), self._text(_SVG)
 
-    def misses(self, plays: int) -> List[Tuple[int, int]]:
-        two = (ctypes.c_int32 * (2 * plays))()
-        library.jabulghi_case_misses(self._at, plays, two)
+    def misses(self, runs: int) -> List[Tuple[int, int]]:
+        two = (ctypes.c_int32 * (2 * runs))()
+        library.jabulghi_case_misses(self._at, runs, two)
         return list(zip(two[::2], two[1::2]))
-
-
-def one_of(plays: Optional[int], runs: Optional[int], default: Optional[int] = None) -> int:
-    """The number of plays, under either name."""
-    given = [number for number in (plays, runs, default if plays is runs is None else None) if number is not None]
-    if len(given) != 1:
-        raise TypeError("plays is missing, or given twice")
-    return given[0]
 
 
 def _comma(seeds: Optional[Sequence[int]]) -> Optional[str]:
@@ -541,12 +526,12 @@ def _comma(seeds: Optional[Sequence[int]]) -> Optional[str]:
 
 def _jobs(jobs: Optional[int]) -> int:
     if jobs is not None and not 1 <= jobs <= 256:
-        raise ValueError("jobs must be 1 to 256")
+        raise ValueError("jobs: 1 to 256")
     return jobs or min(256, os.cpu_count() or 1)
 
 
 def _draw() -> Tuple[int, ...]:
-    """Six numbers from the system's randomness, drawn again if the library refuses them as seeds."""
+    """Six numbers from the system's randomness, drawn again where the library refuses them as seeds."""
     record = ctypes.create_string_buffer(40)
     while True:
         numbers = tuple(secrets.randbits(32) for _ in range(6))
@@ -571,12 +556,12 @@ def check(
     jobs: Optional[int] = None,
     progress: Optional[Progress] = None,
 ) -> Verdict:
-    """Is there a blunder in this cave? What `jabulghi check` says of a survey, a job or a listing. A play is the survey with instrument noise and no blunder.
+    """Is this cave sound? What `jabulghi check` says of a survey, a job or a listing.
 
-    `survey` is the path of a file, or a text: bytes, or a string with a line feed, which messages call `name`. Files that a file includes are read, too.
-    `sigma` ("tape=10mm,compass=1deg"), `trip` ("0.5deg"), `plays`, `first` and `seeds` are the command's options; without seeds, six are drawn. The plays run in
-    `jobs` threads, by default one for each processor; other threads of Python can run meanwhile. `progress(done, all)` is called about ten times a second; if it
-    returns False, the verdict is that of the plays so far. Raises NotJudged, with all messages, if the survey or an option is refused.
+    `survey` is the path of a file, with which the files that it includes are read, or a text: bytes, or a string with a line feed, which messages call `name`.
+    `sigma` ("tape=10mm,compass=1deg"), `trip` ("0.5deg"), `plays`, `first` and `seeds` are the command's options; without seeds some are drawn. The plays run in
+    so many threads as `jobs` says, one for each processor if it does not, and other threads go on meanwhile. `progress(done, all)` is called about ten times a
+    second; where it returns False, the verdict is that of the plays so far. Raises NotJudged, with all messages, where the survey or an option is refused.
     """
     called, content, on_disk = _source(survey, name)
     options: Dict[str, Given] = {
@@ -595,10 +580,9 @@ def check(
 def tolerance(
     survey: Survey,
     sigma: Optional[str] = None,
-    plays: Optional[int] = None,
+    runs: int = 10000,
     seeds: Optional[Sequence[int]] = None,
     *,
-    runs: Optional[int] = None,
     miss: Optional[Tuple[float, float]] = None,
     loop: Optional[int] = None,
     first: int = 0,
@@ -608,15 +592,14 @@ def tolerance(
 ) -> Tolerance:
     """How does the miss of one loop compare with instrument noise? What `jabulghi tolerance` says of a survey, a job or a listing.
 
-    `sigma` is needed unless the survey is a job. `plays` is 10,000 by default, and `runs` is another name of it. `miss` (east and north in mm) is judged instead
-    of the loop's own, and `loop` chooses one of several. The other arguments are those of check.
-    """
+    `sigma` is needed but for a job; `miss` (east and north in mm) is judged instead of the loop's own, and `loop` chooses one of several. The other
+    arguments are those of check."""
     called, content, on_disk = _source(survey, name)
     given = None if miss is None else f"{miss[0]:.6f},{miss[1]:.6f}"
     options: Dict[str, Given] = {
         "sigma": sigma,
         "seeds": _comma(seeds),
-        "plays": one_of(plays, runs, 10000),
+        "runs": runs,
         "first": first,
     }
     options.update({"miss": given, "loop": loop})

@@ -7,7 +7,7 @@ MOST_ASKED = 1000000
 
 
 class Refusal(enum.IntEnum):
-    """Why a call was refused: the codes of jabulghi.h."""
+    """Why a call was refused: the numbers of jabulghi.h."""
 
     K_TOO_LARGE = 2
     V_TOO_LARGE = 3
@@ -40,24 +40,24 @@ WORDS = {
     3: "v above 65535",
     4: "block of odd length",
     5: "job over 60,000 bytes",
-    6: "line has none of the three forms or no line feed; in a listing: line is malformed, missing or has a wrong count",
+    6: "line is none of the three forms, or lacks its line feed; in a listing: unlike its lines, missing, or a false count",
     7: "number beyond its range",
     8: "form in the wrong place, or text ends before line 2",
     9: "501st shot",
     10: "listing or shot lines longer than the buffer",
     11: "a register of stream a below its minimum",
-    12: "a register of stream b below its minimum",
+    12: "a register of stream b below its minimum, stream a being fit",
     13: "the count would pass 2^64 - 1",
     14: "a request is open: take it or give it up first",
     15: "no request is open",
-    16: "more than 1,000,000 pairs requested, or a block without exactly two samples for each pair",
+    16: "more than 1,000,000 pairs, asked or noted, or a block not of two samples for each",
     17: "a window's N outside 1 to 4096, more than N held, a place outside it, or a sum beyond 2^42 in size",
     18: "a mark's name is not 1 to 12 letters or digits",
     19: "no mark has that name",
     20: "all 16 places are used, and the name is new",
-    21: "Survex: no data line, line is not a leg, malformed name or number, or no line feed",
+    21: "Survex: no data line, or line is no leg, a name or number has not its form, or no line feed",
     22: "Survex: tape above 1000 m, compass above 360 degrees, or clino not the single digit 0",
-    23: "a shot does not start where the one before ended",
+    23: "a shot that does not start where the one before ended",
     24: "a listing's 501st shot, distance above 1,008,242 mm or step above 65535",
-    25: "a shot's shortest distance is above its longest",
+    25: "a shot whose shortest distance is above its longest",
 }

@@ -1,4 +1,4 @@
-//! Proved Gaussian noise for simulated survey instruments: the calls of libjabulghi. `no_std`, without allocation.
+//! Gaussian noise for simulated survey instruments: the calls of libjabulghi. `no_std`, and nothing is allocated.
 //!
 //! ```
 //! # fn main() -> Result<(), jabulghi::Refusal> {
@@ -11,18 +11,18 @@
 //! # }
 //! ```
 //!
-//! Each call does what jabulghi.h says. A refused call changes nothing, except that an unfit window becomes zeros.
+//! Each call does what jabulghi.h says of it. A refused call changes nothing; an unfit window becomes zeros.
 #![no_std]
 #![warn(missing_docs)]
 
 use core::fmt;
 
 #[cfg(target_endian = "big")]
-compile_error!("jabulghi: there is no library for big-endian processors");
+compile_error!("jabulghi: the lowest byte of a number comes first");
 
 macro_rules! refusals {
     ($($name:ident = $number:literal, $words:literal;)*) => {
-        /// Why a call was refused: the codes of jabulghi.h.
+        /// Why a call was refused: the numbers of jabulghi.h.
         #[derive(Clone, Copy, Debug, PartialEq, Eq, Hash)]
         #[non_exhaustive]
         #[repr(u32)]
@@ -34,12 +34,7 @@ macro_rules! refusals {
             /// All of them.
             pub const ALL: &'static [Refusal] = &[$(Refusal::$name,)*];
 
-            /// The code that the C call returns.
-            pub const fn code(self) -> u32 {
-                self as u32
-            }
-
-            /// Another name of [`Refusal::code`].
+            /// The number that the C call returns.
             pub const fn number(self) -> u32 {
                 self as u32
             }
@@ -49,11 +44,11 @@ macro_rules! refusals {
                 match self { $(Refusal::$name => $words,)* }
             }
 
-            fn check(code: u32) -> Result<(), Refusal> {
-                match code {
+            fn check(number: u32) -> Result<(), Refusal> {
+                match number {
                     0 => Ok(()),
                     $($number => Err(Refusal::$name),)*
-                    _ => unreachable!("libjabulghi returned {code}"),
+                    _ => unreachable!("libjabulghi returned {number}"),
                 }
             }
         }
@@ -63,13 +58,13 @@ include!("refusals.rs");
 
 impl fmt::Display for Refusal {
     fn fmt(&self, f: &mut fmt::Formatter) -> fmt::Result {
-        write!(f, "{} ({})", self.words(), self.code())
+        write!(f, "{} ({})", self.words(), self.number())
     }
 }
 
 impl core::error::Error for Refusal {}
 
-/// Why a text was refused, and its bad line; 0 if the refusal is about no line.
+/// Why a text was refused, and its bad line; 0 where none is meant.
 #[derive(Clone, Copy, Debug, PartialEq, Eq, Hash)]
 pub struct TextRefusal {
     /// Why.
@@ -79,8 +74,8 @@ pub struct TextRefusal {
 }
 
 impl TextRefusal {
-    fn check(code: u32, line: usize) -> Result<(), TextRefusal> {
-        Refusal::check(code).map_err(|refusal| TextRefusal { refusal, line })
+    fn check(number: u32, line: usize) -> Result<(), TextRefusal> {
+        Refusal::check(number).map_err(|refusal| TextRefusal { refusal, line })
     }
 }
 
@@ -145,7 +140,7 @@ extern "C" {
         text_length: usize,
         first: u64,
         misses: *mut [i64; 2],
-        plays: usize,
+        runs: usize,
         line: *mut u32,
     ) -> u32;
     fn jabulghi_window_make_members(
@@ -204,9 +199,9 @@ extern "C" {
     ) -> u32;
 }
 
-// Each call below passes references, and slices with their own lengths: jabulghi.h requires no more of a pointer.
+// Each call below passes references and slices on, with their own lengths: the header asks for no more of a pointer.
 
-/// A generator: the record of jabulghi.h, with public fields so that you can save it. It is `Clone`, not `Copy`: a copy gives the same noise again.
+/// A generator: the header's record, whose members are open to be kept. It is `Clone` and not `Copy`: a copy gives the same noise again.
 #[repr(C)]
 #[derive(Clone, Debug, Default, PartialEq, Eq)]
 pub struct Generator {
@@ -214,28 +209,28 @@ pub struct Generator {
     pub a: [u32; 3],
     /// The registers of stream b.
     pub b: [u32; 3],
-    /// The pairs drawn or skipped since seeding.
+    /// The pairs that were handed out or skipped since seeding.
     pub count: u64,
-    /// Not 0 while a request is open.
+    /// Whether a request is open: not 0.
     pub open: u32,
-    /// The pairs requested.
+    /// For how many pairs.
     pub asked: u32,
 }
 
 impl Generator {
-    /// Seeds a generator: three seeds of stream a, three of stream b.
+    /// A generator from the seeds of streams a and b.
     pub fn seed([a0, a1, a2, b0, b1, b2]: [u32; 6]) -> Result<Generator, Refusal> {
         let mut made = Generator::default();
         Refusal::check(unsafe { jabulghi_seed(a0, a1, a2, b0, b1, b2, &mut made) }).map(|()| made)
     }
 
-    /// The next pair.
+    /// One pair.
     pub fn pair(&mut self) -> Result<[i16; 2], Refusal> {
         let mut samples = [0; 2];
         Refusal::check(unsafe { jabulghi_pair(self, samples.as_mut_ptr()) }).map(|()| samples)
     }
 
-    /// The next pair, of 18 bits.
+    /// One pair of 18 bits.
     pub fn pair18(&mut self) -> Result<[i32; 2], Refusal> {
         let mut samples = [0; 2];
         Refusal::check(unsafe { jabulghi_pair18(self, samples.as_mut_ptr()) }).map(|()| samples)
@@ -251,27 +246,27 @@ impl Generator {
         Refusal::check(unsafe { jabulghi_block18(self, samples.as_mut_ptr(), samples.len()) })
     }
 
-    /// What `fill` would give; the generator does not move.
+    /// The samples that `fill` would give.
     pub fn look(&self, samples: &mut [i16]) -> Result<(), Refusal> {
         Refusal::check(unsafe { jabulghi_look(self, samples.as_mut_ptr(), samples.len()) })
     }
 
-    /// What `fill18` would give; the generator does not move.
+    /// The samples that `fill18` would give.
     pub fn look18(&self, samples: &mut [i32]) -> Result<(), Refusal> {
         Refusal::check(unsafe { jabulghi_look18(self, samples.as_mut_ptr(), samples.len()) })
     }
 
-    /// Skips any number of pairs at once.
+    /// Moves by any number of pairs at once.
     pub fn skip(&mut self, pairs: u64) -> Result<(), Refusal> {
         Refusal::check(unsafe { jabulghi_skip(self, pairs) })
     }
 
-    /// Requests pairs, to be taken or given up later.
+    /// Asks for so many pairs.
     pub fn ask(&mut self, pairs: u32) -> Result<(), Refusal> {
         Refusal::check(unsafe { jabulghi_ask(self, pairs) })
     }
 
-    /// Takes the pairs requested: two samples for each.
+    /// What was asked for: two samples for each pair.
     pub fn take(&mut self, samples: &mut [i16]) -> Result<(), Refusal> {
         Refusal::check(unsafe { jabulghi_take(self, samples.as_mut_ptr(), samples.len()) })
     }
@@ -281,7 +276,7 @@ impl Generator {
         Refusal::check(unsafe { jabulghi_take18(self, samples.as_mut_ptr(), samples.len()) })
     }
 
-    /// Gives up the request.
+    /// Gives the request up.
     pub fn give_up(&mut self) -> Result<(), Refusal> {
         Refusal::check(unsafe { jabulghi_give_up(self) })
     }
@@ -301,7 +296,7 @@ pub struct Window {
 }
 
 impl Window {
-    /// All fields 0: not a window until `make`.
+    /// Members of zeros, which are no window until `make`.
     pub const ZEROS: Window = Window { size: 0, held: 0, place: 0, places: [0; 4096], sum: 0, squares: 0 };
 
     /// A window for the latest `size` samples.
@@ -310,7 +305,7 @@ impl Window {
         made.make(size).map(|()| made)
     }
 
-    /// Makes it an empty window.
+    /// Makes it anew.
     pub fn make(&mut self, size: u32) -> Result<(), Refusal> {
         let places = self.places.as_mut_ptr();
         Refusal::check(unsafe {
@@ -326,7 +321,7 @@ impl Window {
         })
     }
 
-    /// Pushes one sample.
+    /// One sample.
     pub fn push(&mut self, sample: i16) -> Result<(), Refusal> {
         let places = self.places.as_mut_ptr();
         Refusal::check(unsafe {
@@ -342,7 +337,7 @@ impl Window {
         })
     }
 
-    /// Pushes samples one by one.
+    /// Many samples.
     pub fn push_all(&mut self, samples: &[i16]) -> Result<(), Refusal> {
         let (places, all, length) = (self.places.as_mut_ptr(), samples.as_ptr(), samples.len());
         Refusal::check(unsafe {
@@ -360,7 +355,7 @@ impl Window {
     }
 }
 
-/// Up to 16 saved generators, by name.
+/// Up to 16 places of generators, under names.
 #[repr(C)]
 #[derive(Clone, Debug, Default, PartialEq, Eq)]
 #[allow(missing_docs)]
@@ -372,7 +367,7 @@ pub struct Marks {
 }
 
 impl Marks {
-    /// Saves a generator under a name of 1 to 12 letters or digits.
+    /// Saves a generator's place under a name.
     pub fn save(&mut self, generator: &Generator, name: &[u8]) -> Result<(), Refusal> {
         let (used, lengths, names, records) = (
             self.used.as_mut_ptr(),
@@ -385,7 +380,7 @@ impl Marks {
         })
     }
 
-    /// Sets the generator back to the one saved under the name.
+    /// The generator goes back to where it was saved.
     pub fn return_to(&self, generator: &mut Generator, name: &[u8]) -> Result<(), Refusal> {
         let (used, lengths, names, records) =
             (self.used.as_ptr(), self.length.as_ptr(), self.names.as_ptr().cast(), self.records.as_ptr());
@@ -420,7 +415,7 @@ pub fn sample18(k: u64, v: u32) -> Result<[i32; 2], Refusal> {
     Refusal::check(unsafe { jabulghi_sample18(k, v, samples.as_mut_ptr()) }).map(|()| samples)
 }
 
-/// Writes the listing of a job to the start of a slice, and returns that part.
+/// The listing of a job, which is the start of the slice given.
 ///
 /// ```
 /// let job = b"(seeds (a 2 8 16) (b 2 8 16))\n(sigma 0 0)\n(shot A B 1000 0)\n";
@@ -430,21 +425,21 @@ pub fn sample18(k: u64, v: u32) -> Result<[i32; 2], Refusal> {
 /// ```
 pub fn list<'a>(job: &[u8], listing: &'a mut [u8]) -> Result<&'a [u8], TextRefusal> {
     let (mut line, mut length) = (0, 0);
-    let code =
+    let number =
         unsafe { jabulghi_list(job.as_ptr(), job.len(), listing.as_mut_ptr(), listing.len(), &mut line, &mut length) };
-    TextRefusal::check(code, line as usize).map(|()| &listing[..length])
+    TextRefusal::check(number, line as usize).map(|()| &listing[..length])
 }
 
-/// Writes a Survex text's level legs as shot lines to the start of a slice, and returns that part.
+/// The shot lines of a Survex text's level legs, which are the start of the slice given.
 pub fn legs<'a>(survey: &[u8], shots: &'a mut [u8]) -> Result<&'a [u8], TextRefusal> {
     let (mut line, mut length) = (0, 0);
-    let code = unsafe {
+    let number = unsafe {
         jabulghi_legs(survey.as_ptr(), survey.len(), shots.as_mut_ptr(), shots.len(), &mut line, &mut length)
     };
-    TextRefusal::check(code, line).map(|()| &shots[..length])
+    TextRefusal::check(number, line).map(|()| &shots[..length])
 }
 
-/// How far a loop misses: in mm times 2^30 and in mm.
+/// How far a loop misses: sums at 2^30, and millimetres.
 #[derive(Clone, Copy, Debug, PartialEq, Eq)]
 #[allow(missing_docs)]
 pub struct Miss<const N: usize> {
@@ -455,24 +450,24 @@ pub struct Miss<const N: usize> {
 /// How far the loop of a listing misses, east and north.
 pub fn misclosure(listing: &[u8]) -> Result<Miss<2>, TextRefusal> {
     let (mut sums, mut millimetres, mut line) = ([0; 2], [0; 2], 0);
-    let code = unsafe {
+    let number = unsafe {
         jabulghi_misclosure(listing.as_ptr(), listing.len(), sums.as_mut_ptr(), millimetres.as_mut_ptr(), &mut line)
     };
-    TextRefusal::check(code, line as usize).map(|()| Miss { sums, millimetres })
+    TextRefusal::check(number, line as usize).map(|()| Miss { sums, millimetres })
 }
 
-/// The same for distances between two readings: east low, east high, north low, north high.
+/// The same between two readings: east low, east high, north low, north high.
 pub fn intervals(listing: &[u8]) -> Result<Miss<4>, TextRefusal> {
     let (mut sums, mut millimetres, mut line) = ([0; 4], [0; 4], 0);
-    let code = unsafe {
+    let number = unsafe {
         jabulghi_intervals(listing.as_ptr(), listing.len(), sums.as_mut_ptr(), millimetres.as_mut_ptr(), &mut line)
     };
-    TextRefusal::check(code, line as usize).map(|()| Miss { sums, millimetres })
+    TextRefusal::check(number, line as usize).map(|()| Miss { sums, millimetres })
 }
 
-/// How far a job's loop misses in each play, from play `first` on: east and north in mm.
+/// How far a job's loop misses in each play from the first on: east and north in millimetres.
 pub fn play(job: &[u8], first: u64, misses: &mut [[i64; 2]]) -> Result<(), TextRefusal> {
     let mut line = 0;
-    let code = unsafe { jabulghi_play(job.as_ptr(), job.len(), first, misses.as_mut_ptr(), misses.len(), &mut line) };
-    TextRefusal::check(code, line as usize)
+    let number = unsafe { jabulghi_play(job.as_ptr(), job.len(), first, misses.as_mut_ptr(), misses.len(), &mut line) };
+    TextRefusal::check(number, line as usize)
 }
