@@ -30,21 +30,15 @@ few : (t K : ℕ) → t ≤ 64 → K < 2 ^ 41 → t * K < 2 ^ 64
 few t K h k = omega (arith, mul-le-mul h k)
 
 pub overflow_mul-doublings : goal.overflow_mul-doublings
-overflow_mul-doublings c = record { fits = few _ _ (omega arith) (omega (arith, c.ln_two.ensures, bounds.ln_two)) }
-
--- after the row of h
-few_z : (c : goal.After-coarse-row) → c.args.z / 65536 < 2 ^ 48
-few_z c = few_bits _ c.ranges.z.fits
+overflow_mul-doublings c = record { fits = few _ _ (omega arith) (omega (arith, c.ln_two.ensures, bounds.ln_two_lem)) }
 
 pub overflow_add-place : goal.overflow_add-place
 overflow_add-place c =
-    let at = c in
-    record { fits = place_fits _ (few_z at) _ _ _ (scaled_is _ (few_z at) _ _ _ at.top_bit-e.ensures.0 (omega arith) (omega arith)) (omega arith) at.coarse-row.ensures.1 }
+    let few_z : c.args.z / 65536 < 2 ^ 48 = few_bits _ c.ranges.z.fits in
+    record { fits = place_fits _ few_z _ _ _ (scaled_is _ few_z _ _ _ c.top_bit-e.ensures.0 (omega arith) (omega arith)) (omega arith) c.coarse-row.ensures.1 }
 
 pub returns : goal.returns
 returns c =
-    let fine = c in
-    let ln_two_lem = fine in
-    let at = ln_two_lem in
-    cell_is _ (few_z at) _ _ _ (scaled_is _ (few_z at) _ _ _ at.top_bit-e.ensures.0 (omega arith) (omega arith)) (omega arith) at.coarse-row.ensures.1
-    _ _ _ _ _ _ at.coarse-row.ensures.0 fine.fine-b.ensures ln_two_lem.ln_two.ensures at.top_bit-e.ensures.0 (omega arith) c.wrapping_sub_u64.ensures.value
+    let few_z : c.args.z / 65536 < 2 ^ 48 = few_bits _ c.ranges.z.fits in
+    cell_is _ few_z _ _ _ (scaled_is _ few_z _ _ _ c.top_bit-e.ensures.0 (omega arith) (omega arith)) (omega arith) c.coarse-row.ensures.1
+    _ _ _ _ _ _ c.coarse-row.ensures.0 c.fine-b.ensures c.ln_two.ensures c.top_bit-e.ensures.0 (omega arith) c.wrapping_sub_u64.ensures.value
