@@ -1,8 +1,7 @@
 -- `text::buffer::digits_of` meets its contract.
-use Rattle.std.proofs.Common.{◌/◌, arith, refl, sym, ◌∙◌, append-nil, length-set, length}
+use Rattle.std.proofs.Common.{◌/◌, arith, refl, sym, ◌∙◌, append-nil, length-set}
 use Rattle.text.proofs.Decimal.{decimal_length, decimal_some}
 use Rattle.text.proofs.Writing.{digit_step, digit_last, length_more}
-use Rattle.text.specs.Fields.{decimal}
 use Rattle.text.proofs.buffer.digits_of.Goals as goal
 
 pub loop-rest-init : goal.loop-rest-init

@@ -14,7 +14,7 @@ returns-then-out-next c =
     let at = c in
     let p = c.put-next in
     then_puts at.args.out.now at.args.at at.args.bytes.now (at.args.end ∷ []) p.ensures
-    (put_none p.new.0 p.result at.args.end c.if-out-next.true)
+    (put_none p.new.out p.result at.args.end c.if-out-next.true)
 
 pub bounds-out-next : goal.bounds-out-next
 bounds-out-next c = c.if-out-next.false
@@ -24,4 +24,4 @@ returns c =
     let at = c in
     let p = c.put-next in
     then_puts at.args.out.now at.args.at at.args.bytes.now (at.args.end ∷ []) p.ensures
-    (put_one p.new.0 p.result at.args.end c.if-out-next.false)
+    (put_one p.new.out p.result at.args.end c.if-out-next.false)

@@ -1,5 +1,5 @@
 -- `is_same` meets its contract: what is the same from byte i on is the same from the start.
-use Rattle.std.proofs.Common.{◌-◌, refl, length}
+use Rattle.std.proofs.Common.{refl}
 use Rattle.text.proofs.SameBytes.{same_lengths, same_on, same_off, same_end}
 use Rattle.text.proofs.field.is_same.Goals as goal
 

@@ -1,7 +1,6 @@
 -- `text::field::only_letters_or_digits` meets its contract.
-use Rattle.std.proofs.Common.{◌-◌, arith, sym, ◌∙◌}
-use borrow.Author.Tests.{not-true, not-false}
-use Rattle.text.specs.Fields.{all, letter_or_digit}
+use Rattle.std.proofs.Common.{arith, sym, ◌∙◌}
+use Rattle.text.specs.Fields.{letter_or_digit}
 use Rattle.text.proofs.Scan.{all_stop, all_step, all_end}
 use Rattle.text.proofs.field.only_letters_or_digits.Goals as goal
 
@@ -10,7 +9,7 @@ returns-then-not-is_letter_or_digit c =
     let at = c in
     let test = c.loop-i-test.true in
     all_stop letter_or_digit _ at.loop-i.i at.loop-i.invariant.1 test
-    (sym c.is_letter_or_digit.ensures ∙ not-true _ c.if-not-is_letter_or_digit.true)
+    (sym c.is_letter_or_digit.ensures ∙ c.if-not-is_letter_or_digit.true)
 
 pub loop-i-preserved : goal.loop-i-preserved
 loop-i-preserved c =
@@ -18,7 +17,7 @@ loop-i-preserved c =
     let test = c.loop-i-test.true in (
       omega arith,
       all_step letter_or_digit _ at.loop-i.i at.loop-i.invariant.1 test
-          (sym c.is_letter_or_digit.ensures ∙ not-false _ c.if-not-is_letter_or_digit.false),
+          (sym c.is_letter_or_digit.ensures ∙ c.if-not-is_letter_or_digit.false),
     )
 
 pub returns : goal.returns

@@ -1,8 +1,7 @@
 -- `text::field::spelled` meets its contract.
 use Rattle.std.proofs.Common.{ℕ, ◌+◌, ◌-◌, ◌*◌, ◌^◌, ◌≤◌, ◌<◌, arith, sym, ◌∙◌, ◌≡◌, true, get_or}
-use borrow.Author.Tests.{not-true, not-false}
 use Rattle.text.proofs.Decimal.{digit_range}
-use Rattle.text.specs.Fields.{all, digit}
+use Rattle.text.specs.Fields.{digit}
 use Rattle.text.proofs.Scan.{all_stop, all_step, all_end, value_ahead, value_end, digits_below}
 use Rattle.text.proofs.field.spelled.Goals as goal
 
@@ -12,7 +11,7 @@ returns-then-not-is_within c =
     let at = c in
     let test = c.loop-i-test.true in
     let e = all_stop digit _ at.loop-i.i at.loop-i.invariant.1 test
-    (sym c.is_within.ensures ∙ not-true _ c.if-not-is_within.true) in
+    (sym c.is_within.ensures ∙ c.if-not-is_within.true) in
     record { ok = e; value = rw (← e) }
 
 -- the byte read is a digit, and the number has one more
@@ -21,7 +20,7 @@ byte_read c = let at = c in get_or at.args.part.now at.loop-i.i 0
 
 a_digit : (c : goal.Else-not-is_within) → digit (byte_read c) ≡ true
 unfolding digit
-a_digit c = sym c.is_within.ensures ∙ not-false _ c.if-not-is_within.false
+a_digit c = sym c.is_within.ensures ∙ c.if-not-is_within.false
 
 in_range_lem : (c : goal.Else-not-is_within) → (48 ≤ byte_read c) × (byte_read c ≤ 57)
 in_range_lem c = digit_range (byte_read c) (a_digit c)

@@ -1,5 +1,5 @@
 -- `text::form::read_form` meets its contract.
-use Rattle.std.proofs.Common.{◌-◌, refl, sym, ap, ◌∙◌, true, eq-eqb, ne_eqb}
+use Rattle.std.proofs.Common.{refl, sym, ap, ◌∙◌, eq-eqb, ne_eqb}
 use Rattle.text.specs.Forms.{found_in, found_of}
 use Rattle.text.specs.declared.form.Found.{Found}
 use Rattle.text.proofs.Steps.{step_full, step_mark, step_end, step_byte, fit_on, fit_off, fit_start, fit_whole, fit_left, exact_whole, exact_left}
@@ -12,8 +12,9 @@ loop-i-init c = fit_start _ _ _ refl refl refl refl refl
 pub returns-then-count-ge-FORM_FIELDS : goal.returns-then-count-ge-FORM_FIELDS
 returns-then-count-ge-FORM_FIELDS c =
     let r = c.unlike.ensures in
-    fit_off _ _ _ _ c.loop-i.invariant c.loop-i-test.true _
-    (step_full _ _ _ (eq-eqb _ 35 c.if-f-eq35.true) c.if-count-ge-FORM_FIELDS.true ∙ sym r) (ap (λ (x : Found). x.ok) r)
+    let off = fit_off _ _ _ _ c.loop-i.invariant c.loop-i-test.true _
+    (step_full _ _ _ (eq-eqb _ 35 c.if-f-eq35.true) c.if-count-ge-FORM_FIELDS.true ∙ sym r) (ap (λ (x : Found). x.ok) r) in
+    record { line_value = off.0; value = off.1 }
 
 pub loop-i-preserved-then-f-eq35 : goal.loop-i-preserved-then-f-eq35
 loop-i-preserved-then-f-eq35 c =
@@ -24,15 +25,17 @@ loop-i-preserved-then-f-eq35 c =
 pub returns-then-line-at : goal.returns-then-line-at
 returns-then-line-at c =
     let r = c.unlike-then-line-at.ensures in
-    fit_off _ _ _ _ c.loop-i.invariant c.loop-i-test.true _
-    (step_end _ _ _ (ne_eqb _ 35 c.if-f-eq35.false) c.if-line-at.true ∙ sym r) (ap (λ (x : Found). x.ok) r)
+    let off = fit_off _ _ _ _ c.loop-i.invariant c.loop-i-test.true _
+    (step_end _ _ _ (ne_eqb _ 35 c.if-f-eq35.false) c.if-line-at.true ∙ sym r) (ap (λ (x : Found). x.ok) r) in
+    record { line_value = off.0; value = off.1 }
 
 pub returns-then-line-at-2 : goal.returns-then-line-at-2
 returns-then-line-at-2 c =
     let r = c.unlike-then-line-at-2.ensures in
-    fit_off _ _ _ _ c.loop-i.invariant c.loop-i-test.true _
+    let off = fit_off _ _ _ _ c.loop-i.invariant c.loop-i-test.true c.unlike-then-line-at-2.result
     (step_byte _ _ _ (ne_eqb _ 35 c.if-f-eq35.false) c.if-line-at.false ∙ rw (ne_eqb _ _ c.if-line-at-2.true) (sym r))
-    (ap (λ (x : Found). x.ok) r)
+    (ap (λ (x : Found). x.ok) r) in
+    record { line_value = off.0; value = off.1 }
 
 pub loop-i-preserved : goal.loop-i-preserved
 loop-i-preserved c =
@@ -44,14 +47,20 @@ unfolding found_in
 returns-then-at-line c =
     let inv = c.loop-i.invariant in
     let past = c.loop-i-test.false in
-    rw c.unlike-then-at-line.ensures (fit_left _ _ _ _ inv past c.if-at-line.true, exact_left _ _ _ _ inv past c.if-at-line.true)
+    rw c.unlike-then-at-line.ensures record {
+      line_value = fit_left _ _ _ _ inv past c.if-at-line.true;
+      value = exact_left _ _ _ _ inv past c.if-at-line.true;
+    }
 
 pub returns : goal.returns
 unfolding found_in
 returns c =
     let inv = c.loop-i.invariant in
     let past = c.loop-i-test.false in
-    (fit_whole _ _ _ _ inv past c.if-at-line.false, exact_whole _ _ _ _ inv past c.if-at-line.false)
+    record {
+      line_value = fit_whole _ _ _ _ inv past c.if-at-line.false;
+      value = exact_whole _ _ _ _ inv past c.if-at-line.false;
+    }
 
 pub unlike-requires : goal.unlike-requires
 unlike-requires c = tt

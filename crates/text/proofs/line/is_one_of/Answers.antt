@@ -1,5 +1,4 @@
 -- `text::line::is_one_of` meets its contract.
-use Rattle.std.proofs.Common.{◌-◌}
 use Rattle.text.proofs.Scan.{found_one, found_not, found_none}
 use Rattle.text.proofs.line.is_one_of.Goals as goal
 

@@ -1,6 +1,5 @@
 -- `text::line::scan` meets its contract.
-use Rattle.std.proofs.Common.{◌-◌, sym, ◌∙◌}
-use Rattle.text.specs.Scan.{one_of}
+use Rattle.std.proofs.Common.{sym, ◌∙◌}
 use Rattle.text.proofs.Scan.{search_stop, search_step, search_end}
 use Rattle.text.proofs.line.scan.Goals as goal
 
