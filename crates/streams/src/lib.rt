@@ -2,7 +2,6 @@
 // A generator record goes in by value and comes back as it then is, beside the call's refusal code, 0 where it is accepted.
 #![tactic(auto)]
 
-
 // One draw from a stream, and whether its registers have their minima.
 mod draw;
 // Why a call on a record is refused.
