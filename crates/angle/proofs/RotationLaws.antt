@@ -1,5 +1,5 @@
 -- The sine and the cosine of w from the halves of two numbers, in the machine's arithmetic.
-use Rattle.std.proofs.Common.{◌≡◌, ℕ, ◌+◌, ◌-◌, ◌*◌, ◌/◌, ◌%◌, ◌^◌, ◌<◌, ◌≤◌, refl, mul-le-mul, arith}
+use Rattle.std.proofs.Common.{◌≡◌, ℕ, ◌+◌, ◌-◌, ◌*◌, ◌/◌, ◌%◌, ◌^◌, ◌<◌, ◌≤◌, mul-le-mul, arith}
 use Rattle.tables.proofs.Bounds.{bounds}
 use Rattle.angle.specs.Steps.{sine, cosine, sine_at, cosine_at}
 use Rattle.angle.specs.Rotations.{Rotated}

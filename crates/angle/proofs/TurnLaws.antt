@@ -1,5 +1,5 @@
 -- The four ways to turn, each a line of document 01.
-use Rattle.std.proofs.Common.{◌≡◌, ℕ, zero, suc, ◌+◌, ◌/◌, ◌%◌, ◌<◌, cond, eqb, ℤ, pos, neg_ℤ, refl, ap, ◌∙◌, ap₂, arith}
+use Rattle.std.proofs.Common.{◌≡◌, ℕ, zero, suc, ◌+◌, ◌/◌, ◌%◌, ◌<◌, cond, eqb, ℤ, pos, neg_ℤ, ap, ◌∙◌, ap₂, arith}
 use Rattle.exact.specs.Pair.{turn}
 use Rattle.angle.specs.Private.{values_of}
 

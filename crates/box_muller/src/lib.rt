@@ -2,7 +2,6 @@
 // theorem. Crate `sample` has the functions.
 #![tactic(auto)]
 
-
 // Samples of 16 bits.
 #[derive(Clone, Copy)]
 pub struct Samples {

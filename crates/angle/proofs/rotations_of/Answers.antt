@@ -1,8 +1,7 @@
 -- `angle::rotations_of` meets its contract: w is the lower bits of z.
-use Rattle.std.proofs.Common.{◌≡◌, ℕ, ◌/◌, ◌%◌, ap, ◌∙◌, arith, rules}
+use Rattle.std.proofs.Common.{◌≡◌, ℕ, ◌/◌, ◌%◌, ap, ◌∙◌, arith}
 use Rattle.tables.specs.Tables.{cos_coarse, sin_coarse, cos_fine, sin_fine, entry_of}
-use Rattle.angle.proofs.rotations_of.Statement.{statement}
-use Rattle.angle.proofs.rotations_of.Tie as tie
+use Rattle.angle.proofs.rotations_of.Goals as goal
 
 coarse_is : (z : ℕ) → z / 128 % 128 ≡ z % 16384 / 128
 coarse_is z = omega arith
@@ -10,10 +9,10 @@ coarse_is z = omega arith
 fine_is : (z : ℕ) → z % 128 ≡ z % 16384 % 128
 fine_is z = omega arith
 
-returns : tie.Need-returns
+pub returns : goal.returns
 returns c =
-    let z = c.before.before.args.z in
-    let coarse = c.before.coarse.ensures in
+    let z = c.args.z in
+    let coarse = c.coarse.ensures in
     let fine = c.fine.ensures in
     record {
       cos_coarse_lem = coarse.0 ∙ ap (entry_of cos_coarse 0) (coarse_is z);
@@ -21,6 +20,3 @@ returns c =
       cos_fine_lem = fine.0 ∙ ap (entry_of cos_fine 0) (fine_is z);
       sin_fine_lem = fine.1 ∙ ap (entry_of sin_fine 0) (fine_is z);
     }
-
-pub rotations_of_spec : {M : Type 1} → statement M
-rotations_of_spec = tie.close (tie.spec (λ c κs. search rules) (λ c κs. search rules) returns)
