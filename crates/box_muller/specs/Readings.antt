@@ -1,7 +1,6 @@
 -- Readings 1 to 10 of document 01, 'Twelve readings to check', with the half step of document 02, Job 5: (k, v) to samples. (11 and 12
 -- are of the streams.) proofs/Readings.antt proves them.
 use Rattle.std.specs.Prelude.{◌≡◌, List, [], ◌∷◌, map, ℕ, ◌-◌, ◌^◌, ℤ, pos, neg_ℤ}
-use Rattle.box_muller.specs.declared.Samples.{Samples}
 use Rattle.box_muller.specs.Steps.{fraction_bits, fraction_bits18}
 use Rattle.box_muller.specs.Sample.{samples_of}
 
