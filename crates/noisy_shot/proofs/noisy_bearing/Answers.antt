@@ -1,0 +1,19 @@
+-- `noisy_bearing` is `noisy_bearing`: the sign of the sample picks the case.
+use Rattle.std.proofs.Common.{ap, ◌∙◌, ℤ, nat_abs, to_z-of_z}
+use Rattle.noisy_shot.specs.Rounding.{noise_size}
+use Rattle.noisy_shot.proofs.Signs.{Plus, Minus, plus, minus}
+use Rattle.noisy_shot.proofs.noisy_bearing.Goals as goal
+
+pub returns-then-sample-ge0 : goal.returns-then-sample-ge0
+unfolding Plus
+returns-then-sample-ge0 c =
+    let at = c in
+    let noise = c.noise_size-noise.ensures.0 ∙ ap (λ (z : ℤ). noise_size at.args.sigma (nat_abs z)) (to_z-of_z at.ranges.sample) in
+    rw ((plus at.args.sigma at.args.bearing at.args.sample at.ranges.sample c.if-sample-ge0.true).1, ← noise)
+
+pub returns : goal.returns
+unfolding Minus
+returns c =
+    let at = c in
+    let noise = c.noise_size-noise.ensures.0 ∙ ap (λ (z : ℤ). noise_size at.args.sigma (nat_abs z)) (to_z-of_z at.ranges.sample) in
+    rw ((minus at.args.sigma at.args.bearing at.args.sample at.ranges.sample c.if-sample-ge0.false).1, ← noise)
