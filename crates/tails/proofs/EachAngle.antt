@@ -1,7 +1,7 @@
 -- How many k give a sample of size s or more at one angle.
 use mathlib.Core.Path.{◌≡◌, ap, ◌∙◌}
 use mathlib.Core.Bool.{true, false}
-use Prim.Native.Nat.{ℕ, suc, ◌+◌, ◌-◌, ◌*◌, ◌/◌, ◌^◌, ◌≤◌, ◌<◌}
+use Prim.Native.Nat.{zero, ℕ, suc, ◌+◌, ◌-◌, ◌*◌, ◌/◌, ◌^◌, ◌≤◌, ◌<◌}
 use native.Mathlib.Nat.{lt_of_mul-lt-mul_right, mul-le-mul_left, div-lt_iff_lt-mul, le-div_iff_mul-le, div-add-mod, mod-lt}
 use native.Mathlib.Omega.{arith}
 use lib.Dec.{leb}
@@ -30,12 +30,15 @@ odd_multiple : (f s : ℕ) → threshold f (suc s) ≡ (2 * s + 1) * 2 ^ (49 - f
 odd_multiple f s = ap (λ (n : ℕ). n * 2 ^ (49 - f)) (omega arith)
 
 half_up : (f x s : ℕ) → 0 < s → s * (2 * 2 ^ (49 - f)) ≤ x + 2 ^ (49 - f) → threshold f s ≤ x
+half_up f x zero some h = elim some [ ]
 half_up f x (suc s) some h = rw (odd_multiple f s) (omega (arith, h))
 
 half_down : (f x s : ℕ) → 0 < s → x + 2 ^ (49 - f) < s * (2 * 2 ^ (49 - f)) → x < threshold f s
+half_down f x zero some h = elim some [ ]
 half_down f x (suc s) some h = rw (odd_multiple f s) (omega (arith, h))
 
 threshold_pos : (f s : ℕ) → 0 < s → 0 < threshold f s
+threshold_pos f zero some = elim some [ ]
 threshold_pos f (suc s) some = rw (odd_multiple f s) (omega (arith, pow_pos (49 - f)))
 
 -- F g ≥ c just where F is above (c - 1) / g

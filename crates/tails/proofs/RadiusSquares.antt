@@ -4,7 +4,7 @@ use Prim.Native.Nat.{ℕ, zero, suc, ◌+◌, ◌-◌, ◌*◌, ◌/◌, ◌^◌
 use native.Mathlib.Nat.{le_refl, mul-le-mul, mul-le-mul_left, le_of_mul-le-mul_left, pow-zero, pow-suc}
 use native.Mathlib.Decide.{dec_le}
 use native.Mathlib.Omega.{arith}
-use Rattle.exact.specs.Fraction.{Fraction, whole, dyadic, halved, square, ◌+ᶠ◌, ◌*ᶠ◌, ◌≤ᶠ◌}
+use Rattle.exact.specs.Fraction.{Fraction, whole, dyadic, halved, square, ◌+ᶠ◌, ◌*ᶠ◌}
 use Rattle.exact.specs.Series.{AtMostLn, AtLeastLn}
 use Rattle.exact.specs.Radius.{AtMostRadius, AtLeastRadius}
 use Rattle.exact.proofs.FractionLaws.{≤ᶠ-refl}
