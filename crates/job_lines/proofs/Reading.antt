@@ -2,7 +2,7 @@
 use Prim.Native.Nat.{ℕ}
 use native.Mathlib.Omega.{arith}
 use mathlib.Core.Path.{◌≡◌, refl, sym, ◌∙◌}
-use mathlib.Core.Bool.{Bool, true, false, cond, not, ◌&&◌, false≢true, true≢false}
+use mathlib.Core.Bool.{Bool, true, false, cond, ◌&&◌}
 use mathlib.Core.List.{List}
 use lib.ListN.{take}
 use Rattle.text.specs.Fields.{name, digit_string, value, Spells, SpellThree}
@@ -80,10 +80,8 @@ module _ (line : List ℕ) (c : Found) where
       go false x y e f = refl
 
 -- a line by the test of its fields
-pub test_fails : (ok : Bool) (x y : Form) → cond ok x no_form ≡ y → not ok ≡ true → no_form ≡ y
-test_fails false x y e t = e
-test_fails true x y e t = absurd (false≢true t)
+pub test_fails : (ok : Bool) (x y : Form) → cond ok x no_form ≡ y → ok ≡ false → no_form ≡ y
+test_fails ok x y e t = rw t at e
 
-pub test_passes : (ok : Bool) (x y : Form) → cond ok x no_form ≡ y → not ok ≡ false → x ≡ y
-test_passes true x y e t = e
-test_passes false x y e t = absurd (true≢false t)
+pub test_passes : (ok : Bool) (x y : Form) → cond ok x no_form ≡ y → ok ≡ true → x ≡ y
+test_passes ok x y e t = rw t at e

@@ -1,5 +1,5 @@
 -- For private functions; no public contract cites these.
-use Rattle.std.specs.Prelude.{ℕ, ◌≡◌, List, get_or}
+use Rattle.std.specs.Prelude.{◌≡◌, List, get_or}
 use Rattle.text.specs.Forms.{no_place}
 use Rattle.text.specs.declared.field.Place.{Place}
 use Rattle.job_lines.specs.declared.Line.{Line}

@@ -84,7 +84,7 @@ fn sigma_line(line: &[u8], c: Found) -> Line
 
 // The shot that four fields give.
 fn shot_line(line: &[u8], c: Found) -> Line
-    ensures result_value { said line.now result ≡ shot_of (fields_at line.now (take 4 c.places)) }
+    ensures says { said line.now result ≡ shot_of (fields_at line.now (take 4 c.places)) }
     ensures names_at { NamesAt c.places result }
 {
     let places = c.places;
@@ -106,8 +106,8 @@ fn shot_line(line: &[u8], c: Found) -> Line
 
 // What a line, with its line feed, says. No line is of two forms, and most are shots.
 pub fn read_line(line: &[u8]) -> Line
-    ensures result_value { said line.now result ≡ read_line line.now }
-    ensures value { result ≡ line_in line.now (read_line line.now) }
+    ensures says { said line.now result ≡ read_line line.now }
+    ensures exact { result ≡ line_in line.now (read_line line.now) }
 {
     let shot = read_form(b"(shot # # # #)\n", line);
     if shot.ok {

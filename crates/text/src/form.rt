@@ -38,8 +38,8 @@ fn field_end(line: &[u8], at: usize) -> usize
 // The places of a line's fields, where it is of the form: # takes the next field, any other byte is the line's next. A form of more
 // fields than are read has no line.
 pub fn read_form(form: &[u8], line: &[u8]) -> Found
-    ensures line_value { read_few form.now line.now ≡ found_in form.now line.now result }
-    ensures value { result ≡ found_of form.now line.now }
+    ensures fields { read_few form.now line.now ≡ found_in form.now line.now result }
+    ensures exact { result ≡ found_of form.now line.now }
 {
     let mut places = [Place { from: 0, to: 0 }; FORM_FIELDS];
     let mut count = 0;

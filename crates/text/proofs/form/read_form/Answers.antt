@@ -14,7 +14,7 @@ returns-then-count-ge-FORM_FIELDS c =
     let r = c.unlike.ensures in
     let off = fit_off _ _ _ _ c.loop-i.invariant c.loop-i-test.true _
     (step_full _ _ _ (eq-eqb _ 35 c.if-f-eq35.true) c.if-count-ge-FORM_FIELDS.true ∙ sym r) (ap (λ (x : Found). x.ok) r) in
-    record { line_value = off.0; value = off.1 }
+    record { fields = off.0; exact = off.1 }
 
 pub loop-i-preserved-then-f-eq35 : goal.loop-i-preserved-then-f-eq35
 loop-i-preserved-then-f-eq35 c =
@@ -27,7 +27,7 @@ returns-then-line-at c =
     let r = c.unlike-then-line-at.ensures in
     let off = fit_off _ _ _ _ c.loop-i.invariant c.loop-i-test.true _
     (step_end _ _ _ (ne_eqb _ 35 c.if-f-eq35.false) c.if-line-at.true ∙ sym r) (ap (λ (x : Found). x.ok) r) in
-    record { line_value = off.0; value = off.1 }
+    record { fields = off.0; exact = off.1 }
 
 pub returns-then-line-at-2 : goal.returns-then-line-at-2
 returns-then-line-at-2 c =
@@ -35,7 +35,7 @@ returns-then-line-at-2 c =
     let off = fit_off _ _ _ _ c.loop-i.invariant c.loop-i-test.true c.unlike-then-line-at-2.result
     (step_byte _ _ _ (ne_eqb _ 35 c.if-f-eq35.false) c.if-line-at.false ∙ rw (ne_eqb _ _ c.if-line-at-2.true) (sym r))
     (ap (λ (x : Found). x.ok) r) in
-    record { line_value = off.0; value = off.1 }
+    record { fields = off.0; exact = off.1 }
 
 pub loop-i-preserved : goal.loop-i-preserved
 loop-i-preserved c =
@@ -48,8 +48,8 @@ returns-then-at-line c =
     let inv = c.loop-i.invariant in
     let past = c.loop-i-test.false in
     rw c.unlike-then-at-line.ensures record {
-      line_value = fit_left _ _ _ _ inv past c.if-at-line.true;
-      value = exact_left _ _ _ _ inv past c.if-at-line.true;
+      fields = fit_left _ _ _ _ inv past c.if-at-line.true;
+      exact = exact_left _ _ _ _ inv past c.if-at-line.true;
     }
 
 pub returns : goal.returns
@@ -58,8 +58,8 @@ returns c =
     let inv = c.loop-i.invariant in
     let past = c.loop-i-test.false in
     record {
-      line_value = fit_whole _ _ _ _ inv past c.if-at-line.false;
-      value = exact_whole _ _ _ _ inv past c.if-at-line.false;
+      fields = fit_whole _ _ _ _ inv past c.if-at-line.false;
+      exact = exact_whole _ _ _ _ inv past c.if-at-line.false;
     }
 
 pub unlike-requires : goal.unlike-requires
