@@ -7,7 +7,7 @@ use lib.Dec.{T, leb, leb→le}
 use Rattle.exact.specs.Fraction.{Fraction, square}
 use Rattle.normal.specs.Probability.{AtMostTail, AtLeastTail}
 use Rattle.normal.proofs.Sums.{over}
-use Rattle.normal.proofs.Enclosures.{half_pi_low, half_pi_high, area_low, area_high, exponential_low, exponential_high, Enough, at_most_inside, at_least_inside}
+use Rattle.normal.proofs.Enclosures.{half_pi_low, half_pi_high, area_low, area_high, exponential_low, exponential_high, at_most_inside, at_least_inside}
 
 -- ---- n / d and the rest of 1
 
