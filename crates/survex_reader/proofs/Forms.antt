@@ -1,20 +1,19 @@
 -- What a leg is: its tests, and the bytes that pass them.
 use Prim.Native.Nat.{ℕ, ◌<◌}
 use native.Mathlib.Omega.{arith}
-use mathlib.Core.Path.{◌≡◌, refl, sym, ap, ◌∙◌}
+use mathlib.Core.Path.{◌≡◌, refl, sym, ap}
 use mathlib.Core.Bool.{Bool, true, false, not, ◌||◌}
 use mathlib.Core.List.{List, [], ◌∷◌, ◌++◌}
 use mathlib.Core.Logic.{◌↔◌, ◌⊎◌, inl, inr}
-use lib.Dec.{leb, ltb, eqb}
+use lib.Dec.{leb, eqb}
 use lib.ListN.{length, get_or, length-append}
 use borrow.Author.Tests.{leb-true, le-leb, lt-ltb, le-ltb, eqb-true, eq-eqb, ne_eqb}
-use Rattle.text.specs.Ascii.{ascii}
 use Rattle.text.specs.Scan.{one_of, up_to}
 use Rattle.text.specs.Fields.{all, digit, name}
 use Rattle.text.proofs.Tests.{test, ◌and◌, each}
 use Rattle.text.specs.Forms.{field_at}
 use Rattle.survex_reader.specs.Limits.{whole_digits, tape_decimals, compass_decimals, most_tape, compass_turn}
-use Rattle.survex_reader.specs.Legs.{Said, leg, wrong, whole, pointed, decimals, digits_up_to, is_decimal, step_of, level, tape_in, compass_in, leg_form, leg_range, read_leg}
+use Rattle.survex_reader.specs.Legs.{leg, wrong, whole, pointed, decimals, digits_up_to, is_decimal, step_of, level, tape_in, compass_in, leg_form, leg_range, read_leg}
 use Rattle.survex_reader.specs.LegTheorems.{Digits, Number, Formed, Ranged}
 
 digits_pass : (most : ℕ) (l : List ℕ) → (digits_up_to most l ≡ true) ↔ Digits most l

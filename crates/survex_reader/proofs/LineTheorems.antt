@@ -2,16 +2,14 @@
 use Prim.Native.Nat.{ℕ, zero, suc, ◌+◌, ◌≤◌, ◌<◌}
 use native.Mathlib.Omega.{arith}
 use native.Mathlib.Nat.{add-zero}
-use mathlib.Core.Path.{◌≡◌, refl, sym, ap, subst, ◌∙◌}
-use mathlib.Core.Bool.{Bool, true, false, cond}
-use mathlib.Core.List.{List, [], ◌∷◌, head-eq_of_cons-eq, tail-eq_of_cons-eq}
+use mathlib.Core.Path.{◌≡◌, refl, sym, ap, ◌∙◌}
+use mathlib.Core.Bool.{Bool, true, false}
+use mathlib.Core.List.{List, [], ◌∷◌}
 use lib.ListN.{length, get_or, drop}
-use Rattle.text.specs.Scan.{lines, first_line}
-use Rattle.text.proofs.Split.{lines_from}
-use Rattle.survex_reader.specs.Lines.{remains, remaining_in, remaining_from}
+use Rattle.text.specs.Scan.{lines}
+use Rattle.survex_reader.specs.Lines.{remains, remaining_from}
 use Rattle.survex_reader.specs.LineTheorems.{remaining, line_numbers, place_after, handed_after, count_after, Hands, Theorems}
-use Rattle.survex_reader.specs.declared.lines.Remaining.{Remaining}
-use Rattle.survex_reader.proofs.Onward.{HandedOut, none_found, some_found, none_next}
+use Rattle.survex_reader.proofs.Onward.{none_found, some_found, none_next}
 
 remaining_skip : (k : ℕ) (l : List ℕ) (ls : List (List ℕ)) → remains l ≡ false → remaining (l ∷ ls) ≡ remaining ls
 unfolding remaining

@@ -1,5 +1,5 @@
 -- What the definitions of a leg say, as theorems: the record below has a proof in proofs/LegTheorems.antt.
-use Rattle.std.specs.Prelude.{ℕ, ◌+◌, ◌-◌, ◌*◌, ◌/◌, ◌%◌, ◌^◌, ◌≤◌, ◌<◌, ◌≡◌, true, List, [], ◌∷◌, ◌++◌, ◌↔◌, ◌⊎◌, length, get_or}
+use Rattle.std.specs.Prelude.{ℕ, ◌+◌, ◌-◌, ◌*◌, ◌%◌, ◌^◌, ◌≤◌, ◌<◌, ◌≡◌, true, List, [], ◌∷◌, ◌++◌, ◌↔◌, ◌⊎◌, length, get_or}
 use Rattle.text.specs.Ascii.{byte}
 use Rattle.text.specs.Fields.{all, digit, name, value}
 use Rattle.noisy_shot.specs.Rounding.{turn_steps}

@@ -1,7 +1,7 @@
 -- `survex_reader::leg::leg_of` meets its contract.
-use Rattle.std.proofs.Common.{sym, ap, ◌∙◌, ◌≡◌}
+use Rattle.std.proofs.Common.{sym, ap, ◌∙◌}
 use borrow.Author.Tests.{not-true, not-false}
-use Rattle.survex_reader.specs.Legs.{level, words, read_leg, wrong}
+use Rattle.survex_reader.specs.Legs.{level}
 use Rattle.survex_reader.proofs.Legs.{not_five, not_formed, not_ranged, range_compass, is_leg_lem, told_wrong, told_leg}
 use Rattle.survex_reader.proofs.leg.leg_of.Goals as goal
 

@@ -1,5 +1,5 @@
 -- `survex_reader::lines::line_at` meets its contract.
-use Rattle.std.proofs.Common.{◌-◌, arith}
+use Rattle.std.proofs.Common.{arith}
 use Rattle.text.proofs.Split.{end_within}
 use Rattle.survex_reader.proofs.Places.{passing_start, passing_end, passing_on, handed_out, kept_within, line_within}
 use Rattle.survex_reader.proofs.lines.line_at.Goals as goal

@@ -1,5 +1,5 @@
 -- `survex_reader::lines::skip_blanks` meets its contract.
-use Rattle.std.proofs.Common.{◌-◌, arith, sym, ap, ◌∙◌, not, length}
+use Rattle.std.proofs.Common.{arith, sym, ap, ◌∙◌, not, length}
 use Rattle.text.proofs.Scan.{run_ahead, run_stop, run_end}
 use Rattle.survex_reader.specs.Lines.{not_blank}
 use Rattle.survex_reader.proofs.lines.skip_blanks.Goals as goal

@@ -1,5 +1,5 @@
 -- `survex_reader::lines::skip_blanks` meets its contract.
-use Rattle.std.proofs.Common.{◌+◌, ◌-◌, ◌≡◌, not, length, drop}
+use Rattle.std.proofs.Common.{◌+◌, ◌-◌, ◌≡◌, length, drop}
 use Rattle.text.specs.Scan.{up_to}
 use Rattle.survex_reader.specs.Lines.{not_blank}
 use Rattle.survex_reader.proofs.lines.skip_blanks.Given as goal

@@ -1,7 +1,6 @@
 -- `survex_reader::lines::trimmed_length` meets its contract.
 use Rattle.std.proofs.Common.{ℕ, arith, ◌≡◌, sym, ap, ◌∙◌, length, take}
 use lib.Seq.{take-length}
-use borrow.Author.Tests.{not-true, not-false}
 use Rattle.survex_reader.specs.Lines.{trim_end}
 use Rattle.survex_reader.proofs.Trim.{last_blank, last_kept}
 use Rattle.survex_reader.proofs.lines.trimmed_length.Goals as goal
