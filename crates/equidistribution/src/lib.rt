@@ -1,3 +1,2 @@
 // Maximal equidistribution of the streams: definitions in specs/, laws in proofs/.
 #![tactic(auto)]
-
