@@ -36,42 +36,42 @@ TABLES = [
     (
         "logarithms",
         "LOG_COARSE",
-        "logCoarseList",
+        "log_coarse_list",
         "A: ln(h/256) for h from 256 to 511, at 2^40.",
         [nearest(log(mpf(h) / 256), LOG) for h in range(256, 512)],
     ),
     (
         "logarithms",
         "LOG_FINE",
-        "logFineList",
+        "log_fine_list",
         "B: ln(1 + i/65536) for i from 0 to 255, at 2^40.",
         [nearest(log(1 + mpf(i) / 65536), LOG) for i in range(256)],
     ),
     (
         "cosines",
         "COS_COARSE",
-        "cosCoarseList",
+        "cos_coarse_list",
         "C: the cosine of a/512 of a turn for a from 0 to 127, at 2^30.",
         [nearest(cos(turn(mpf(a) / 512)), ROTATION) for a in range(128)],
     ),
     (
         "sines",
         "SIN_COARSE",
-        "sinCoarseList",
+        "sin_coarse_list",
         "D: the sine of a/512 of a turn for a from 0 to 127, at 2^30.",
         [nearest(sin(turn(mpf(a) / 512)), ROTATION) for a in range(128)],
     ),
     (
         "cosines",
         "COS_FINE",
-        "cosFineList",
+        "cos_fine_list",
         "c: the cosine of b/65536 of a turn for b from 0 to 127, at 2^30.",
         [nearest(cos(turn(mpf(b) / 65536)), ROTATION) for b in range(128)],
     ),
     (
         "sines",
         "SIN_FINE",
-        "sinFineList",
+        "sin_fine_list",
         "s: the sine of b/65536 of a turn for b from 0 to 127, at 2^30.",
         [nearest(sin(turn(mpf(b) / 65536)), ROTATION) for b in range(128)],
     ),
@@ -182,14 +182,13 @@ def lists():
     out = [
         "-- The entries of the tables, each the nearest whole number to its exact value (document 01, 'Radius' and 'Angle and sample').",
         "-- Assumes nothing.",
-        "use Prim.Native.Nat.{ℕ}",
-        "use mathlib.Core.List.{List, [], _∷_}",
+        "use Rattle.std.specs.Prelude.{ℕ, List, [], ◌∷◌}",
     ]
     for _, _, name, comment, entries in TABLES:
         out += ["", f"-- {comment}", f"abbrev pub {name} : List ℕ", f"{name} ="]
         out += rows([f"{x}" for x in entries] + ["[]"], " ∷ ", "    ")
         out[-1] = out[-1].removesuffix(" ∷")
-    out += ["", "-- K: ln 2, at 2^40.", "unfoldable pub lnTwoValue : ℕ", f"lnTwoValue = 0x{LN_TWO:X}"]
+    out += ["", "-- K: ln 2, at 2^40.", "unfoldable pub ln_two_value : ℕ", f"ln_two_value = 0x{LN_TWO:X}"]
     return "\n".join(out) + "\n"
 
 
@@ -213,7 +212,7 @@ def compare():
         print(f"{where}: {len(numbers)} entries, {len(bad)} differ {bad[:5] or ''}")
     single = {
         "LN_TWO": read(path("logarithms").read_text(), "LN_TWO: u64 =", ";"),
-        "lnTwoValue": read(antt, "\nlnTwoValue =", "\n"),
+        "ln_two_value": read(antt, "\nln_two_value =", "\n"),
     }
     for where, numbers in single.items():
         wrong += numbers != [LN_TWO]

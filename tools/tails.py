@@ -30,7 +30,7 @@ def table(name):
     return [int(n) for n in re.findall(r"\d+", text[: text.index("[]")])]
 
 
-C, D, c, s = (table(n) for n in ("cosCoarseList", "sinCoarseList", "cosFineList", "sinFineList"))
+C, D, c, s = (table(n) for n in ("cos_coarse_list", "sin_coarse_list", "cos_fine_list", "sin_fine_list"))
 COSINES = [C[a] * c[b] - D[a] * s[b] >> 30 for a in range(128) for b in range(128)]
 SINES = [D[a] * c[b] + C[a] * s[b] >> 30 for a in range(128) for b in range(128)]
 PAIRS = list(zip(COSINES[1:], SINES[:0:-1]))
@@ -87,7 +87,7 @@ def sought(pattern: str, text: str, flags: int = re.M) -> re.Match[str]:
 
 def largest(f):
     """The largest size: that of the largest F, with a sine or cosine of 1."""
-    limit = int(sought(r"^radiusLimit = (\d+)$", (CRATES / "radius" / "specs" / "Steps.antt").read_text())[1])
+    limit = int(sought(r"^radius_limit = (\d+)$", (CRATES / "radius" / "specs" / "Steps.antt").read_text())[1])
     return (limit - 1 << 30) + (1 << 49 - f) >> 50 - f
 
 

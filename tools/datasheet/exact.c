@@ -12,7 +12,7 @@
 #include <stdlib.h>
 
 #define LARGEST 16879  /* the largest size */
-#define MOST_F 8642240 /* F is below this: crates/radius/specs/Steps.antt, radiusLimit */
+#define MOST_F 8642240 /* F is below this: crates/radius/specs/Steps.antt, radius_limit */
 #define NUMBERS ((uint64_t)1 << 48)
 
 static uint64_t with_f[MOST_F + 2]; /* how many k have F = f, then F >= f */
