@@ -4,78 +4,75 @@
 #![tactic(auto)]
 
 use job::limits::LISTING_ROOM;
-use libc::{STDIN_FILENO, STDOUT_FILENO};
+use std::io;
 use streams::Generator;
 
-fn word(bytes: &[u8]) {
-    io::write_all(STDOUT_FILENO, bytes);
-}
-
 // A blank and a number.
-fn number(n: u32) {
-    word(b" ");
-    io::print_decimal(STDOUT_FILENO, n as u64);
+fn number(rt: &impl Print, n: u32) -> io::Result<()> {
+    print!(rt; " {n}")
 }
 
 // A blank and a sample, its sign before it.
-fn signed(sample: i16) {
-    word(b" ");
+fn signed(rt: &impl Print, sample: i16) -> io::Result<()> {
+    rt.write_all(b" ")?;
     if sample < 0 {
-        word(b"-");
+        rt.write_all(b"-")?;
     }
-    io::print_decimal(STDOUT_FILENO, signs::size_of(sample) as u64);
+    rt.print(signs::size_of(sample))
 }
 
 // Samples, and the end of the line.
-fn samples(list: &[i16]) {
+fn samples(rt: &impl Print, list: &[i16]) -> io::Result<()> {
     for i in 0..list.len() {
         let sample = list[i];
-        signed(sample);
+        signed(rt, sample)?;
     }
-    word(b"\n");
+    rt.write_all(b"\n")
 }
 
 // The first bytes, where there are as many.
-fn first_bytes(bytes: &[u8], length: usize) {
+fn first_bytes(rt: &impl Print, bytes: &[u8], length: usize) -> io::Result<()> {
     if length <= bytes.len() {
-        word(&bytes[0..length]);
+        rt.write_all(&bytes[0..length])?;
     }
+    Ok(())
 }
 
 // A job's refusal code and line, and its listing.
-fn show_job(text: &[u8]) {
+fn show_job(rt: &impl Print, text: &[u8]) -> io::Result<()> {
     let mut listing = [0u8; LISTING_ROOM];
     let answer = job::list(text, &mut listing);
-    number(answer.code);
-    number(answer.line);
-    word(b"\n");
-    first_bytes(&listing, answer.length);
+    number(rt, answer.code)?;
+    number(rt, answer.line)?;
+    rt.write_all(b"\n")?;
+    first_bytes(rt, &listing, answer.length)
 }
 
-fn show_jobs(text: &[u8]) {
+fn show_jobs(rt: &impl Print, text: &[u8]) -> io::Result<()> {
     if 9553 <= text.len() {
-        show_job(&text[0..91]);
-        show_job(&text[0..9553]);
-        show_job(text);
+        show_job(rt, &text[0..91])?;
+        show_job(rt, &text[0..9553])?;
+        show_job(rt, text)?;
     }
+    Ok(())
 }
 
 // The code and the samples of k and v.
-fn show_samples(k: u64, v: u32) {
+fn show_samples(rt: &impl Print, k: u64, v: u32) -> io::Result<()> {
     let mut pair = [0i16; 2];
     let code = sample::sample(k, v, &mut pair);
-    number(code);
-    samples(&pair);
+    number(rt, code)?;
+    samples(rt, &pair)
 }
 
 // The codes of seeding and of a block of six samples, and the samples. All registers but the first are the same.
-fn show_block(s0: u32, others: u32) {
+fn show_block(rt: &impl Print, s0: u32, others: u32) -> io::Result<()> {
     let seeded = Generator::seed(s0, others, others, others, others, others);
     let mut block = [0i16; 6];
     let filled = noise::block(seeded.next, &mut block);
-    number(seeded.code);
-    number(filled.code);
-    samples(&block);
+    number(rt, seeded.code)?;
+    number(rt, filled.code)?;
+    samples(rt, &block)
 }
 
 // Another register.
@@ -83,20 +80,24 @@ fn scattered(register: u32) -> u32 {
     ((register as u64 * 1664525 + 1013904223) % 4294967296) as u32
 }
 
-fn show_many() {
+fn show_many(rt: &impl Print) -> io::Result<()> {
     for from in 0..36 {
         let s0 = scattered(from);
-        show_block(s0, scattered(s0));
+        show_block(rt, s0, scattered(s0))?;
     }
+    Ok(())
 }
 
-fn main() {
+fn main(rt: HostRuntime) -> io::Result<()> {
     let mut text = [0u8; 9572];
-    io::read_full(STDIN_FILENO, &mut text);
-    show_jobs(&text);
-    show_samples(281474976710656, 0);
-    show_samples(0, 65536);
-    show_block(1, 16);
-    show_block(2, 16);
-    show_many();
+    let read = input::read_all(&mut rt.stdin(), &mut text);
+    if let Some(error) = read.failed {
+        return Err(error);
+    }
+    show_jobs(&rt, &text)?;
+    show_samples(&rt, 281474976710656, 0)?;
+    show_samples(&rt, 0, 65536)?;
+    show_block(&rt, 1, 16)?;
+    show_block(&rt, 2, 16)?;
+    show_many(&rt)
 }

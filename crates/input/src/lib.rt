@@ -1,43 +1,45 @@
-// Reads of a descriptor until the input ends or a buffer is full, and whether one failed.
+// Reads of an input until it ends or a buffer is full, and what is said of a read or a write that failed.
 #![tactic(auto)]
+
+mod failure;
 
 ghost use Rattle.std.specs.Prelude.{◌≤◌, length};
 
-// How many bytes were read, and whether a read failed.
-#[derive(Clone, Copy)]
+pub use failure::tell;
+use std::io;
+use std::io::Read;
+
+// How many bytes were read, and the error of the read that failed, if one did.
+#[derive(Drop)]
 pub struct Input {
-    pub failed: bool,
+    pub failed: Option<io::Error>,
     pub length: usize,
 }
 
-// One read: no bytes at the end of the input, or where it fails.
-fn read_some(fd: i32, rest: &mut [u8]) -> Input
-    ensures { result.length ≤ length rest.old }
-{
-    let got = libc::read(fd, rest);
-    Input {
-        failed: got < 0,
-        length: io::count(got, rest),
-    }
-}
-
 // Reads until the buffer is full, the input ends or a read fails.
-pub fn read_all(fd: i32, buf: &mut [u8]) -> Input
+pub fn read_all<R: Read>(from: &mut R, buf: &mut [u8]) -> Input
     ensures { result.length ≤ length buf.new }
 {
     let mut done = 0;
     while done < buf.len() {
-        let some = read_some(fd, &mut buf[done..]);
-        if some.length == 0 {
-            return Input {
-                failed: some.failed,
-                length: done,
-            };
+        match from.read(&mut buf[done..]) {
+            Ok(0) => {
+                return Input {
+                    failed: None,
+                    length: done,
+                };
+            }
+            Ok(n) => done += n,
+            Err(error) => {
+                return Input {
+                    failed: Some(error),
+                    length: done,
+                };
+            }
         }
-        done += some.length;
     }
     Input {
-        failed: false,
+        failed: None,
         length: done,
     }
 }

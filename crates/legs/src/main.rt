@@ -1,7 +1,8 @@
 // Converts the Survex text on standard input: the shot lines of its legs, or why it is refused and in which line.
 #![tactic(auto)]
 
-use libc::{STDERR_FILENO, STDIN_FILENO, STDOUT_FILENO};
+use input::{read_all, tell};
+use std::io;
 
 // The bytes of a text that the program holds.
 const TEXT_ROOM: usize = 100000;
@@ -10,24 +11,20 @@ const TEXT_ROOM: usize = 100000;
 const SHOTS_ROOM: usize = 250000;
 
 // One byte more than it holds is read, so that a text that is too long is told and never cut.
-fn main() {
+fn main(rt: HostRuntime) -> io::Result<()> {
     let mut text = [0u8; TEXT_ROOM + 1];
-    let got = input::read_all(STDIN_FILENO, &mut text);
-    if got.failed {
-        os::fail(b"legs: reading standard input");
-        return;
+    let read = read_all(&mut rt.stdin(), &mut text);
+    if let Some(error) = read.failed {
+        return tell(&rt, "legs: reading standard input", error);
     }
-    let n = got.length;
+    let n = read.length;
     if TEXT_ROOM < n {
-        io::write_all(
-            STDERR_FILENO,
-            b"legs: the text has more than 100000 bytes\n",
-        );
-        return;
+        return eprintln!(rt; "legs: the text has more than 100000 bytes");
     }
     let mut out = [0u8; SHOTS_ROOM];
     let length = survex::print_legs(&text[0..n], &mut out);
-    if !io::write_all(STDOUT_FILENO, &out[0..length]) {
-        os::fail(b"legs: writing standard output");
+    match rt.write_all(&out[0..length]) {
+        Ok(()) => Ok(()),
+        Err(error) => tell(&rt, "legs: writing standard output", error),
     }
 }

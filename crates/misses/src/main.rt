@@ -2,32 +2,28 @@
 // which line.
 #![tactic(auto)]
 
-use input::read_all;
-use libc::{STDERR_FILENO, STDIN_FILENO, STDOUT_FILENO};
+use input::{read_all, tell};
 use misclosure::printer::{OUTPUT_ROOM, print_misses};
+use std::io;
 
 // The bytes that are read: every accepted listing has fewer.
 const MOST_BYTES: usize = 65536;
 
 // Input that is longer is not cut: nothing is printed for it but why. One byte more is read to know.
-fn main() {
+fn main(rt: HostRuntime) -> io::Result<()> {
     let mut text = [0u8; MOST_BYTES + 1];
-    let read = read_all(STDIN_FILENO, &mut text);
-    if read.failed {
-        os::fail(b"misses: reading standard input");
-        return;
+    let read = read_all(&mut rt.stdin(), &mut text);
+    if let Some(error) = read.failed {
+        return tell(&rt, "misses: reading standard input", error);
     }
     let n = read.length;
     if MOST_BYTES < n {
-        io::write_all(
-            STDERR_FILENO,
-            b"misses: standard input has more than 65536 bytes\n",
-        );
-        return;
+        return eprintln!(rt; "misses: standard input has more than 65536 bytes");
     }
     let mut out = [0u8; OUTPUT_ROOM];
     let length = print_misses(&text[0..n], &mut out);
-    if !io::write_all(STDOUT_FILENO, &out[0..length]) {
-        os::fail(b"misses: writing standard output");
+    match rt.write_all(&out[0..length]) {
+        Ok(()) => Ok(()),
+        Err(error) => tell(&rt, "misses: writing standard output", error),
     }
 }
