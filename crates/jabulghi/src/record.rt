@@ -7,8 +7,7 @@ use crate::words::{packed, unpacked};
 use streams::Generator;
 
 // Seeds a record.
-#[unsafe(no_mangle)]
-pub extern "C" fn jabulghi_seed(
+pub fn jabulghi_seed(
     a0: u32,
     a1: u32,
     a2: u32,
@@ -26,8 +25,7 @@ pub extern "C" fn jabulghi_seed(
 }
 
 // A record n pairs on.
-#[unsafe(no_mangle)]
-pub extern "C" fn jabulghi_skip(words: &mut [u32; 10], n: u64) -> u32
+pub fn jabulghi_skip(words: &mut [u32; 10], n: u64) -> u32
     ensures value { result ≡ (skip_of (generator_of words.old) n).code }
     ensures words_after { words.new ≡ words_of (skip_of (generator_of words.old) n).next }
 {
@@ -38,8 +36,7 @@ pub extern "C" fn jabulghi_skip(words: &mut [u32; 10], n: u64) -> u32
 }
 
 // Notes a request for n pairs.
-#[unsafe(no_mangle)]
-pub extern "C" fn jabulghi_ask(words: &mut [u32; 10], n: u32) -> u32
+pub fn jabulghi_ask(words: &mut [u32; 10], n: u32) -> u32
     ensures value { result ≡ (ask_of (generator_of words.old) n).code }
     ensures words_after { words.new ≡ words_of (ask_of (generator_of words.old) n).next }
 {
@@ -50,8 +47,7 @@ pub extern "C" fn jabulghi_ask(words: &mut [u32; 10], n: u32) -> u32
 }
 
 // Clears the request.
-#[unsafe(no_mangle)]
-pub extern "C" fn jabulghi_give_up(words: &mut [u32; 10]) -> u32
+pub fn jabulghi_give_up(words: &mut [u32; 10]) -> u32
     ensures value { result ≡ (give_up_of (generator_of words.old)).code }
     ensures words_after { words.new ≡ words_of (give_up_of (generator_of words.old)).next }
 {

@@ -1,0 +1,7 @@
+// The makers' C interface to records and to samples of 16 and 18 bits: each function is that of crate `jabulghi`, with its clauses, exported.
+#![tactic(auto)]
+
+mod bits18;
+mod block;
+mod pair;
+mod record;
