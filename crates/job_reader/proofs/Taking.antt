@@ -2,19 +2,16 @@
 use Prim.Native.Nat.{ℕ, ◌≤◌}
 use native.Mathlib.Omega.{arith}
 use mathlib.Core.Path.{◌≡◌, refl, sym, ap, ◌∙◌}
-use mathlib.Core.Logic.{inl, inr}
 use mathlib.Core.Bool.{Bool, true, false, cond}
-use mathlib.Core.List.{List, [], ◌∷◌}
+use mathlib.Core.List.{List, []}
 use lib.Dec.{eqb}
 use lib.ListN.{length}
 use borrow.Author.Tests.{eqb-true, le-leb}
-use denote.Enum.Declared.{tag_of}
-use types.Run.{OneOf}
 use Rattle.text.specs.Fields.{part_of}
 use Rattle.job_lines.specs.Forms.{Form, shot, said}
 use Rattle.job_lines.specs.declared.Line.{Line}
 use Rattle.job_lines.specs.declared.Line.TheVariants.{Seeds, Sigma, Shot, NoForm}
-use Rattle.job_lines.specs.contracts.Line.{the_type}
+use Rattle.job_lines.specs.declared.Shot.{Shot as ShotFields}
 use Rattle.job_reader.specs.Refusals.{refusal}
 use Rattle.job_reader.specs.Setting.{progress_on}
 use Rattle.job_reader.specs.Loop.{station_after, link_code, kept_on}
@@ -39,14 +36,12 @@ linked_same unlinked k = go (eqb unlinked 0) refl
 abbrev Early : Form → Type 0
 Early x = ((k : ℕ) (memory : List ℕ) → kept_on k x memory ≡ memory) × ((station : List ℕ) → link_code station x ≡ 0) × (station_after x ≡ [])
 
--- every line but a shot is one; the tags are those of the enum's cases
-early : (text : List ℕ) (x : Line) → OneOf (0 ∷ 1 ∷ 3 ∷ []) (tag_of the_type x) → Early (said text x)
+-- every line but a shot is one
+early : (text : List ℕ) (x : Line) → ((s : ShotFields) → x ≡ Shot s → ⊥) → Early (said text x)
 unfolding station_after link_code kept_on
 early text (Seeds x) h = (λ k m. refl, λ station. refl, refl)
 early text (Sigma x) h = (λ k m. refl, λ station. refl, refl)
-early text (Shot x) (inl e) = absurd (omega (arith, e))
-early text (Shot x) (inr (inl e)) = absurd (omega (arith, e))
-early text (Shot x) (inr (inr e)) = absurd (omega (arith, e))
+early text (Shot x) h = absurd (h x refl)
 early text NoForm h = (λ k m. refl, λ station. refl, refl)
 
 module _ (x : Form) (station bytes : List ℕ) (s t : State) (memory : List ℕ)
@@ -60,7 +55,7 @@ module _ (x : Form) (station bytes : List ℕ) (s t : State) (memory : List ℕ)
   taken_off z = record { read = r; yes = λ on. absurd (z on); no = λ _. refl }
 
   -- a line before the shots
-  pub taken_early : (text : List ℕ) (y : Line) → said text y ≡ x → OneOf (0 ∷ 1 ∷ 3 ∷ []) (tag_of the_type y)
+  pub taken_early : (text : List ℕ) (y : Line) → said text y ≡ x → ((s : ShotFields) → y ≡ Shot s → ⊥)
       → t.station ≡ record { from = 0; to = 0 } → t.unlinked ≡ s.unlinked → Takes x station bytes s t memory memory
   taken_early text y f h e u =
       let early-x : Early x = rw f at (early text y h) in

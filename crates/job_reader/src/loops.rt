@@ -72,8 +72,8 @@ fn walk(text: &[u8], shots: &mut [u64], first: State) -> State
 
 // Reads a loop. Each shot is kept in the caller's memory as 65536 times its distance and its bearing, where there is room.
 pub fn read_loop(text: &[u8], shots: &mut [u64]) -> LoopAnswer
-    ensures value { result ≡ answer_of (loop_of text.now) }
-    ensures shots_after { shots.new ≡ memory_after text.now shots.old }
+    ensures answer { result ≡ answer_of (loop_of text.now) }
+    ensures memory { shots.new ≡ memory_after text.now shots.old }
 {
     if MOST_BYTES < text.len() {
         return refused_loop(5, 0);

@@ -105,9 +105,9 @@ pub fn first_progress() -> Progress
 
 // One line: whether it is accepted in its place, what it says, and what it sets. A shot's pair is not drawn yet.
 pub fn read_on(line: &[u8], p: Progress) -> Step
-    ensures next_value { result.next ≡ progress_on (read_line line.now) p }
-    ensures says_value { said line.now result.says ≡ read_line line.now }
-    ensures says_value_2 { result.says ≡ line_in line.now (read_line line.now) }
+    ensures progress { result.next ≡ progress_on (read_line line.now) p }
+    ensures says { said line.now result.says ≡ read_line line.now }
+    ensures exact { result.says ≡ line_in line.now (read_line line.now) }
 {
     let says = read_line(line);
     let code = line_code(says, p.line);
