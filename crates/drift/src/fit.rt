@@ -7,6 +7,7 @@ const MOST: u32 = 4096;
 // A sum may be as large as this in size.
 const LIMIT: i64 = 1 << 42;
 
+#[tactic(auto, unfolding(crate::specs::Drift::size_fit))]
 pub fn is_size(n: u32) -> bool
     ensures { result ≡ size_fit n }
 {
