@@ -1,7 +1,7 @@
 -- A block goes by chunks. What holds between two of them, over f and so for either width.
 use mathlib.Core.Path.{◌≡◌, refl, sym, ap, subst, ◌∙◌}
-use mathlib.Core.List.{List, [], ◌∷◌, ◌++◌}
-use Prim.Native.Nat.{ℕ, zero, suc, ◌+◌, ◌-◌, ◌*◌, ◌/◌, ◌%◌, ◌≤◌, ◌<◌, min}
+use mathlib.Core.List.{List, ◌++◌}
+use Prim.Native.Nat.{ℕ, ◌+◌, ◌-◌, ◌*◌, ◌/◌, ◌%◌, ◌≤◌, ◌<◌, min}
 use native.Mathlib.Omega.{arith}
 use lib.IntN.{ℤ}
 use lib.ListN.{length, take, drop, length-take, length-drop}
@@ -70,6 +70,11 @@ pub record Chunk (room most place end : ℕ) : Type 0 where
 
 pub chunk_is : {room most place end : ℕ} → room % 2 ≡ 0 → place % 2 ≡ 0 → 0 < most → place < room → end ≡ min room (place + 2 * most) → Chunk room most place end
 chunk_is even₀ even some more e = record { inside = omega arith; some = omega arith; few = omega arith; whole = omega arith }
+
+-- the next chunk, between two turns
+pub next_chunk : {f : ℕ} {z₀ p₀ r₀ x₀ c₀ f₀ : List ℕ} {out₀ : List ℤ} {u : Lanes} {z p r x c fi : List ℕ} {out : List ℤ} {state : Lanes} {place end : ℕ} → Going f z₀ p₀ r₀ x₀ c₀ f₀ out₀ u z p r x c fi out state place → 0 < length z₀ → length out₀ % 2 ≡ 0
+    → place < length out → end ≡ min (length out) (place + 2 * length z) → Chunk (length out) (length z) place end
+next_chunk going some even more e = chunk_is (omega (arith, going.reached.length_kept, even)) going.reached.even (omega (arith, going.z_kept, some)) more e
 
 module _ {room most place end : ℕ} (chunk : Chunk room most place end) (z : List ℕ) (size : length z ≡ most) where
   -- its words are the first of z

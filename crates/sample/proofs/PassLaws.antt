@@ -1,7 +1,7 @@
 -- The passes, between two turns of their loops.
 use mathlib.Core.Path.{◌≡◌, refl, ap, ◌∙◌}
 use mathlib.Core.List.{List}
-use Prim.Native.Nat.{ℕ, suc, ◌+◌, ◌/◌, ◌%◌, ◌^◌, ◌≤◌, ◌<◌}
+use Prim.Native.Nat.{ℕ, ◌+◌, ◌/◌, ◌%◌, ◌^◌, ◌≤◌, ◌<◌}
 use native.Mathlib.Decide.{dec_lt}
 use native.Mathlib.Omega.{arith}
 use lib.ListN.{length, get_or, set, length-set}
@@ -10,7 +10,7 @@ use Rattle.radius.specs.Steps.{under_root, radius_of}
 use Rattle.radius.specs.Root.{whole_root, NearRoot}
 use Rattle.radius.proofs.Ranges.{under_root_below}
 use Rattle.angle.specs.Rotations.{Rotated}
-use Rattle.sample.specs.Private.{Room, LookedAt, Looked, UnderRoots, NearRoots, ReadyAt, Ready}
+use Rattle.sample.specs.Private.{Room, LookedAt, Looked, UnderRoots, NearRoots, Ready}
 
 -- ---- A list that is rewritten in place: its first i numbers are what they should be, the others as they were.
 pub record Done (P : ℕ → ℕ → Type 0) (old new : List ℕ) (i : ℕ) : Type 0 where

@@ -1,11 +1,15 @@
 -- A sample at f fraction bits, narrowed from 64 bits to a width that it fits.
-use mathlib.Core.Path.{◌≡◌, ◌∙◌}
+use mathlib.Core.Path.{◌≡◌, ap, ◌∙◌}
 use Prim.Native.Nat.{ℕ, ◌^◌, ◌/◌, ◌%◌, ◌≤◌, ◌<◌}
 use native.Mathlib.Nat.{lt_of_le_of_lt}
 use lib.IntN.{ℤ, nat_abs}
 use mir.Syntax.{Width, w64}
 use mir.Val.{SFits, hbits, to_z, of_z}
 use Rattle.signs.proofs.Sizes.{cast_fits, cast_reads}
+use Rattle.radius.specs.Steps.{radius_of}
+use Rattle.angle.specs.Steps.{signed_of}
+use Rattle.box_muller.specs.Steps.{rounded}
+use Rattle.box_muller.specs.Sample.{first_of, second_of}
 use Rattle.box_muller.specs.Theorems.{largest}
 use Rattle.box_muller.proofs.RoundingLaws.{first_small, second_small}
 use Rattle.sample.specs.Samples.{first_at, second_at}
@@ -28,3 +32,12 @@ module _ (f : ℕ) (w : Width) (narrow : hbits w ≤ hbits w64) (few : largest f
 
   pub second_reads : x ≡ second_at f z → to_z w (of_z w (to_z w64 (of_z w64 x))) ≡ second_at f z
   second_reads is = cast_reads w64 w x narrow (second_size is) ∙ is
+
+-- from the radius that is taken
+pub first_is : (f z : ℕ) {F : ℕ} {x : ℤ} → x ≡ rounded f F (signed_of (z % 65536)).0 → F ≡ radius_of (z / 65536) → x ≡ first_at f z
+unfolding first_of
+first_is f z is radius = is ∙ ap (λ (F : ℕ). rounded f F (signed_of (z % 65536)).0) radius
+
+pub second_is : (f z : ℕ) {F : ℕ} {x : ℤ} → x ≡ rounded f F (signed_of (z % 65536)).1 → F ≡ radius_of (z / 65536) → x ≡ second_at f z
+unfolding second_of
+second_is f z is radius = is ∙ ap (λ (F : ℕ). rounded f F (signed_of (z % 65536)).1) radius

@@ -1,5 +1,5 @@
 -- For private functions; no public contract cites these.
-use Rattle.std.specs.Prelude.{Bool, cond, ◌≡◌, List, ℕ, ◌*◌, ◌/◌, ◌%◌, ◌^◌, ◌≤◌, ◌<◌, length, get_or}
+use Rattle.std.specs.Prelude.{Bool, cond, ◌≡◌, List, ℕ, ◌/◌, ◌%◌, ◌^◌, ◌≤◌, ◌<◌, length, get_or}
 use Rattle.radius.specs.Steps.{number_bits, under_root}
 use Rattle.radius.specs.Cells.{InCell}
 use Rattle.radius.specs.Root.{NearRoot}
