@@ -9,8 +9,8 @@ use streams::{Generator, RecordAnswer};
 
 // The next pair of samples, in the caller's memory, and the record after it; refused, 0 and 0.
 pub fn pair18(g: Generator, out: &mut [i32; 2]) -> RecordAnswer
-    ensures value { result ≡ pair_returns fraction_bits18 g }
-    ensures out_after { out.new ≡ samples_in (pair_of fraction_bits18 g) }
+    ensures answer { result ≡ pair_returns fraction_bits18 g }
+    ensures memory { out.new ≡ samples_in (pair_of fraction_bits18 g) }
 {
     let drawn = g.uniforms();
     let next = drawn.next;
@@ -27,8 +27,8 @@ pub fn pair18(g: Generator, out: &mut [i32; 2]) -> RecordAnswer
 
 // A block of samples, first and second of each pair alternating.
 pub fn block18(g: Generator, out: &mut [i32]) -> RecordAnswer
-    ensures value { result ≡ block_of g (length out.old) }
-    ensures out_after { out.new ≡ block_holds fraction_bits18 g out.old }
+    ensures answer { result ≡ block_of g (length out.old) }
+    ensures memory { out.new ≡ block_holds fraction_bits18 g out.old }
 {
     let code = streams::block_code(g, out.len());
     if code != 0 {
@@ -43,8 +43,8 @@ pub fn block18(g: Generator, out: &mut [i32]) -> RecordAnswer
 
 // A look at the block that would come next, as if no request were open: its samples, and the record as it is.
 pub fn look18(g: Generator, out: &mut [i32]) -> RecordAnswer
-    ensures value { result ≡ look_of g (length out.old) }
-    ensures out_after { out.new ≡ look_holds fraction_bits18 g out.old }
+    ensures answer { result ≡ look_of g (length out.old) }
+    ensures memory { out.new ≡ look_holds fraction_bits18 g out.old }
 {
     let free = without_note(g);
     let code = streams::block_code(free, out.len());
@@ -58,8 +58,8 @@ pub fn look18(g: Generator, out: &mut [i32]) -> RecordAnswer
 
 // The samples that were asked for; the request is closed.
 pub fn take18(g: Generator, out: &mut [i32]) -> RecordAnswer
-    ensures value { result ≡ take_of g (length out.old) }
-    ensures out_after { out.new ≡ take_holds fraction_bits18 g out.old }
+    ensures answer { result ≡ take_of g (length out.old) }
+    ensures memory { out.new ≡ take_holds fraction_bits18 g out.old }
 {
     let code = streams::take_code(g, out.len());
     if code != 0 {

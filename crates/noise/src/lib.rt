@@ -16,8 +16,8 @@ use streams::{Both, Generator, Lanes, RecordAnswer};
 
 // The next pair of samples, in the caller's memory, and the record after it; refused, 0 and 0.
 pub fn pair(g: Generator, out: &mut [i16; 2]) -> RecordAnswer
-    ensures value { result ≡ pair_returns fraction_bits g }
-    ensures out_after { out.new ≡ samples_in (pair_of fraction_bits g) }
+    ensures answer { result ≡ pair_returns fraction_bits g }
+    ensures memory { out.new ≡ samples_in (pair_of fraction_bits g) }
 {
     let drawn = g.uniforms();
     let next = drawn.next;
@@ -69,8 +69,8 @@ fn without_note(g: Generator) -> Generator
 
 // A block of samples, first and second of each pair alternating.
 pub fn block(g: Generator, out: &mut [i16]) -> RecordAnswer
-    ensures value { result ≡ block_of g (length out.old) }
-    ensures out_after { out.new ≡ block_holds fraction_bits g out.old }
+    ensures answer { result ≡ block_of g (length out.old) }
+    ensures memory { out.new ≡ block_holds fraction_bits g out.old }
 {
     let code = streams::block_code(g, out.len());
     if code != 0 {
@@ -85,8 +85,8 @@ pub fn block(g: Generator, out: &mut [i16]) -> RecordAnswer
 
 // A look at the block that would come next, as if no request were open: its samples, and the record as it is.
 pub fn look(g: Generator, out: &mut [i16]) -> RecordAnswer
-    ensures value { result ≡ look_of g (length out.old) }
-    ensures out_after { out.new ≡ look_holds fraction_bits g out.old }
+    ensures answer { result ≡ look_of g (length out.old) }
+    ensures memory { out.new ≡ look_holds fraction_bits g out.old }
 {
     let free = without_note(g);
     let code = streams::block_code(free, out.len());
@@ -100,8 +100,8 @@ pub fn look(g: Generator, out: &mut [i16]) -> RecordAnswer
 
 // The samples that were asked for; the request is closed.
 pub fn take(g: Generator, out: &mut [i16]) -> RecordAnswer
-    ensures value { result ≡ take_of g (length out.old) }
-    ensures out_after { out.new ≡ take_holds fraction_bits g out.old }
+    ensures answer { result ≡ take_of g (length out.old) }
+    ensures memory { out.new ≡ take_holds fraction_bits g out.old }
 {
     let code = streams::take_code(g, out.len());
     if code != 0 {
