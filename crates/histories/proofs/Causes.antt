@@ -15,7 +15,7 @@ use Rattle.streams.proofs.FirstCause.{Settled, never, unfit, opened}
 use Rattle.noise.specs.Runs.{returned}
 use Rattle.noise.proofs.Runs.{returned_code}
 use Rattle.histories.specs.Refusals.{Refusal, unfit_a, unfit_b, none_open, one_open, not_as_asked, odd_length, count_full}
-use Rattle.histories.specs.Refusals.{refusal_code, order, NoneOpen, Open, TooMany, OtherSize, Odd, Passes, CauseOf, Applies}
+use Rattle.histories.specs.Refusals.{refusal_code, order, NoneOpen, TooMany, OtherSize, Odd, Passes, CauseOf, Applies}
 
 -- ---- One cause
 

@@ -1,3 +1,2 @@
 // Runs of calls on a record: definitions in specs/, laws in proofs/.
 #![tactic(auto)]
-

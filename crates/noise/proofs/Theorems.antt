@@ -176,7 +176,6 @@ pairs_alike g = (refl, refl)
 each_holds : (l : List Reading) → map (λ (r : Reading). samples_of fraction_bits r.k r.v) l
     ≡ map (λ (r : Reading). record { code = 0; first = r.first; second = r.second }) l
     → (rest : List Check) → AllHold rest → AllHold (map of_samples l ++ rest)
-unfolding map ◌++◌
 each_holds [] e rest h = h
 each_holds (r ∷ l) e rest h =
     (ap (λ (s : List Samples). get_or s 0 (samples_of fraction_bits 0 0)) e, each_holds l (ap (λ (s : List Samples). drop 1 s) e) rest h)
