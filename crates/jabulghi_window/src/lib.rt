@@ -19,8 +19,8 @@ pub extern "C" fn jabulghi_window_make_members(
     squares: &mut i64,
     n: u32,
 ) -> u32
-    ensures value { result ≡ (made_of n).code }
-    ensures squares_after { window_of size.new held.new place.new places.new sum.new squares.new ≡ (made_of n).window }
+    ensures code { result ≡ (made_of n).code }
+    ensures window_after { window_of size.new held.new place.new places.new sum.new squares.new ≡ (made_of n).window }
 {
     window::clear(places);
     let made = window::made(n);
@@ -45,8 +45,8 @@ pub extern "C" fn jabulghi_window_push_members(
     squares: &mut i64,
     sample: i16,
 ) -> u32
-    ensures value { result ≡ (pushed_of (window_of size.old held.old place.old places.old sum.old squares.old) sample).code }
-    ensures squares_after { window_of size.new held.new place.new places.new sum.new squares.new ≡ (pushed_of (window_of size.old held.old place.old places.old sum.old squares.old) sample).window }
+    ensures code { result ≡ (pushed_of (window_of size.old held.old place.old places.old sum.old squares.old) sample).code }
+    ensures window_after { window_of size.new held.new place.new places.new sum.new squares.new ≡ (pushed_of (window_of size.old held.old place.old places.old sum.old squares.old) sample).window }
 {
     let was = Members {
         code: 0,
@@ -78,8 +78,8 @@ pub extern "C" fn jabulghi_window_push_all_members(
     squares: &mut i64,
     samples: &[i16],
 ) -> u32
-    ensures value { result ≡ (pushed_all (window_of size.old held.old place.old places.old sum.old squares.old) samples.now).code }
-    ensures squares_after { window_of size.new held.new place.new places.new sum.new squares.new ≡ (pushed_all (window_of size.old held.old place.old places.old sum.old squares.old) samples.now).window }
+    ensures code { result ≡ (pushed_all (window_of size.old held.old place.old places.old sum.old squares.old) samples.now).code }
+    ensures window_after { window_of size.new held.new place.new places.new sum.new squares.new ≡ (pushed_all (window_of size.old held.old place.old places.old sum.old squares.old) samples.now).window }
 {
     let was = Members {
         code: 0,
