@@ -1,20 +1,16 @@
 -- What is known of a line once it is read, and what a line that prints nothing leaves.
 use Prim.Native.Nat.{ℕ, ◌≤◌}
-use native.Mathlib.Omega.{arith}
 use native.Mathlib.Nat.{add-zero}
 use mathlib.Core.Path.{◌≡◌, refl, sym, ap, subst, ◌∙◌}
-use mathlib.Core.Logic.{inl, inr}
-use mathlib.Core.List.{List, [], ◌∷◌}
+use mathlib.Core.List.{List, []}
 use lib.ListN.{length}
 use Rattle.text.specs.Limits.{name_length}
 use Rattle.text.proofs.Plain.{name_length_lem}
 use Rattle.text.proofs.Writing.{written_none}
-use Rattle.job_lines.specs.Forms.{Form, seeds, sigma, shot, no_form, said, read_line, Printable}
+use Rattle.job_lines.specs.Forms.{Form, shot, said, read_line, Printable}
 use Rattle.job_lines.specs.declared.Line.{Line}
 use Rattle.job_lines.specs.declared.Line.TheVariants.{Seeds, Sigma, Shot, NoForm}
-use Rattle.job_lines.specs.contracts.Line.{the_type}
-use denote.Enum.Declared.{tag_of}
-use types.Run.{OneOf}
+use Rattle.job_lines.specs.declared.Shot.{Shot as ShotFields}
 use borrow.Author.Tests.{ne_eqb}
 use Rattle.job_reader.specs.Refusals.{refusal}
 use Rattle.job_reader.specs.Setting.{setting_on, progress_on}
@@ -32,15 +28,13 @@ pub state_same : (k used : ℕ) (s t : Setting) (x : Form) (out : List ℕ) (r :
 unfolding accepted_state accepted_buffer
 state_same k used s t x out r e h f = rw (e, add-zero used, ← h) (f, (written_none out used).1)
 
--- and so does every line but a shot; the tags are those of the enum's cases
-pub unprinted : (text : List ℕ) (x : Line) (s : Setting) → OneOf (0 ∷ 1 ∷ 3 ∷ []) (tag_of the_type x)
+-- and so does every line but a shot
+pub unprinted : (text : List ℕ) (x : Line) (s : Setting) → ((f : ShotFields) → x ≡ Shot f → ⊥)
     → (printed (said text x) s ≡ []) × (setting_after (said text x) s ≡ setting_on (said text x) s)
 unfolding printed setting_after
 unprinted text (Seeds x) s h = (refl, refl)
 unprinted text (Sigma x) s h = (refl, refl)
-unprinted text (Shot x) s (inl e) = absurd (omega (arith, e))
-unprinted text (Shot x) s (inr (inl e)) = absurd (omega (arith, e))
-unprinted text (Shot x) s (inr (inr e)) = absurd (omega (arith, e))
+unprinted text (Shot x) s h = absurd (h x refl)
 unprinted text NoForm s h = (refl, refl)
 
 -- a line, accepted or refused
@@ -58,7 +52,7 @@ module _ (s : State) (x : Form) (out : List ℕ) where
         rw (ne_eqb (refusal s.read.line x) 0 (λ h. z (code_on x s.read next e ∙ h)))
         (ap (λ (p : Progress). record { read = p; used = s.used }) (after_no x s.read next e z), refl)
 
-    pub taken_on : (text : List ℕ) (y : Line) → said text y ≡ x → OneOf (0 ∷ 1 ∷ 3 ∷ []) (tag_of the_type y) → next.code ≡ 0
+    pub taken_on : (text : List ℕ) (y : Line) → said text y ≡ x → ((g : ShotFields) → y ≡ Shot g → ⊥) → next.code ≡ 0
         → (record { read = next; used = s.used } ≡ taken_of s x) × (out ≡ buffer_of s x out)
     taken_on text y f h z =
         let same = unprinted text y s.read.setting h in

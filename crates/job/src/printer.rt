@@ -9,7 +9,7 @@ use listing_rows::write::put_refused;
 // Writes what the listing program prints, the listing or why the job is refused, and returns its length.
 pub fn print_job(text: &[u8], out: &mut [u8]) -> usize
     ensures puts { Puts out.old 0 (output_of (job_of text.now) (length out.old)) result out.new }
-    ensures upper_bound { result ≤ length out.new }
+    ensures within { result ≤ length out.new }
 {
     let answer = list(text, out);
     if answer.code == 0 {
