@@ -1,3 +1,2 @@
 // The period of the streams: definitions in specs/, laws in proofs/.
 #![tactic(auto)]
-
