@@ -6,10 +6,9 @@ use mathlib.Core.List.{List, [], ◌∷◌}
 use lib.ListN.{length, get_or, drop, drop_of_length-le}
 use lib.Seq.{drop-cons}
 use borrow.Author.Tests.{ne_eqb}
-use Rattle.streams.specs.declared.Generator.{Generator}
-use Rattle.streams.specs.Streams.{Call, if_accepted, uniforms_of, skip_of, ask_of, give_up_of}
+use Rattle.streams.specs.Streams.{Call, if_accepted}
 use Rattle.streams.specs.Streams.Call.{a_pair, a_skip, a_Block, an_ask, a_take, give_up}
-use Rattle.noise.specs.Noise.{pair_of, block_of, take_of}
+use Rattle.noise.specs.Noise.{pair_of}
 use Rattle.noise.specs.Runs.{returned}
 use Rattle.noise.proofs.Runs.{returned_code, next_is, left_by}
 use Rattle.jabulghi.specs.Words.{words_of, generator_of}

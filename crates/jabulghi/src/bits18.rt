@@ -11,7 +11,7 @@ use crate::words::{packed, unpacked};
 
 // The two samples of k and v.
 pub fn jabulghi_sample18(k: u64, v: u32, samples: &mut [i32; 2]) -> u32
-    ensures value { result ≡ (samples_of fraction_bits18 k v).code }
+    ensures code { result ≡ (samples_of fraction_bits18 k v).code }
     ensures samples_after { samples.new ≡ (samples_of fraction_bits18 k v).first ∷ (samples_of fraction_bits18 k v).second ∷ [] }
     ensures close { k < 2 ^ number_bits → v < 65536 → Close three_quarters fraction_bits18 (inverse k) v (get_or samples.new 0 (pos 0)) (get_or samples.new 1 (pos 0)) }
 {
@@ -20,7 +20,7 @@ pub fn jabulghi_sample18(k: u64, v: u32, samples: &mut [i32; 2]) -> u32
 
 // One pair of samples from a record.
 pub fn jabulghi_pair18(words: &mut [u32; 10], samples: &mut [i32; 2]) -> u32
-    ensures value { result ≡ (pair_of fraction_bits18 (generator_of words.old)).code }
+    ensures code { result ≡ (pair_of fraction_bits18 (generator_of words.old)).code }
     ensures samples_after { samples.new ≡ samples_in (pair_of fraction_bits18 (generator_of words.old)) }
     ensures words_after { words.new ≡ words_of (pair_of fraction_bits18 (generator_of words.old)).next }
 {
@@ -32,7 +32,7 @@ pub fn jabulghi_pair18(words: &mut [u32; 10], samples: &mut [i32; 2]) -> u32
 
 // A block of samples from a record, first and second alternating.
 pub fn jabulghi_block18(words: &mut [u32; 10], block: &mut [i32]) -> u32
-    ensures value { result ≡ (block_of (generator_of words.old) (length block.old)).code }
+    ensures code { result ≡ (block_of (generator_of words.old) (length block.old)).code }
     ensures block_after { block.new ≡ block_holds fraction_bits18 (generator_of words.old) block.old }
     ensures words_after { words.new ≡ words_of (block_of (generator_of words.old) (length block.old)).next }
 {
@@ -44,7 +44,7 @@ pub fn jabulghi_block18(words: &mut [u32; 10], block: &mut [i32]) -> u32
 
 // A look at the block that would come next; the record is only read.
 pub fn jabulghi_look18(words: &[u32; 10], block: &mut [i32]) -> u32
-    ensures value { result ≡ (look_of (generator_of words.now) (length block.old)).code }
+    ensures code { result ≡ (look_of (generator_of words.now) (length block.old)).code }
     ensures block_after { block.new ≡ look_holds fraction_bits18 (generator_of words.now) block.old }
 {
     let g = unpacked(*words);
@@ -54,7 +54,7 @@ pub fn jabulghi_look18(words: &[u32; 10], block: &mut [i32]) -> u32
 
 // The samples that were asked for.
 pub fn jabulghi_take18(words: &mut [u32; 10], block: &mut [i32]) -> u32
-    ensures value { result ≡ (take_of (generator_of words.old) (length block.old)).code }
+    ensures code { result ≡ (take_of (generator_of words.old) (length block.old)).code }
     ensures block_after { block.new ≡ take_holds fraction_bits18 (generator_of words.old) block.old }
     ensures words_after { words.new ≡ words_of (take_of (generator_of words.old) (length block.old)).next }
 {

@@ -11,7 +11,7 @@ ghost use Rattle.jabulghi.specs.Words.{words_of, generator_of};
 // The two samples of k and v.
 #[unsafe(no_mangle)]
 pub extern "C" fn jabulghi_sample(k: u64, v: u32, samples: &mut [i16; 2]) -> u32
-    ensures value { result ≡ (samples_of fraction_bits k v).code }
+    ensures code { result ≡ (samples_of fraction_bits k v).code }
     ensures samples_after { samples.new ≡ (samples_of fraction_bits k v).first ∷ (samples_of fraction_bits k v).second ∷ [] }
     ensures close { k < 2 ^ number_bits → v < 65536 → Close nine_sixteenths fraction_bits (inverse k) v (get_or samples.new 0 (pos 0)) (get_or samples.new 1 (pos 0)) }
     ensures closer { k < 2 ^ number_bits → v < 65536 → Close thirty_three_sixty_fourths fraction_bits (inverse k) v (get_or samples.new 0 (pos 0)) (get_or samples.new 1 (pos 0)) }
@@ -22,7 +22,7 @@ pub extern "C" fn jabulghi_sample(k: u64, v: u32, samples: &mut [i16; 2]) -> u32
 // One pair of samples from a record.
 #[unsafe(no_mangle)]
 pub extern "C" fn jabulghi_pair(words: &mut [u32; 10], samples: &mut [i16; 2]) -> u32
-    ensures value { result ≡ (pair_of fraction_bits (generator_of words.old)).code }
+    ensures code { result ≡ (pair_of fraction_bits (generator_of words.old)).code }
     ensures samples_after { samples.new ≡ samples_in (pair_of fraction_bits (generator_of words.old)) }
     ensures words_after { words.new ≡ words_of (pair_of fraction_bits (generator_of words.old)).next }
 {

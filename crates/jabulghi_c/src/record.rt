@@ -14,7 +14,7 @@ pub extern "C" fn jabulghi_seed(
     b2: u32,
     words: &mut [u32; 10],
 ) -> u32
-    ensures value { result ≡ (seed_of a0 a1 a2 b0 b1 b2).code }
+    ensures code { result ≡ (seed_of a0 a1 a2 b0 b1 b2).code }
     ensures words_after { words.new ≡ words_of (seed_of a0 a1 a2 b0 b1 b2).next }
 {
     jabulghi::record::jabulghi_seed(a0, a1, a2, b0, b1, b2, words)
@@ -23,7 +23,7 @@ pub extern "C" fn jabulghi_seed(
 // A record n pairs on.
 #[unsafe(no_mangle)]
 pub extern "C" fn jabulghi_skip(words: &mut [u32; 10], n: u64) -> u32
-    ensures value { result ≡ (skip_of (generator_of words.old) n).code }
+    ensures code { result ≡ (skip_of (generator_of words.old) n).code }
     ensures words_after { words.new ≡ words_of (skip_of (generator_of words.old) n).next }
 {
     jabulghi::record::jabulghi_skip(words, n)
@@ -32,7 +32,7 @@ pub extern "C" fn jabulghi_skip(words: &mut [u32; 10], n: u64) -> u32
 // Notes a request for n pairs.
 #[unsafe(no_mangle)]
 pub extern "C" fn jabulghi_ask(words: &mut [u32; 10], n: u32) -> u32
-    ensures value { result ≡ (ask_of (generator_of words.old) n).code }
+    ensures code { result ≡ (ask_of (generator_of words.old) n).code }
     ensures words_after { words.new ≡ words_of (ask_of (generator_of words.old) n).next }
 {
     jabulghi::record::jabulghi_ask(words, n)
@@ -41,7 +41,7 @@ pub extern "C" fn jabulghi_ask(words: &mut [u32; 10], n: u32) -> u32
 // Clears the request.
 #[unsafe(no_mangle)]
 pub extern "C" fn jabulghi_give_up(words: &mut [u32; 10]) -> u32
-    ensures value { result ≡ (give_up_of (generator_of words.old)).code }
+    ensures code { result ≡ (give_up_of (generator_of words.old)).code }
     ensures words_after { words.new ≡ words_of (give_up_of (generator_of words.old)).next }
 {
     jabulghi::record::jabulghi_give_up(words)
