@@ -69,7 +69,7 @@ def module():
     lines = [
         "-- The certificates, one for each row: columns, three registers each, that show zeros, and the unit words in the last draw. Made by",
         "-- tools/equidistribution.py.",
-        "use mathlib.Core.List.{List, [], _∷_}",
+        "use mathlib.Core.List.{List, [], ◌∷◌}",
         "use Prim.Native.Nat.{ℕ}",
     ]
     for l, t in rows():
