@@ -6,13 +6,12 @@ use Prim.Native.Nat.{ℕ, zero, suc, ◌+◌}
 use native.Mathlib.Nat.{add-zero}
 use native.Mathlib.Omega.{arith}
 use lib.Dec.{eqb}
-use lib.IntN.{ℤ}
 use lib.ListN.{length, get_or, set, replicate, length-replicate}
 use borrow.Author.Tests.{eqb-true, eqb-false, ne_eqb}
 use Rattle.streams.specs.declared.Stream.{Stream}
 use Rattle.streams.specs.declared.Generator.{Generator}
 use Rattle.streams.specs.declared.RecordAnswer.{RecordAnswer}
-use Rattle.streams.specs.Streams.{Call, record_code, open_code, note_code, own_code, room_code, first_cause, if_accepted}
+use Rattle.streams.specs.Streams.{Call, record_code, open_code, if_accepted}
 use Rattle.streams.specs.Recurrence.{InRange, Sound, seed_from}
 use Rattle.streams.proofs.Theorems.{sound, sound_accepted, seeded, seeded_range, fit_call}
 use Rattle.streams.proofs.Causes.{lone_cause}
@@ -21,7 +20,7 @@ use Rattle.noise.specs.Runs.{returned, handed, sum_over}
 use Rattle.noise.specs.Runs.{run as run-on-record}
 use Rattle.noise.proofs.Runs.{returned_code, next_is, call_sound, unfit_call, run_count}
 use Rattle.marks.specs.declared.label.Label.{Label}
-use Rattle.marks.specs.Marks.{Marks, places, has_name, label_of, no_label, no_record, empty, place_of, save_place, idle_code, name_code, place_code, place_to_save, place_to_return, place_to_drop, stored, saved_of, returned_of, dropped_of, Sized}
+use Rattle.marks.specs.Marks.{Marks, places, has_name, label_of, no_label, no_record, empty, idle_code, place_to_save, place_to_return, place_to_drop, stored, saved_of, returned_of, dropped_of, Sized}
 use Rattle.marks.specs.Runs.{State, MarkCall, code_in, next_in, run, Tally, tallied, tally, Untouched, Becomes, AllBecome}
 use Rattle.marks.specs.Runs.MarkCall.{on_record, becomes, a_save, a_return, a_drop}
 use Rattle.marks.specs.Theorems.{ComesBack, Ranged, AllSaved, Counts, Settled, Grown, OfRuns}

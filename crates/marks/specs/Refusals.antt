@@ -1,12 +1,11 @@
 -- What a call on marks is refused for (document 02, Job 11), in the document's words and with its numbers. None of this is read by the code or by
 -- its definitions: `under_cause` compares the two.
 use Rattle.std.specs.Prelude.{◌≡◌, true, List, [], ◌∷◌, ℕ, ◌≤◌, ◌<◌, length, get_or, take}
-use Rattle.streams.specs.declared.Generator.{Generator}
 use Rattle.streams.specs.Recurrence.{Minima}
 use Rattle.streams.specs.FirstCause.{Decides}
 use Rattle.text.specs.Fields.{all, letter_or_digit}
 use Rattle.marks.specs.declared.label.Label.{Label}
-use Rattle.marks.specs.Marks.{no_label, Sized}
+use Rattle.marks.specs.Marks.{no_label}
 use Rattle.marks.specs.Runs.{State, MarkCall, code_in}
 use Rattle.marks.specs.Runs.MarkCall.{a_save, a_return, a_drop}
 

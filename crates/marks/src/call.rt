@@ -55,8 +55,8 @@ fn with_cause(place: usize, busy: u32, malformed: u32, code: u32) -> Placed
 
 // 20: all places are used and the name is new.
 pub fn place_to_save(labels: [Label; PLACES], g: Generator, name: &[u8]) -> Placed
-    ensures value { result ≡ place_to_save labels g name.now }
-    ensures place_lt_places { result.code ≡ 0 → result.place < places }
+    ensures placed { result ≡ place_to_save labels g name.now }
+    ensures within { result.code ≡ 0 → result.place < places }
 {
     let place = save_place(labels, name);
     let busy = idle_code(g);
@@ -66,8 +66,8 @@ pub fn place_to_save(labels: [Label; PLACES], g: Generator, name: &[u8]) -> Plac
 
 // 19: the name is not held.
 pub fn place_to_return(labels: [Label; PLACES], g: Generator, name: &[u8]) -> Placed
-    ensures value { result ≡ place_to_return labels g name.now }
-    ensures place_lt_places { result.code ≡ 0 → result.place < places }
+    ensures placed { result ≡ place_to_return labels g name.now }
+    ensures within { result.code ≡ 0 → result.place < places }
 {
     let place = place_of(labels, name);
     let busy = idle_code(g);
@@ -77,8 +77,8 @@ pub fn place_to_return(labels: [Label; PLACES], g: Generator, name: &[u8]) -> Pl
 
 // 19: the name is not held. A drop waits for no record.
 pub fn place_to_drop(labels: [Label; PLACES], name: &[u8]) -> Placed
-    ensures value { result ≡ place_to_drop labels name.now }
-    ensures place_lt_places { result.code ≡ 0 → result.place < places }
+    ensures placed { result ≡ place_to_drop labels name.now }
+    ensures within { result.code ≡ 0 → result.place < places }
 {
     let place = place_of(labels, name);
     let malformed = name_code(name);
