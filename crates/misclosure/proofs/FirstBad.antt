@@ -2,15 +2,15 @@
 use Prim.Native.Nat.{ℕ, suc, ◌+◌, ◌≤◌}
 use native.Mathlib.Omega.{arith}
 use native.Mathlib.Nat.{add-zero}
-use mathlib.Core.Path.{◌≡◌, refl, sym, ap, subst, ◌∙◌}
+use mathlib.Core.Path.{◌≡◌, refl, ap, subst, ◌∙◌}
 use mathlib.Core.Bool.{Bool, true, false, cond}
 use mathlib.Core.List.{List, [], ◌∷◌, ◌++◌, map}
 use lib.ListN.{length}
 use Rattle.text.specs.Scan.{lines}
 use Rattle.listing_rows.specs.Rows.{end_row, header_of}
-use Rattle.listing_rows.specs.Entries.{is_header, Said, leg, read_entry}
+use Rattle.listing_rows.specs.Entries.{is_header, Said, read_entry}
 use Rattle.listing_rows.proofs.RoundTrip.{row_read, end_read, header_read, header_is}
-use Rattle.misclosure.specs.Misclosure.{last_line, most_step, refusal, Outcome, refused, accepted, onto, no_lines, station_after, onward, outcome, headed, listing_of}
+use Rattle.misclosure.specs.Misclosure.{last_line, refusal, refused, onto, no_lines, station_after, onward, outcome, headed, listing_of}
 use Rattle.misclosure.specs.Theorems.{Row, span_in, row_text, LinkedRow, Linked, station_of, Begins}
 use Rattle.misclosure.proofs.Lines.{in_range_lem, leg_0, last_0}
 use Rattle.misclosure.proofs.Going.{outcome_yes, outcome_no}

@@ -1,5 +1,5 @@
 -- Listings as they stand, and what each gives (document 02, Jobs 13 and 14). proofs/TextReadings.antt computes them.
-use Rattle.std.specs.Prelude.{ℕ, ◌≡◌, Bool, true, false, List, [], ◌∷◌, map, pos}
+use Rattle.std.specs.Prelude.{ℕ, ◌≡◌, true, false, List, [], ◌∷◌, map, pos}
 use Prim.Native.String.{String}
 use Rattle.text.specs.Ascii.{ascii}
 use Rattle.sums.specs.Spans.{Span}

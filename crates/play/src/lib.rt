@@ -24,8 +24,8 @@ pub struct PlayAnswer {
 // The plays of a loop whose shots are read into the caller's memory.
 fn played(text: &[u8], first: u64, shots: &mut [u64], misses: &mut [[i64; 2]]) -> PlayAnswer
     requires { length shots.old ≡ most_shots }
-    ensures value { result ≡ answer_of (play_of text.now first (length misses.old)) }
-    ensures misses_after { misses.new ≡ misses_after (play_of text.now first (length misses.old)) first misses.old }
+    ensures answer { result ≡ answer_of (play_of text.now first (length misses.old)) }
+    ensures memory { misses.new ≡ misses_after (play_of text.now first (length misses.old)) first misses.old }
 {
     let read = read_loop(text, shots);
     if read.code != 0 {
@@ -48,8 +48,8 @@ fn played(text: &[u8], first: u64, shots: &mut [u64], misses: &mut [[i64; 2]]) -
 
 // How far a loop misses in as many plays as there is room for, from the first that is given: east and north of each in whole millimetres.
 pub fn play(text: &[u8], first: u64, misses: &mut [[i64; 2]]) -> PlayAnswer
-    ensures value { result ≡ answer_of (play_of text.now first (length misses.old)) }
-    ensures misses_after { misses.new ≡ misses_after (play_of text.now first (length misses.old)) first misses.old }
+    ensures answer { result ≡ answer_of (play_of text.now first (length misses.old)) }
+    ensures memory { misses.new ≡ misses_after (play_of text.now first (length misses.old)) first misses.old }
 {
     let mut shots = [0u64; MOST_SHOTS as usize];
     played(text, first, &mut shots, misses)

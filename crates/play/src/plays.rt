@@ -14,7 +14,7 @@ use streams::Generator;
 // As many plays as there are misses, from a record on.
 fn each_play(mut g: Generator, distance: u32, bearing: u32, shots: &[u64], misses: &mut [[i64; 2]])
     requires steady { Steady distance bearing × Near shots.now × (length shots.now ≤ most_shots) }
-    requires shots_value { pairs_code g (length misses.old * length shots.now) ≡ 0 }
+    requires pairs { pairs_code g (length misses.old * length shots.now) ≡ 0 }
     ensures { misses.new ≡ misses_from 0 (length misses.old) (setting_of g distance bearing) (unpacked_all shots.now) }
 {
     let mut i = 0;
@@ -31,7 +31,7 @@ fn each_play(mut g: Generator, distance: u32, bearing: u32, shots: &[u64], misse
 // The plays from the first that is given on: its record is that many times the shots pairs on.
 pub fn plays(s: Setting, first: u64, shots: &[u64], misses: &mut [[i64; 2]])
     requires steady { Steady s.distance s.bearing × Near shots.now × (length shots.now ≤ most_shots) }
-    requires shots_value { pairs_code s.generator ((first + length misses.old) * length shots.now) ≡ 0 }
+    requires pairs { pairs_code s.generator ((first + length misses.old) * length shots.now) ≡ 0 }
     ensures { misses.new ≡ misses_from first (length misses.old) s (unpacked_all shots.now) }
 {
     let n = shots.len() as u64;

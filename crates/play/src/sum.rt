@@ -86,7 +86,7 @@ fn chunk_end(at: usize, n: usize) -> usize
 // One play from a record, block by block.
 pub fn one_play(mut g: Generator, distance: u32, bearing: u32, shots: &[u64]) -> Progress
     requires steady { Steady distance bearing × Near shots.now × (length shots.now ≤ most_shots) }
-    requires shots_value { pairs_code g (length shots.now) ≡ 0 }
+    requires pairs { pairs_code g (length shots.now) ≡ 0 }
     ensures { (result.next ≡ after (length shots.now) g)
         × (result.sums.east ≡ total sine (played_shots (setting_of g distance bearing) (unpacked_all shots.now)))
         × (result.sums.north ≡ total cosine (played_shots (setting_of g distance bearing) (unpacked_all shots.now)))

@@ -1,6 +1,6 @@
 -- `misclosure::sum::millimetres` meets its contract.
 use Rattle.std.proofs.Common.{arith}
-use Rattle.misclosure.proofs.Machine.{quotient_fits, next_fits, millimetres_below, millimetres_above}
+use Rattle.misclosure.proofs.Machine.{next_fits, millimetres_below, millimetres_above}
 use Rattle.misclosure.proofs.sum.millimetres.Goals as goal
 
 pub overflow_sub-result : goal.overflow_sub-result

@@ -1,6 +1,5 @@
 -- `misclosure::walk::read_listing` meets its contract: the header, then the lines after it.
 use Rattle.std.proofs.Common.{arith, sym, ◌∙◌}
-use borrow.Author.Tests.{not-true, not-false}
 use Rattle.misclosure.proofs.Going.{header_on, header_off, header_within, refused_sums_lem}
 use Rattle.misclosure.proofs.walk.read_listing.Goals as goal
 

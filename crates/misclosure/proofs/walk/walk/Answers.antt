@@ -1,5 +1,5 @@
 -- `misclosure::walk::walk` meets its contract: line after line, up to one that is refused, the end, or the end of the text.
-use Rattle.std.proofs.Common.{◌-◌, arith, refl, ltb, length}
+use Rattle.std.proofs.Common.{arith, refl, ltb, length}
 use Rattle.text.proofs.Split.{end_within}
 use Rattle.misclosure.proofs.Going.{small, going_start, line_off, line_on, line_last, all_taken, refused_sums_lem, ended_sums}
 use Rattle.misclosure.proofs.walk.walk.Goals as goal
