@@ -1,5 +1,5 @@
 -- From the loop that was read to the answer of the call.
-use Prim.Native.Nat.{ℕ, zero, suc, ◌+◌, ◌-◌, ◌*◌, ◌/◌, ◌%◌, ◌≤◌, ◌<◌}
+use Prim.Native.Nat.{ℕ, zero, suc, ◌+◌, ◌-◌, ◌*◌, ◌/◌, ◌%◌, ◌≤◌}
 use native.Mathlib.Nat.{zero-add, le_of_suc-le-suc}
 use native.Mathlib.Omega.{arith}
 use mathlib.Core.Path.{◌≡◌, refl, sym, ap, ap₂, ◌∙◌}
@@ -7,8 +7,7 @@ use mathlib.Core.Bool.{Bool, true, false, cond}
 use mathlib.Core.List.{List, [], ◌∷◌, map}
 use lib.Dec.{eqb, leb}
 use lib.IntN.{ℤ}
-use lib.ListN.{length, get_or, take, length-map}
-use borrow.Author.Tests.{eq-eqb, ne_eqb}
+use lib.ListN.{length, take, length-map}
 use Rattle.streams.specs.Streams.{most_count, count_code, pairs_code}
 use Rattle.streams.proofs.Causes.{count_room}
 use Rattle.streams.proofs.Theorems.{sound_accepted, pairs_accepted}
@@ -21,7 +20,6 @@ use Rattle.job_reader.specs.declared.loops.LoopAnswer.{LoopAnswer}
 use Rattle.play.proofs.LoopTheorems.{theorems, answer_accepted, answer_refused, Within, Ready, ready}
 use Rattle.play.specs.Play.{room_for, play_of, answer_of, misses_from, misses_after}
 use Rattle.play.specs.Private.{unpacked_all, Near}
-use Rattle.play.specs.declared.PlayAnswer.{PlayAnswer}
 use Rattle.play.specs.Room.{room_of}
 
 -- shots as they were kept, read back

@@ -1,15 +1,15 @@
 -- A play block by block: the samples of a block are those of its pairs, and the blocks' sums add up.
-use Prim.Native.Nat.{ℕ, zero, suc, ◌+◌, ◌-◌, ◌*◌, ◌/◌, ◌%◌, ◌^◌, ◌≤◌, ◌<◌, min}
-use native.Mathlib.Nat.{zero-add, le_of_suc-le-suc, min-eq_left}
+use Prim.Native.Nat.{ℕ, zero, suc, ◌+◌, ◌-◌, ◌*◌, ◌/◌, ◌≤◌, ◌<◌, min}
+use native.Mathlib.Nat.{le_of_suc-le-suc}
 use native.Mathlib.Omega.{arith}
-use mathlib.Core.Path.{◌≡◌, refl, sym, ap, ap₂, ◌∙◌}
-use mathlib.Core.List.{List, [], ◌∷◌, ◌++◌, map}
+use mathlib.Core.Path.{◌≡◌, refl, sym, ap, ◌∙◌}
+use mathlib.Core.List.{List, [], ◌∷◌, ◌++◌}
 use lib.IntN.{ℤ, pos, nat_abs, ◌+ℤ◌, +ℤ_idl, +ℤ_idr, +ℤ_assoc}
-use lib.ListN.{length, get_or, take, drop, length-drop, take-append-drop, drop_of_length-le}
+use lib.ListN.{length, take, drop, length-drop, take-append-drop, drop_of_length-le}
 use lib.Seq.{length-take-le, get_or-take, get_or-drop, drop-drop}
 use Rattle.streams.specs.declared.Generator.{Generator}
 use Rattle.streams.specs.declared.RecordAnswer.{RecordAnswer}
-use Rattle.streams.specs.Streams.{most_count, pairs_code, uniforms_of, after}
+use Rattle.streams.specs.Streams.{pairs_code, uniforms_of, after}
 use Rattle.streams.specs.Recurrence.{Sound}
 use Rattle.streams.proofs.Theorems.{sound_accepted, pairs_accepted, moved_sound, after_add, after_moved}
 use Rattle.box_muller.specs.Steps.{fraction_bits}
@@ -17,12 +17,11 @@ use Rattle.noise.specs.Noise.{pair_of, samples, block_code, block_of, block_hold
 use Rattle.noise.proofs.Laws.{block_accepted, length_samples}
 use Rattle.noise.proofs.Theorems.{pair_sizes}
 use Rattle.job_reader.specs.Limits as limits
-use Rattle.job_reader.specs.declared.walk.Setting.{Setting}
 use Rattle.noisy_shot.specs.Shots.{Shot}
 use Rattle.sums.specs.Sums.{sine, cosine, total}
 use Rattle.sums.proofs.SumLaws.{total_joined}
-use Rattle.play.specs.Play.{ahead, noisy_shot, played_shots}
-use Rattle.play.specs.Private.{setting_of, chunk_shots, unpacked, unpacked_all, noisy_shots, Near, largest_sample, SmallSamples, most, Spare, Grown}
+use Rattle.play.specs.Play.{noisy_shot, played_shots}
+use Rattle.play.specs.Private.{setting_of, chunk_shots, unpacked, unpacked_all, noisy_shots, Near, SmallSamples, most, Spare, Grown}
 use Rattle.play.specs.declared.sum.Sums.{Sums}
 
 -- ---- One block

@@ -9,7 +9,7 @@ use lib.ListN.{length, set, take, length-set, length-map}
 use lib.Seq.{take-suc-set, take_all}
 use Rattle.streams.specs.declared.Generator.{Generator}
 use Rattle.streams.specs.declared.RecordAnswer.{RecordAnswer}
-use Rattle.streams.specs.Streams.{most_count, pairs_code, after, skip_of}
+use Rattle.streams.specs.Streams.{pairs_code, after, skip_of}
 use Rattle.streams.specs.Recurrence.{Sound}
 use Rattle.streams.proofs.Theorems.{pairs_accepted, after_add}
 use Rattle.job_reader.specs.declared.walk.Setting.{Setting}

@@ -1,9 +1,9 @@
 -- A play's sums, shot by shot.
-use Prim.Native.Nat.{ℕ, zero, suc, ◌+◌, ◌*◌, ◌/◌, ◌%◌, ◌^◌, ◌≤◌, ◌<◌}
+use Prim.Native.Nat.{ℕ, suc, ◌+◌, ◌*◌, ◌/◌, ◌^◌, ◌≤◌, ◌<◌}
 use native.Mathlib.Nat.{mul-le-mul}
 use native.Mathlib.Omega.{arith}
 use mathlib.Core.Path.{◌≡◌, refl, sym, ap, ap₂, ◌∙◌}
-use mathlib.Core.List.{List, [], ◌∷◌}
+use mathlib.Core.List.{List, ◌∷◌}
 use lib.IntN.{ℤ, pos, nat_abs, ◌+ℤ◌, ◌*ℤ◌, +ℤ_idr, +ℤ_assoc}
 use lib.ListN.{length, get_or, drop, drop_of_length-le}
 use lib.Seq.{drop-cons}
@@ -14,7 +14,6 @@ use Rattle.noisy_shot.specs.Rounding.{noisy_distance, noisy_bearing}
 use Rattle.job_reader.specs.Limits as limits
 use Rattle.angle.specs.Steps.{signed_of}
 use Rattle.angle.proofs.Ranges.{signed_range}
-use Rattle.noisy_shot.specs.Shots.{Shot}
 use Rattle.sums.specs.Sums.{sine, cosine, product, total, most_distance}
 use Rattle.read_back.proofs.ReadBack.{sized_most, bearing_most}
 use Rattle.play.specs.Private.{largest_sample, most, noisy_of, noisy_shots, Near, SmallSamples}

@@ -22,8 +22,8 @@ pub struct LegsAnswer {
 // Writes the shot lines of a text's legs. They are measured first, by way of a spare byte, so that the caller's buffer is written
 // only where they fit.
 pub fn legs(text: &[u8], out: &mut [u8]) -> LegsAnswer
-    ensures value { result ≡ legs_answer (survex_of text.now) (length out.old) }
-    ensures out_after { out.new ≡ buffer_after (survex_of text.now) out.old }
+    ensures answer { result ≡ legs_answer (survex_of text.now) (length out.old) }
+    ensures buffer { out.new ≡ buffer_after (survex_of text.now) out.old }
     ensures length_in_bounds { result.length ≤ length out.old }
 {
     let room = out.len();

@@ -9,8 +9,8 @@ pub returns-then-measured-ne0 : goal.returns-then-measured-ne0
 returns-then-measured-ne0 c =
     let e = c.convert-measured.ensures.answer in
     record {
-      value = e;
-      out_after = buffer_kept _ c.args.out.now _ e c.if-measured-ne0.true;
+      answer = e;
+      buffer = buffer_kept _ c.args.out.now _ e c.if-measured-ne0.true;
       length_in_bounds = length_within _ c.args.out.now _ e;
     }
 
@@ -20,4 +20,4 @@ returns c =
     let o = survex_of c.args.text.now in
     let k = c.convert.ensures in
     let z = ap (λ (x : LegsAnswer). x.code) (k.answer ∙ sym c.convert-measured.ensures.answer) ∙ c.if-measured-ne0.false in
-    record { value = k.answer; out_after = buffer_is o out _ _ (survex_told _) k z; length_in_bounds = length_within o out _ k.answer }
+    record { answer = k.answer; buffer = buffer_is o out _ _ (survex_told _) k z; length_in_bounds = length_within o out _ k.answer }

@@ -16,9 +16,9 @@ returns-then-answer-eq0 c =
     let out = start.out.now in
     let o = survex_of start.text.now in
     let legs = c.legs-answer in
-    let accepted = sym (ap (λ (r : LegsAnswer). r.code) legs.ensures.value) ∙ c.if-answer-eq0.true in
+    let accepted = sym (ap (λ (r : LegsAnswer). r.code) legs.ensures.answer) ∙ c.if-answer-eq0.true in
     let listed : Puts out 0 (output_of o (length out)) legs.result.length legs.new.out =
-    rw (legs.ensures.value, legs.ensures.out_after) (printed_listed o out (survex_told start.text.now) accepted) in
+    rw (legs.ensures.answer, legs.ensures.buffer) (printed_listed o out (survex_told start.text.now) accepted) in
     record { puts = listed; upper_bound = puts_within out 0 (output_of o (length out)) (omega arith) listed }
 
 -- bytes that are the output's
@@ -31,7 +31,7 @@ returns c =
     let out = start.out.now in
     let o = survex_of start.text.now in
     let legs = c.legs-answer in
-    let (same, row) = printed_refused o out (λ z. c.if-answer-eq0.false (ap (λ (r : LegsAnswer). r.code) legs.ensures.value ∙ z)) in
-    let told : refused_row legs.result.code legs.result.line ≡ output_of o (length out) = rw legs.ensures.value row in
-    let puts = put_as out told (rw (legs.ensures.out_after ∙ same) at c.put_refused.ensures) in
+    let (same, row) = printed_refused o out (λ z. c.if-answer-eq0.false (ap (λ (r : LegsAnswer). r.code) legs.ensures.answer ∙ z)) in
+    let told : refused_row legs.result.code legs.result.line ≡ output_of o (length out) = rw legs.ensures.answer row in
+    let puts = put_as out told (rw (legs.ensures.buffer ∙ same) at c.put_refused.ensures) in
     record { puts = puts; upper_bound = puts_within out 0 (output_of o (length out)) (omega arith) puts }

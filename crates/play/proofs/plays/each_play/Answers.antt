@@ -1,5 +1,5 @@
 -- `play::plays::each_play` meets its contract.
-use Rattle.std.proofs.Common.{◌-◌, zero-mul, arith, refl, ap, ◌∙◌, length}
+use Rattle.std.proofs.Common.{zero-mul, arith, refl, ap, ◌∙◌, length}
 use Rattle.streams.specs.Streams.{after}
 use Rattle.streams.proofs.Theorems.{sound, pairs_accepted}
 use Rattle.sums.specs.Sums.{rounded}

@@ -1,5 +1,5 @@
 -- `play::sum::summed` meets its contract.
-use Rattle.std.proofs.Common.{◌-◌, arith}
+use Rattle.std.proofs.Common.{arith}
 use Rattle.angle.proofs.Ranges.{signed_range}
 use Rattle.sums.specs.Sums.{sine, cosine}
 use Rattle.play.proofs.Summing.{at_start, one_more, at_end, first_small, near_at}

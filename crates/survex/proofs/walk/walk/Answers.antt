@@ -1,5 +1,5 @@
 -- `survex::walk::walk` meets its contract.
-use Rattle.std.proofs.Common.{◌-◌, arith, ◌∙◌}
+use Rattle.std.proofs.Common.{arith, ◌∙◌}
 use borrow.Author.Tests.{not-true, not-false}
 use Rattle.survex.proofs.Walks.{going_start, going_end, leg_order, leg_within, leg_next, leg_unfed, leg_wrong, leg_on}
 use Rattle.survex.proofs.walk.walk.Goals as goal
