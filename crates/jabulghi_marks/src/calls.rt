@@ -43,8 +43,8 @@ pub extern "C" fn jabulghi_marks_save_members(
     words: &[u32; WORDS],
     name: &[u8],
 ) -> u32
-    ensures value { result ≡ (place_to_save (labels_of used.old lengths.old names.old) (generator_of words.now) name.now).code }
-    ensures records_after { members used.new lengths.new names.new records.new ≡ saved_in (members used.old lengths.old names.old records.old) words.now name.now }
+    ensures code { result ≡ (place_to_save (labels_of used.old lengths.old names.old) (generator_of words.now) name.now).code }
+    ensures members_after { members used.new lengths.new names.new records.new ≡ saved_in (members used.old lengths.old names.old records.old) words.now name.now }
 {
     let labels = labels_of(*used, *lengths, *names);
     let g = unpacked(*words);
@@ -77,7 +77,7 @@ pub extern "C" fn jabulghi_marks_return_members(
     words: &mut [u32; WORDS],
     name: &[u8],
 ) -> u32
-    ensures value { result ≡ (place_to_return (labels_of used.now lengths.now names.now) (generator_of words.old) name.now).code }
+    ensures code { result ≡ (place_to_return (labels_of used.now lengths.now names.now) (generator_of words.old) name.now).code }
     ensures words_after { words.new ≡ returned_words (members used.now lengths.now names.now records.now) words.old name.now }
 {
     let labels = labels_of(*used, *lengths, *names);
@@ -101,8 +101,8 @@ pub extern "C" fn jabulghi_marks_drop_members(
     records: &mut [u32; PLACES * WORDS],
     name: &[u8],
 ) -> u32
-    ensures value { result ≡ (place_to_drop (labels_of used.old lengths.old names.old) name.now).code }
-    ensures records_after { members used.new lengths.new names.new records.new ≡ dropped_in (members used.old lengths.old names.old records.old) name.now }
+    ensures code { result ≡ (place_to_drop (labels_of used.old lengths.old names.old) name.now).code }
+    ensures members_after { members used.new lengths.new names.new records.new ≡ dropped_in (members used.old lengths.old names.old records.old) name.now }
 {
     let labels = labels_of(*used, *lengths, *names);
     let placed = place_to_drop(labels, name);
