@@ -11,7 +11,7 @@ pub extern "C" fn jabulghi_legs(
     line: &mut usize,
     written: &mut usize,
 ) -> u32
-    ensures value { result ≡ (answer_of (survex_of text.now) (length shots.old)).code }
+    ensures code { result ≡ (answer_of (survex_of text.now) (length shots.old)).code }
     ensures line_after { line.new ≡ (answer_of (survex_of text.now) (length shots.old)).line }
     ensures written_after { written.new ≡ (answer_of (survex_of text.now) (length shots.old)).length }
     ensures shots_after { shots.new ≡ buffer_after (survex_of text.now) shots.old }

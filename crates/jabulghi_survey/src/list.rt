@@ -10,7 +10,7 @@ pub extern "C" fn jabulghi_list(
     line: &mut u32,
     written: &mut usize,
 ) -> u32
-    ensures value { result ≡ (answer_of (job_of text.now) (length listing.old)).code }
+    ensures code { result ≡ (answer_of (job_of text.now) (length listing.old)).code }
     ensures line_after { line.new ≡ (answer_of (job_of text.now) (length listing.old)).line }
     ensures written_after { written.new ≡ (answer_of (job_of text.now) (length listing.old)).length }
     ensures listing_after { listing.new ≡ buffer_after (job_of text.now) listing.old }

@@ -16,7 +16,7 @@ pub extern "C" fn jabulghi_misclosure(
     millimetres: &mut [i64; 2],
     line: &mut u32,
 ) -> u32
-    ensures value { result ≡ (miss_of (listing_of false text.now)).code }
+    ensures code { result ≡ (miss_of (listing_of false text.now)).code }
     ensures sums_after { sums.new ≡ (miss_of (listing_of false text.now)).east ∷ (miss_of (listing_of false text.now)).north ∷ [] }
     ensures millimetres_after { millimetres.new ≡ (miss_of (listing_of false text.now)).easting ∷ (miss_of (listing_of false text.now)).northing ∷ [] }
     ensures line_after { line.new ≡ (miss_of (listing_of false text.now)).line }
@@ -38,7 +38,7 @@ pub extern "C" fn jabulghi_intervals(
     millimetres: &mut [i64; 4],
     line: &mut u32,
 ) -> u32
-    ensures value { result ≡ (intervals_of (listing_of true text.now)).code }
+    ensures code { result ≡ (intervals_of (listing_of true text.now)).code }
     ensures sums_after { sums.new ≡ four_of (intervals_of (listing_of true text.now)).east (intervals_of (listing_of true text.now)).north }
     ensures millimetres_after { millimetres.new ≡ four_of (intervals_of (listing_of true text.now)).easting (intervals_of (listing_of true text.now)).northing }
     ensures line_after { line.new ≡ (intervals_of (listing_of true text.now)).line }

@@ -10,7 +10,7 @@ pub extern "C" fn jabulghi_play(
     misses: &mut [[i64; 2]],
     line: &mut u32,
 ) -> u32
-    ensures value { result ≡ (answer_of (play_of text.now first (length misses.old))).code }
+    ensures code { result ≡ (answer_of (play_of text.now first (length misses.old))).code }
     ensures line_after { line.new ≡ (answer_of (play_of text.now first (length misses.old))).line }
     ensures misses_after { misses.new ≡ misses_after (play_of text.now first (length misses.old)) first misses.old }
 {
