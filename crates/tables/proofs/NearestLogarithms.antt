@@ -10,7 +10,7 @@ use native.Mathlib.Omega.{arith}
 use lib.Dec.{T, leb, leb→le}
 use lib.ListN.{length}
 use store.Enc.{and_l, and_r}
-use Rattle.exact.specs.Fraction.{Fraction, whole, dyadic, ◌≤ᶠ◌, ◌<ᶠ◌}
+use Rattle.exact.specs.Fraction.{Fraction, whole, dyadic, ◌<ᶠ◌}
 use Rattle.exact.proofs.FractionLaws.{≤ᶠ-refl, <ᶠ-≤ᶠ-trans, ≤ᶠ-<ᶠ-trans}
 use Rattle.exact.specs.Series.{AtMostLn, AtLeastLn, partial_sum, term}
 use Rattle.exact.proofs.SeriesLaws.{scaled_top, scaled_bottom}

@@ -1,5 +1,5 @@
 -- `apply` is `applied`: the sum so far, and what the columns left give at the digits left, are the whole.
-use Rattle.std.proofs.Common.{refl, sym, ◌∙◌, ◌-◌, arith}
+use Rattle.std.proofs.Common.{refl, sym, ◌∙◌, arith}
 use Rattle.bit_matrix.proofs.Loops.{digit_fits, apply_turn, apply_end}
 use Rattle.bit_matrix.proofs.apply.Goals as goal
 

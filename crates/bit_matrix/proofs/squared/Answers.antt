@@ -1,5 +1,5 @@
 -- `squared`: the columns done, and the matrix at each one left, are the matrix at every column.
-use Rattle.std.proofs.Common.{refl, sym, ◌∙◌, map, ◌-◌, arith, length, length-set, rules}
+use Rattle.std.proofs.Common.{refl, sym, ◌∙◌, arith, length-set, rules}
 use Rattle.bit_matrix.proofs.Loops.{map_turn_in_place, map_end}
 use Rattle.bit_matrix.proofs.squared.Goals as goal
 

@@ -1,5 +1,5 @@
 -- `unit_words`: the words before `digit` are unit words.
-use Rattle.std.proofs.Common.{◌≡◌, refl, sym, ◌∙◌, ◌-◌, arith, length, take, length-set, take_all}
+use Rattle.std.proofs.Common.{◌≡◌, refl, sym, ◌∙◌, arith, length-set, take_all}
 use Rattle.bit_matrix.specs.Matrices.{units}
 use Rattle.bit_matrix.proofs.Loops.{units_turn}
 use Rattle.bit_matrix.proofs.unit_words.Goals as goal
