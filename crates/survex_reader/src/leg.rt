@@ -151,8 +151,8 @@ fn decimals_after(part: &[u8], point: usize, most: usize) -> NumberRead
 }
 
 fn joined(whole: NumberRead, fraction: NumberRead, most: usize) -> NumberRead
-    requires most_le_tape_decimals { most ≤ tape_decimals }
-    requires value_lt_decimal_bound { (whole.value < decimal_bound) × (fraction.value < decimal_bound * 10 ^ tape_decimals) }
+    requires decimals { most ≤ tape_decimals }
+    requires small { (whole.value < decimal_bound) × (fraction.value < decimal_bound * 10 ^ tape_decimals) }
     ensures { result ≡ joined_of whole fraction most }
 {
     if !whole.ok {
@@ -226,8 +226,8 @@ fn step_of(compass: u64) -> u64
 
 // What the line of a leg says, once comments and the blanks at its ends are passed over.
 pub fn leg_of(line: &[u8]) -> LegLine
-    ensures result_value { leg_in line.now result ≡ read_leg (words line.now) }
-    ensures value { result ≡ leg_at line.now (read_leg (words line.now)) }
+    ensures says { leg_in line.now result ≡ read_leg (words line.now) }
+    ensures exact { result ≡ leg_at line.now (read_leg (words line.now)) }
 {
     let f = fields_of(line);
     if !f.ok {

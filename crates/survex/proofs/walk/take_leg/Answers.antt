@@ -7,11 +7,11 @@ use Rattle.survex.proofs.walk.take_leg.Goals as goal
 
 pub returns-in-Wrong : goal.returns-in-Wrong
 returns-in-Wrong c =
-    let e = sym c.in-Wrong.ensures.result_value in
+    let e = sym c.in-Wrong.ensures.says in
     rw e (refl, λ z. omega (arith, wrong_facts _ _ e, z))
 
 pub returns-in-Leg : goal.returns-in-Leg
 returns-in-Leg c =
-    let e = sym c.in-Leg.ensures.result_value in
+    let e = sym c.in-Leg.ensures.says in
     let s = shot_bytes _ _ _ (leg_short _ _ _ e) c.shot_line-shot.ensures.puts in
     rw (e, ← s.0, ← s.1) (refl, c.grown.ensures, c.put.ensures.1)

@@ -8,8 +8,8 @@ slice_bounds-digits_up_to-end c = omega (arith, point_within 0 _ _ c.scan-point.
 
 pub joined-requires : goal.joined-requires
 joined-requires c = record {
-  most_le_tape_decimals = c.requires;
-  value_lt_decimal_bound = (digits_below 4 _ (omega arith) _ c.digits_up_to-whole.ensures, c.decimals_after-fraction.ensures.below);
+  decimals = c.requires;
+  small = (digits_below 4 _ (omega arith) _ c.digits_up_to-whole.ensures, c.decimals_after-fraction.ensures.below);
 }
 
 pub returns : goal.returns

@@ -12,11 +12,11 @@ returns-then-not-fraction c = joined_second _ _ _ (not-true _ c.if-not-fraction.
 
 pub overflow_mul-result : goal.overflow_mul-result
 overflow_mul-result c =
-    omega (arith, joined_below _ _ _ c.requires.value_lt_decimal_bound.0 c.requires.most_le_tape_decimals c.power_of_ten.ensures)
+    omega (arith, joined_below _ _ _ c.requires.small.0 c.requires.decimals c.power_of_ten.ensures)
 
 pub overflow_add-result : goal.overflow_add-result
 overflow_add-result c =
-    omega (arith, c.requires.value_lt_decimal_bound.1, joined_below _ _ _ c.requires.value_lt_decimal_bound.0 c.requires.most_le_tape_decimals c.power_of_ten.ensures)
+    omega (arith, c.requires.small.1, joined_below _ _ _ c.requires.small.0 c.requires.decimals c.power_of_ten.ensures)
 
 pub returns : goal.returns
 returns c = joined_both _ _ _ (not-false _ c.if-not-whole.false) (not-false _ c.if-not-fraction.false) _ c.power_of_ten.ensures
