@@ -1,4 +1,3 @@
-#!/usr/bin/env python3
 """Spells the names of this repository's definitions and lemmas as today's Rattle does: words in snake case (`wholeRoot` and `top-bit-below` become
 `whole_root` and `top_bit_below`), types and modules in camel case. A lemma that would get the name of a definition gets `_lem`. The proof of the function f
 is `f_spec`. Run once, at the top, right after /opt/rattle/port/port.py; docs/PORT.md says more.
@@ -50,7 +49,9 @@ def declared():
                     record = None
                 if re.match(r"\s*(?:pub )?record [A-Z]", line):
                     record = indent
-                m = re.match(r"\s*(?:(?:abbrev|unfoldable|pub|private) )*(" + WORD + r"(?: " + WORD + r")*) :(?: |$)", line)
+                m = re.match(
+                    r"\s*(?:(?:abbrev|unfoldable|pub|private) )*(" + WORD + r"(?: " + WORD + r")*) :(?: |$)", line
+                )
                 if m and not line.strip().startswith("let "):
                     names = {n for n in m.group(1).split() if n not in ("abbrev", "pub", "unfoldable")}
                     ours |= names
@@ -61,7 +62,11 @@ def declared():
 
 def snake(name):
     def low(part):
-        return re.sub(r"([a-z0-9])([A-Z])", lambda m: m.group(1) + "_" + m.group(2).lower(), part) if part[:1].islower() else part
+        return (
+            re.sub(r"([a-z0-9])([A-Z])", lambda m: m.group(1) + "_" + m.group(2).lower(), part)
+            if part[:1].islower()
+            else part
+        )
 
     parts = name.split("-")
     out = low(parts[0])
@@ -82,7 +87,13 @@ def renamings():
         if n in elsewhere:
             continue
         definition = any(re.search("[A-Z]", x) for x in by_new[to])
-        if not re.search("[A-Z]", n) and len(by_new[to]) > 1 and (definition or "-" in n) or "-" in n and to in elsewhere:
+        if (
+            not re.search("[A-Z]", n)
+            and len(by_new[to]) > 1
+            and (definition or "-" in n)
+            or "-" in n
+            and to in elsewhere
+        ):
             to += "_lem"
         if to != n:
             new[n] = to
@@ -138,9 +149,9 @@ def main():
             out = spelled(text, new, fields, "//" if p.endswith(".rt") else "--")
         folder, base = os.path.split(p)
         if base == "Proof.antt":
-            f = os.path.basename(folder)
-            for spec in (f.replace("_", "-") + "-spec", f.replace("_", "-") + "_spec"):
-                out = re.sub(r"(?<![\w'\-])" + re.escape(spec) + r"(?![\w'\-])", f + "_spec", out)
+            of = os.path.basename(folder)
+            for spec in (of.replace("_", "-") + "-spec", of.replace("_", "-") + "_spec"):
+                out = re.sub(r"(?<![\w'\-])" + re.escape(spec) + r"(?![\w'\-])", of + "_spec", out)
         if out != text:
             with open(p, "w", encoding="utf-8") as f:
                 f.write(out)
