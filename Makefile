@@ -10,7 +10,7 @@
 # make windows          the library and the command for Windows: target/x86_64-windows/jabulghi.dll, libjabulghi.a and jabulghi.exe
 # make wheel            the package for Python, with the shared library: target/wheel (bindings/python/README.md)
 # make dist             a release: an archive for each of them in target/dist, for people without the toolchain; TARGET=name makes one alone
-# make test             everything: the gate, every proof from nothing and all tests
+# make test             everything: the gate, every proof and every edit that this machine has not yet passed, then all tests
 # make test PART=name   one part of the tests on what is built, or with CASE=name a case of it; PART=list names the parts
 # make lint             the form of the sources and what their checkers find; FIX=1 formats them first
 # make packages         installs the Debian packages that builds and tests need; tools/packages lists them
