@@ -34,8 +34,7 @@ fn store(
 }
 
 // Saves the record under a name.
-#[unsafe(no_mangle)]
-pub extern "C" fn jabulghi_marks_save_members(
+pub fn jabulghi_marks_save_members(
     used: &mut [u32; PLACES],
     lengths: &mut [u32; PLACES],
     names: &mut [u8; PLACES * NAME_LENGTH],
@@ -68,8 +67,7 @@ pub extern "C" fn jabulghi_marks_save_members(
 }
 
 // Returns to the record saved under a name.
-#[unsafe(no_mangle)]
-pub extern "C" fn jabulghi_marks_return_members(
+pub fn jabulghi_marks_return_members(
     used: &[u32; PLACES],
     lengths: &[u32; PLACES],
     names: &[u8; PLACES * NAME_LENGTH],
@@ -93,8 +91,7 @@ pub extern "C" fn jabulghi_marks_return_members(
 }
 
 // Drops the mark of a name.
-#[unsafe(no_mangle)]
-pub extern "C" fn jabulghi_marks_drop_members(
+pub fn jabulghi_marks_drop_members(
     used: &mut [u32; PLACES],
     lengths: &mut [u32; PLACES],
     names: &mut [u8; PLACES * NAME_LENGTH],

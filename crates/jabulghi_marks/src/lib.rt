@@ -2,5 +2,7 @@
 // the header's struct jabulghi_marks, whose inline functions take it apart.
 #![tactic(auto)]
 
-mod calls;
+pub mod calls;
 mod members;
+
+pub use members::WORDS;

@@ -1,7 +1,7 @@
 // The makers' C interface to survey texts and the plays of a loop: each function equals the call below it, on the caller's memory (include/jabulghi.h).
 #![tactic(auto)]
 
-mod legs;
-mod list;
-mod miss;
-mod plays;
+pub mod legs;
+pub mod list;
+pub mod miss;
+pub mod plays;

@@ -9,8 +9,7 @@ ghost use Rattle.jabulghi_survey.specs.Stored.{four_of};
 use misclosure::{intervals, misclosure};
 
 // The sums of a listing, east and north: at 2^30 and in whole millimetres; and the line.
-#[unsafe(no_mangle)]
-pub extern "C" fn jabulghi_misclosure(
+pub fn jabulghi_misclosure(
     text: &[u8],
     sums: &mut [i64; 2],
     millimetres: &mut [i64; 2],
@@ -31,8 +30,7 @@ pub extern "C" fn jabulghi_misclosure(
 
 // The lowest and the highest sums of a listing of distances between two readings: east low, east high, north low, north high; at 2^30 and in whole
 // millimetres; and the line.
-#[unsafe(no_mangle)]
-pub extern "C" fn jabulghi_intervals(
+pub fn jabulghi_intervals(
     text: &[u8],
     sums: &mut [i64; 4],
     millimetres: &mut [i64; 4],

@@ -9,8 +9,7 @@ use drift::window;
 use drift::window::Members;
 
 // A window for the latest n samples.
-#[unsafe(no_mangle)]
-pub extern "C" fn jabulghi_window_make_members(
+pub fn jabulghi_window_make_members(
     size: &mut u32,
     held: &mut u32,
     place: &mut u32,
@@ -35,8 +34,7 @@ pub extern "C" fn jabulghi_window_make_members(
 }
 
 // One sample.
-#[unsafe(no_mangle)]
-pub extern "C" fn jabulghi_window_push_members(
+pub fn jabulghi_window_push_members(
     size: &mut u32,
     held: &mut u32,
     place: &mut u32,
@@ -68,8 +66,7 @@ pub extern "C" fn jabulghi_window_push_members(
 }
 
 // Many samples, as if they were pushed one by one.
-#[unsafe(no_mangle)]
-pub extern "C" fn jabulghi_window_push_all_members(
+pub fn jabulghi_window_push_all_members(
     size: &mut u32,
     held: &mut u32,
     place: &mut u32,
