@@ -80,9 +80,9 @@ LN_TWO = nearest(log(mpf(2)), LOG)
 ENTRIES = {const: entries for _, const, _, _, entries in TABLES}
 
 
-def row(name, *digits):
-    """How an arm of a match is written: a tuple struct of numbers with so many hexadecimal digits."""
-    return lambda entry: f"{name}(" + ", ".join(f"0x{x:0{n}x}" for x, n in zip(entry, digits)) + ")"
+def row(*digits):
+    """How an arm of a match is written: a tuple of numbers with so many hexadecimal digits."""
+    return lambda entry: "(" + ", ".join(f"0x{x:0{n}x}" for x, n in zip(entry, digits)) + ")"
 
 
 def root_cell(n):
@@ -103,17 +103,17 @@ COARSE = [(a >> 32, a % 2**32, reciprocal) for a, reciprocal in zip(ENTRIES["LOG
 COARSE_ROWS = [a << 32 | reciprocal for a, reciprocal in zip(ENTRIES["LOG_COARSE"], RECIPROCALS)]
 # (crate, function, first key, how an arm is written, entries)
 MATCHES: list[tuple] = [
-    ("log_coarse_lookup", "nth", 256, row("Row", 2, 8, 8), COARSE),
+    ("log_coarse_lookup", "nth", 256, row(2, 8, 8), COARSE),
     ("log_fine_lookup", "nth", 0, "0x{0[0]:08x}".format, [(b,) for b in ENTRIES["LOG_FINE"]]),
     (
         "rotation_lookup",
         "nth_coarse",
         0,
-        row("Rotation", 8, 8),
+        row(8, 8),
         list(zip(ENTRIES["COS_COARSE"], ENTRIES["SIN_COARSE"])),
     ),
-    ("rotation_lookup", "nth_fine", 0, row("Rotation", 8, 8), list(zip(ENTRIES["COS_FINE"], ENTRIES["SIN_FINE"]))),
-    ("root_lookup", "cell_at", 0, row("Cell", 8, 8, 8), [(0, 0, 0)] * 32 + [root_cell(n) for n in range(32, 128)]),
+    ("rotation_lookup", "nth_fine", 0, row(8, 8), list(zip(ENTRIES["COS_FINE"], ENTRIES["SIN_FINE"]))),
+    ("root_lookup", "nth", 0, row(8, 8, 8), [(0, 0, 0)] * 32 + [root_cell(n) for n in range(32, 128)]),
 ]
 
 

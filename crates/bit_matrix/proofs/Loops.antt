@@ -1,15 +1,13 @@
 -- One turn of each loop, and its end.
-use mathlib.Core.Path.{◌≡◌, refl, ap, ◌∙◌}
+use mathlib.Core.Path.{◌≡◌, refl, ap, ap₂, ◌∙◌}
 use mathlib.Core.List.{List, [], ◌∷◌, ◌++◌, map, map-append, append-nil}
 use Prim.Native.Nat.{ℕ, zero, suc, ◌+◌, ◌*◌, ◌/◌, ◌%◌, ◌^◌, ◌≤◌, ◌<◌}
-use native.Mathlib.Nat.{mul-le-mul, not-suc-le-zero, one-mul, pow-suc, mod-eq_of_lt}
+use native.Mathlib.Nat.{not-suc-le-zero, one-mul, pow-suc, mod-eq_of_lt}
 use native.Mathlib.Numerals.{add-one}
 use native.Mathlib.Omega.{arith}
 use lib.ListN.{length, take, drop, get_or, set, drop_of_length-le}
 use lib.Seq.{drop-cons, take_all, take-suc-set, drop-set-lt, append_snoc}
 use lib.Pow.{pow-lt}
-use mir.Val.{Fits}
-use mir.Syntax.{w32}
 use lib.Bits.{bit_xor, xor_zero_r}
 use Rattle.bit_matrix.specs.Matrices.{repeat, applied, units}
 use Rattle.bit_matrix.proofs.Additive.{xor_assoc}
@@ -26,31 +24,7 @@ map_turn f l out j v within h e =
 pub map_end : (f : ℕ → ℕ) (l out : List ℕ) (j : ℕ) → length l ≤ j → length out ≤ j → take j out ++ map f (drop j l) ≡ out
 map_end f l out j all h = rw (drop_of_length-le l all, take_all j out h) (append-nil out)
 
--- mapped in place, what is left is the list's own
-pub map_turn_in_place : (f : ℕ → ℕ) (l : List ℕ) (j v : ℕ) → j < length l → v ≡ f (get_or l j 0)
-    → take (j + 1) (set l j v) ++ map f (drop (j + 1) (set l j v)) ≡ take j l ++ map f (drop j l)
-map_turn_in_place f l j v h e = rw (drop-set-lt (j + 1) l j v (omega arith)) (map_turn f l l j v h h e)
-
--- ---- `unit_words`: the words before j are unit words
-
--- one unit word more
-units_last : (n : ℕ) → units (suc n) ≡ units n ++ (2 ^ n ∷ [])
-unfolding units
-units_last zero = refl
-units_last (suc n) =
-    ap (λ (l : List ℕ). 1 ∷ map (λ (word : ℕ). word * 2) l) (units_last n)
-    ∙ rw (map-append (λ (word : ℕ). word * 2) (units n) (2 ^ n ∷ []), pow-suc 2 n)
-
-pub units_turn : (l : List ℕ) (j : ℕ) → j < length l → j < 32 → take j l ≡ units j
-    → take (j + 1) (set l j (1 * 2 ^ j % 2 ^ 32)) ≡ units (j + 1)
-units_turn l j h lt e =
-    rw (add-one, take-suc-set l j (1 * 2 ^ j % 2 ^ 32) h, e, one-mul, mod-eq_of_lt (pow-lt {i = j} {j = 32} lt), units_last j)
-
 -- ---- `apply`: the sum so far, and the columns left at the digits left
-
--- a column at a digit is no more than the column
-pub digit_fits : (c x : ℕ) → Fits w32 c → Fits w32 (c * (x % 2))
-digit_fits c x h = omega (arith, mul-le-mul {n₁ = c} {m₁ = x % 2} {n₂ = c} {m₂ = 1} (omega arith) (omega arith))
 
 pub apply_turn : (columns : List ℕ) (j sum rest : ℕ) → j < length columns
     → bit_xor (bit_xor sum (get_or columns j 0 * (rest % 2))) (applied (drop (j + 1) columns) (rest / 2))
@@ -66,23 +40,36 @@ apply_end columns j sum rest h = rw (drop_of_length-le columns h) (xor_zero_r su
 
 -- ---- `powers`: the applications left
 
-pub once_odd : (f : ℕ → ℕ) (n x : ℕ) → n % 2 ≡ 1 → f x ≡ repeat f (n % 2) x
-unfolding repeat
-once_odd f n x h = rw h
+module _ (f : ℕ → ℕ) (n : ℕ) where
+  pub once_odd : (words : List ℕ) → n % 2 ≡ 1 → map f words ≡ map (repeat f (n % 2)) words
+  unfolding repeat
+  once_odd [] h = refl
+  once_odd (x ∷ words) h = ap₂ (λ (y : ℕ) (ys : List ℕ). y ∷ ys) (rw h) (once_odd words h)
 
-pub once_even : (f : ℕ → ℕ) (n x : ℕ) → n % 2 ≡ 0 → x ≡ repeat f (n % 2) x
-unfolding repeat
-once_even f n x h = rw h
+  pub once_even : (words : List ℕ) → n % 2 ≡ 0 → words ≡ map (repeat f (n % 2)) words
+  unfolding repeat
+  once_even [] h = refl
+  once_even (x ∷ words) h = ap₂ (λ (y : ℕ) (ys : List ℕ). y ∷ ys) (rw h) (once_even words h)
 
--- one where the count is odd, and then the matrix's square half as often
-pub power_turn : (p p' : List ℕ) (n x x' : ℕ) → p' ≡ map (applied p) p → x' ≡ repeat (applied p) (n % 2) x
-    → repeat (applied p') (n / 2) x' ≡ repeat (applied p) n x
-power_turn p p' n x x' squared once =
+-- the rest of n after its last digit, of the matrix's square
+power_turn : (p p' : List ℕ) (n x : ℕ) → p' ≡ map (applied p) p
+    → repeat (applied p') (n / 2) (repeat (applied p) (n % 2) x) ≡ repeat (applied p) n x
+power_turn p p' n x squared =
     let e : n % 2 + n / 2 * 2 ≡ n = omega arith in
-    rw (squared, once)
-    (squared_repeat p (n / 2) (repeat (applied p) (n % 2) x) ∙ repeat_add (applied p) (n % 2) (n / 2 * 2) x ∙ rw e)
+    rw squared (squared_repeat p (n / 2) (repeat (applied p) (n % 2) x) ∙ repeat_add (applied p) (n % 2) (n / 2 * 2) x ∙ rw e)
 
-pub power_end : (f : ℕ → ℕ) (n x : ℕ) → n ≤ 0 → repeat f n x ≡ x
+each_turn : (p p' : List ℕ) (n : ℕ) (words : List ℕ) → p' ≡ map (applied p) p
+    → map (repeat (applied p') (n / 2)) (map (repeat (applied p) (n % 2)) words) ≡ map (repeat (applied p) n) words
+each_turn p p' n [] squared = refl
+each_turn p p' n (x ∷ words) squared = ap₂ (λ (y : ℕ) (ys : List ℕ). y ∷ ys) (power_turn p p' n x squared) (each_turn p p' n words squared)
+
+-- one application where the count is odd, and then the matrix's square half as often
+pub powers_turn : (p p' : List ℕ) (n : ℕ) (words words' : List ℕ) → p' ≡ map (applied p) p → words' ≡ map (repeat (applied p) (n % 2)) words
+    → map (repeat (applied p') (n / 2)) words' ≡ map (repeat (applied p) n) words
+powers_turn p p' n words words' squared once = ap (map (repeat (applied p') (n / 2))) once ∙ each_turn p p' n words squared
+
+pub powers_end : (f : ℕ → ℕ) (n : ℕ) (words : List ℕ) → n ≤ 0 → map (repeat f n) words ≡ words
 unfolding repeat
-power_end f zero x h = refl
-power_end f (suc n) x h = absurd (not-suc-le-zero h)
+powers_end f zero [] h = refl
+powers_end f zero (x ∷ words) h = ap (λ (ys : List ℕ). x ∷ ys) (powers_end f zero words h)
+powers_end f (suc n) words h = absurd (not-suc-le-zero h)

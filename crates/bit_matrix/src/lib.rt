@@ -1,83 +1,80 @@
-// Bit matrices of 32 by 32 bits, each as its 32 columns: applied to a word, and raised to a power by squaring.
+// Bit matrices of 32 by 32 bits: applied to a word, and raised to a power by squaring.
 #![tactic(auto)]
 
-ghost use Rattle.std.specs.Prelude.{◌≡◌, map, ◌%◌};
+ghost use Rattle.std.specs.Prelude.{◌≡◌, ◌<◌, ◌^◌, map, ◌%◌};
 ghost use Rattle.bit_matrix.specs.Matrices.{repeat, applied, units};
 
+use std::array;
+
+// A matrix is its 32 columns.
 #[derive(Clone, Copy)]
-pub struct Two {
-    pub x: u32,
-    pub y: u32,
+pub struct Matrix {
+    pub columns: [u32; 32],
 }
 
-// The unit words 1, 2, 4 .. 2^31.
-pub fn unit_words() -> [u32; 32]
-    ensures { result ≡ units 32 }
-{
-    let mut words: [u32; 32] = [0; 32];
-    let mut digit: u32 = 0;
-    while digit < 32 {
-        words[digit as usize] = 1 << digit;
-        digit += 1;
+impl Matrix {
+    // The identity, whose columns are the unit words 1, 2, 4 .. 2^31.
+    pub fn identity() -> Matrix
+        ensures { result.columns ≡ units 32 }
+    {
+        Matrix {
+            columns: array::from_fn(
+                |digit|
+                    requires { digit < 32 }
+                    ensures { result ≡ 2 ^ digit }
+                { 1 << digit },
+            ),
+        }
     }
-    words
-}
 
-// The exclusive-or of the columns at the digits of x that are 1.
-pub fn apply(columns: &[u32], x: u32) -> u32
-    ensures { result ≡ applied columns.now x }
-{
-    let mut sum: u32 = 0;
-    let mut rest = x;
-    let mut j: usize = 0;
-    while j < columns.len() {
-        sum = sum ^ columns[j] * (rest % 2);
-        rest = rest / 2;
-        j += 1;
+    // The exclusive-or of the columns at the digits of x that are 1.
+    pub fn applied(&self, x: u32) -> u32
+        ensures { result ≡ applied self.now.columns x }
+    {
+        let mut sum = 0;
+        let mut rest = x;
+        for column in self.columns.iter() {
+            sum ^= *column * (rest % 2);
+            rest /= 2;
+        }
+        sum
     }
-    sum
-}
 
-// The square of a matrix, which is the matrix applied twice: each column with the matrix applied to it.
-fn squared(columns: [u32; 32]) -> [u32; 32]
-    ensures { result ≡ map (applied columns) columns }
-{
-    let mut product = columns;
-    let mut j: usize = 0;
-    while j < 32 {
-        product[j] = apply(&columns, product[j]);
-        j += 1;
+    // The matrix applied to each of the words.
+    // No `map` of the array: the proof does not learn from std's `map` which state its closure was called with.
+    fn apply_each(&self, words: &mut [u32])
+        ensures { words.new ≡ map (applied self.now.columns) words.old }
+    {
+        for word in words.iter_mut() {
+            *word = self.applied(*word);
+        }
     }
-    product
-}
 
-// The matrix applied to x where n is odd, else x.
-fn once(columns: [u32; 32], n: u64, x: u32) -> u32
-    ensures { result ≡ repeat (applied columns) (n % 2) x }
-{
-    if n % 2 == 1 {
-        return apply(&columns, x);
+    // The square, which is the matrix applied twice: each column with the matrix applied to it.
+    fn squared(&self) -> Matrix
+        ensures { result.columns ≡ map (applied self.now.columns) self.now.columns }
+    {
+        let mut columns = self.columns;
+        self.apply_each(&mut columns);
+        Matrix { columns }
     }
-    x
-}
 
-// The matrix applied n times to x, and to y: a squaring for each binary digit of n.
-pub fn powers(columns: [u32; 32], n: u64, x: u32, y: u32) -> Two
-    ensures { result ≡ record { x = repeat (applied columns) n x; y = repeat (applied columns) n y } }
-{
-    let mut matrix = columns;
-    let mut first = x;
-    let mut second = y;
-    let mut left = n;
-    while left > 0 {
-        first = once(matrix, left, first);
-        second = once(matrix, left, second);
-        let twice = squared(matrix);
-        matrix = twice;
-        left = left / 2;
-    }
-    Two {
-        x: first,
-        y: second,
+    // The words with the matrix applied n times to each: a squaring for each binary digit of n.
+    pub fn powers(self, n: u64, words: [u32; 2]) -> [u32; 2]
+        ensures { result ≡ map (repeat (applied self.columns) n) words }
+    {
+        let mut matrix = self;
+        let mut reached = words;
+        let mut left = n;
+        // A count that is halved: by `successors` the loop would be as long, and its end would have to be shown besides.
+        while left > 0 {
+            if left % 2 == 1 {
+                matrix.apply_each(&mut reached);
+            }
+            let square = matrix.squared();
+            matrix = square;
+            left /= 2;
+        }
+        reached
     }
 }

@@ -1,6 +1,6 @@
 -- Closeness of a sample to its member of the exact pair of (2k + 1) over 2^49 and v over 65536: for any number of fraction bits and any limit
 -- that leaves room beside the half for the margins of F and G.
-use mathlib.Core.Path.{◌≡◌, refl, ◌∙◌}
+use mathlib.Core.Path.{◌≡◌, ◌∙◌}
 use Prim.Native.Nat.{ℕ, ◌+◌, ◌-◌, ◌*◌, ◌^◌, ◌≤◌, ◌<◌}
 use native.Mathlib.Nat.{le_refl, le_of_suc-le-suc}
 use native.Mathlib.Omega.{arith}
@@ -12,10 +12,9 @@ use Rattle.radius.proofs.RadiusMargin.{radius_within}
 use Rattle.angle.specs.Steps.{signed_of}
 use Rattle.angle.proofs.Members.{members_near}
 use Rattle.box_muller.specs.Steps.{fraction_bits, fraction_bits18}
-use Rattle.box_muller.specs.Sample.{nine_sixteenths, three_quarters, as18, first_of, second_of, samples_of}
+use Rattle.box_muller.specs.Sample.{nine_sixteenths, three_quarters, first_of, second_of, samples_of}
 use Rattle.box_muller.specs.DataSheet.{thirty_three_sixty_fourths}
 use Rattle.box_muller.specs.declared.Samples.{Samples}
-use Rattle.box_muller.specs.declared.Samples18.{Samples18}
 use Rattle.box_muller.proofs.Refusals.{refusals}
 use Rattle.box_muller.proofs.RoundingMargin.{slack, member_close}
 
@@ -59,7 +58,3 @@ accepts f k v hk hv = refusals.none f k v hk (le_of_suc-le-suc hv)
 pub answer_close : (limit : Fraction) (f k v : ℕ) → Room limit f → (r : Samples) → r ≡ samples_of f k v → k < 2 ^ number_bits → v < 65536
     → Close limit f (inverse k) v r.first r.second
 answer_close limit f k v enough r e hk hv = rw (e ∙ accepts f k v hk hv) (samples_close limit f k v enough hk hv)
-
-pub answer_close18 : (limit : Fraction) (f k v : ℕ) → Room limit f → (r : Samples18) → r ≡ as18 (samples_of f k v) → k < 2 ^ number_bits → v < 65536
-    → Close limit f (inverse k) v r.first r.second
-answer_close18 limit f k v enough r e hk hv = rw e (answer_close limit f k v enough _ refl hk hv)

@@ -6,3 +6,4 @@ pub mod Closeness
 pub mod DataSheet
 pub mod Readings
 pub mod Theorems
+pub mod Widths

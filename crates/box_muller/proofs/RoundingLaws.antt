@@ -14,7 +14,7 @@ use Rattle.radius.proofs.Ranges.{radius_of_range}
 use Rattle.angle.specs.Steps.{signed_of}
 use Rattle.signs.proofs.Sizes.{nat_abs_neg}
 use Rattle.angle.proofs.Ranges.{signed_range}
-use Rattle.box_muller.specs.Steps.{bits_of, size, rounded}
+use Rattle.box_muller.specs.Steps.{size, rounded}
 use Rattle.box_muller.specs.Sample.{first_of, second_of}
 use Rattle.box_muller.specs.Theorems.{largest}
 
@@ -53,15 +53,6 @@ unfolding size
 size_range f F G h g =
     let product : F * G ≤ (radius_limit - 1) * 2 ^ 30 = mul-le-mul {n₁ = F} {m₁ = G} {n₂ = radius_limit - 1} {m₂ = 2 ^ 30} (omega arith) g in
     (le-div_iff_mul-le (pow_pos (50 - f))).1 (le_trans (div-mul-le_self _ _) (add-le-add product (le_refl _)))
-
--- at either width
-pub few_bits : (in18 : Bool) → bits_of in18 ≤ 13
-few_bits true = omega arith
-few_bits false = omega arith
-
-pub largest_range : (in18 : Bool) → largest (bits_of in18) ≤ 67517
-largest_range true = omega arith
-largest_range false = omega arith
 
 -- no sample's size is above the largest
 pub rounded_small : (f F : ℕ) (G : ℤ) → F < radius_limit → nat_abs G ≤ 2 ^ 30 → nat_abs (rounded f F G) ≤ largest f

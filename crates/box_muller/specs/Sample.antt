@@ -4,7 +4,6 @@ use Rattle.std.specs.Prelude.{cond, ℕ, ◌^◌, leb, ltb, ℤ, pos}
 use Rattle.std.proofs.Common.{arith}
 use Rattle.exact.specs.Fraction.{Fraction}
 use Rattle.box_muller.specs.declared.Samples.{Samples}
-use Rattle.box_muller.specs.declared.Samples18.{Samples18}
 use Rattle.radius.specs.Steps.{number_bits, radius_of}
 use Rattle.angle.specs.Steps.{signed_of}
 use Rattle.box_muller.specs.Steps.{rounded}
@@ -25,10 +24,6 @@ unfoldable pub samples_of : (f k v : ℕ) → Samples
 samples_of f k v =
     cond (leb (2 ^ number_bits) k) (refused 2)
     (cond (ltb 65535 v) (refused 3) (record { code = 0; first = first_of f k v; second = second_of f k v }))
-
--- The same answer in the struct of the samples of 18 bits.
-abbrev pub as18 : Samples → Samples18
-as18 s = record { code = s.code; first = s.first; second = s.second }
 
 -- Demand 3: "I hold you to the nine sixteenths", of the exact pair of (2k + 1) over 2^49, k from 0, and v over 65536
 abbrev pub nine_sixteenths : Fraction

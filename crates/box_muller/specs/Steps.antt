@@ -1,6 +1,6 @@
 -- The last whole-number step (document 01, 'Angle and sample'): from F and a signed sine or cosine G to a sample, over a number f of
 -- fraction bits.
-use Rattle.std.specs.Prelude.{Bool, cond, ℕ, ◌+◌, ◌-◌, ◌*◌, ◌/◌, ◌^◌, ℤ, pos, negsuc, neg_ℤ, nat_abs}
+use Rattle.std.specs.Prelude.{ℕ, ◌+◌, ◌-◌, ◌*◌, ◌/◌, ◌^◌, ℤ, pos, negsuc, neg_ℤ, nat_abs}
 
 -- The two f that are used: "the 16-bit samples with 11 fraction bits", and "5 integer bits and 13 fraction bits" (document 02, Job 8).
 abbrev pub fraction_bits : ℕ
@@ -8,10 +8,6 @@ fraction_bits = 11
 
 abbrev pub fraction_bits18 : ℕ
 fraction_bits18 = 13
-
--- Those of samples of 18 bits, or of 16.
-abbrev pub bits_of : Bool → ℕ
-bits_of in18 = cond in18 fraction_bits18 fraction_bits
 
 -- A sample's size: floor((F × |G| + 2^(49-f)) / 2^(50-f)).
 unfoldable pub size : (f F G : ℕ) → ℕ

@@ -2,17 +2,10 @@
 // theorem. Crate `sample` has the functions.
 #![tactic(auto)]
 
-// Samples of 16 bits.
+// The refusal code, and the two samples, of any number of fraction bits.
+// No function makes one: `samples_of` of specs/Sample.antt, by which clauses and theorems state an answer, is stated by this type.
 #[derive(Clone, Copy)]
 pub struct Samples {
-    pub code: u32,
-    pub first: i16,
-    pub second: i16,
-}
-
-// Samples of 18 bits.
-#[derive(Clone, Copy)]
-pub struct Samples18 {
     pub code: u32,
     pub first: i32,
     pub second: i32,

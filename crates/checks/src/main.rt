@@ -12,30 +12,12 @@ fn number(rt: &impl Print, n: u32) -> io::Result<()> {
     print!(rt; " {n}")
 }
 
-// A blank and a sample, its sign before it.
-fn signed(rt: &impl Print, sample: i16) -> io::Result<()> {
-    rt.write_all(b" ")?;
-    if sample < 0 {
-        rt.write_all(b"-")?;
-    }
-    rt.print(signs::size_of(sample))
-}
-
-// Samples, and the end of the line.
+// Samples, a blank before each, and the end of the line.
 fn samples(rt: &impl Print, list: &[i16]) -> io::Result<()> {
-    for i in 0..list.len() {
-        let sample = list[i];
-        signed(rt, sample)?;
+    for &sample in list {
+        print!(rt; " {sample}")?;
     }
-    rt.write_all(b"\n")
-}
-
-// The first bytes, where there are as many.
-fn first_bytes(rt: &impl Print, bytes: &[u8], length: usize) -> io::Result<()> {
-    if length <= bytes.len() {
-        rt.write_all(&bytes[0..length])?;
-    }
-    Ok(())
+    println!(rt; "")
 }
 
 // A job's refusal code and line, and its listing.
@@ -44,8 +26,8 @@ fn show_job(rt: &impl Print, text: &[u8]) -> io::Result<()> {
     let answer = job::list(text, &mut listing);
     number(rt, answer.code)?;
     number(rt, answer.line)?;
-    rt.write_all(b"\n")?;
-    first_bytes(rt, &listing, answer.length)
+    println!(rt; "")?;
+    rt.write_all(&listing[..answer.length])
 }
 
 fn show_jobs(rt: &impl Print, text: &[u8]) -> io::Result<()> {
@@ -77,7 +59,7 @@ fn show_block(rt: &impl Print, s0: u32, others: u32) -> io::Result<()> {
 
 // Another register.
 fn scattered(register: u32) -> u32 {
-    ((register as u64 * 1664525 + 1013904223) % 4294967296) as u32
+    register.wrapping_mul(1664525).wrapping_add(1013904223)
 }
 
 fn show_many(rt: &impl Print) -> io::Result<()> {
@@ -90,10 +72,7 @@ fn show_many(rt: &impl Print) -> io::Result<()> {
 
 fn main(rt: HostRuntime) -> io::Result<()> {
     let mut text = [0u8; 9572];
-    let read = input::read_all(&mut rt.stdin(), &mut text);
-    if let Some(error) = read.failed {
-        return Err(error);
-    }
+    input::read_all(&mut rt.stdin(), &mut text)?;
     show_jobs(&rt, &text)?;
     show_samples(&rt, 281474976710656, 0)?;
     show_samples(&rt, 0, 65536)?;

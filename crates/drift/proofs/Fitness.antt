@@ -1,15 +1,11 @@
 -- What a fit window's members are.
 use mathlib.Core.Path.{◌≡◌}
-use mathlib.Core.Bool.{Bool, true, ◌&&◌, and-eq-true_iff}
-use Prim.Native.Nat.{ℕ, ◌^◌, ◌≤◌, ◌<◌}
+use mathlib.Core.Bool.{true, ◌&&◌, and-eq-true_iff}
+use Prim.Native.Nat.{ℕ, ◌≤◌, ◌<◌}
 use lib.Dec.{ltb, leb}
 use lib.IntN.{ℤ, nat_abs}
-use lib.Signed.{mag}
-use mir.Syntax.{w64}
-use mir.Val.{to_z, of_z, hbits}
 use borrow.Author.Tests.{ltb-true, leb-true, lt-ltb, le-leb}
 use Rattle.drift.specs.Drift.{most_size, most_sum, size_fit, within_limit, fit_of}
-use Rattle.drift.proofs.Signed.{back}
 
 pub record Fit (size held place : ℕ) (sum squares : ℤ) : Type 0 where
   pub positive : 1 ≤ size
@@ -41,7 +37,3 @@ module _ (size held place : ℕ) (sum squares : ℤ) where
   unfolding fit_of size_fit within_limit
   true_fit f =
       rw (le-leb 1 size f.positive, le-leb size most_size f.small, le-leb held size f.holds, lt-ltb place size f.within, le-leb (nat_abs sum) most_sum f.sum_small) (le-leb (nat_abs squares) most_sum f.squares_small)
-
-  -- two sums that were read from a struct are themselves
-  pub fit_read : {t : Bool} → t ≡ fit_of size held place (to_z w64 (of_z w64 sum)) (to_z w64 (of_z w64 squares)) → mag sum < 2 ^ hbits w64 → mag squares < 2 ^ hbits w64 → t ≡ fit_of size held place sum squares
-  fit_read e s q = rw (back w64 sum s, back w64 squares q) at e

@@ -1,6 +1,6 @@
-pub mod Signed
 pub mod Fitness
 pub mod Runs
 pub mod Latest
 pub mod Theorems
 pub mod Refusals
+pub mod Answered

@@ -1,6 +1,8 @@
 -- Drift over the latest readings (document 02, Job 9): what the calls on a window return, refusals included.
-use Rattle.std.specs.Prelude.{ℕ, ◌+◌, ◌^◌, Bool, cond, ◌&&◌, List, [], ◌∷◌, leb, ltb, ℤ, pos, nat_abs, ◌+ℤ◌, ◌-ℤ◌, ◌*ℤ◌, get_or, set, replicate}
+use Rattle.std.specs.Prelude.{ℕ, ◌+◌, ◌^◌, Bool, cond, ◌&&◌, List, [], ◌∷◌, leb, ltb, ℤ, pos, nat_abs, ◌+ℤ◌, ◌-ℤ◌, ◌*ℤ◌, get_or, set, replicate, eqb, Result, Ok, Err}
 use Rattle.drift.specs.declared.window.Members.{Members}
+use Rattle.drift.specs.declared.window.Refusal.{Refusal}
+use Rattle.drift.specs.declared.window.Refusal.TheVariants.{Unfit}
 use Rattle.drift.specs.declared.sums.Sums.{Sums}
 
 -- ---- Limits
@@ -107,13 +109,25 @@ pushed_all w (x ∷ samples) = pushed_from (pushed_of w x) samples
 abbrev pub with_places : Members → List ℤ → Window
 with_places m places = window_of m.size m.held m.place places m.sum m.squares
 
-abbrev pub members_of : WindowAnswer → Members
-members_of r =
-    record {
-      code = r.code;
-      size = r.window.size;
-      held = r.window.held;
-      place = r.window.place;
-      sum = r.window.sum;
-      squares = r.window.squares;
-    }
+abbrev pub fits : Members → Bool
+fits m = fit_of m.size m.held m.place m.sum m.squares
+
+abbrev pub members_of : Window → Members
+members_of w = record { size = w.size; held = w.held; place = w.place; sum = w.sum; squares = w.squares }
+
+-- What a call returns: the members where the code is 0, else the refusal, which stands for a window of N 0 with none held and both sums 0.
+abbrev pub answered : WindowAnswer → Result Members Refusal
+answered r = cond (eqb r.code 0) (Ok (members_of r.window)) (Err Unfit)
+
+-- The number of a refusal
+abbrev pub number_of : Refusal → ℕ
+number_of Unfit = 17
+
+-- The code of what a call returns, and its members: of a refusal its number, and a window of N 0 with none held.
+abbrev pub answer_code : Result Members Refusal → ℕ
+answer_code (Ok m) = 0
+answer_code (Err e) = number_of e
+
+abbrev pub answer_members : Result Members Refusal → Members
+answer_members (Ok m) = m
+answer_members (Err e) = members_of (empty_window 0)

@@ -2,7 +2,7 @@
 use Rattle.std.specs.Prelude.{ℕ, ◌-◌, ◌≤◌, ◌<◌, ◌≡◌, List, [], ◌∷◌, ◌++◌, ◌↔◌, ◌⊎◌, ℤ, pos, negsuc, nat_abs, ◌+ℤ◌, ◌*ℤ◌, length, drop}
 use Rattle.std.specs.Int.{w16}
 use Rattle.std.proofs.Common.{SFits}
-use Rattle.drift.specs.Drift.{Window, WindowAnswer, most_sum, window_of, empty_places, accepted, made_of, pushed_of, pushed_all}
+use Rattle.drift.specs.Drift.{Window, WindowAnswer, most_sum, window_of, empty_places, accepted, made_of, pushed_of, pushed_all, members_of, answered, answer_code, answer_members}
 
 -- "16-bit samples"
 unfoldable pub Samples : List ℤ → Type 0
@@ -124,3 +124,15 @@ pub record Limit (x : ℤ) : Type 0 where
   pub past_sum_minus : (pushed_of (with_sums (negsuc 4398046511104) (pos 0)) x).code ≡ 17
   pub past_squares : (pushed_of (with_sums (pos 0) (pos 4398046511105)) x).code ≡ 17
   pub past_squares_minus : (pushed_of (with_sums (pos 0) (negsuc 4398046511104)) x).code ≡ 17
+
+-- ---- What a call returns
+
+-- What is returned for an answer has its code and its members.
+pub record Kept (r : WindowAnswer) : Type 0 where
+  pub code : answer_code (answered r) ≡ r.code
+  pub members : answer_members (answered r) ≡ members_of r.window
+
+pub record Answered : Type 0 where
+  pub made : (n : ℕ) → Kept (made_of n)
+  pub pushed : (w : Window) (x : ℤ) → Kept (pushed_of w x)
+  pub all : (w : Window) (samples : List ℤ) → Kept (pushed_all w samples)

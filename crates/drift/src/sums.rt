@@ -8,12 +8,6 @@ pub struct Sums {
     pub squares: i64,
 }
 
-fn wide(x: i16) -> i64
-    ensures { (result ≡ x) × (nat_abs result ≤ 2 ^ 15) }
-{
-    x as i64
-}
-
 fn square(x: i64) -> i64
     requires { nat_abs x ≤ 2 ^ 15 }
     ensures { (result ≡ x *ℤ x) × (nat_abs result ≤ 2 ^ 30) }
@@ -30,12 +24,13 @@ fn exchanged(sum: i64, old: i64, new: i64) -> i64
 }
 
 // Both sums after one sample left and another came.
+// The two sums one by one, as `sums_of` of specs/Drift.antt takes them of a window.
 pub fn sums_after(sum: i64, squares: i64, out: i16, sample: i16) -> Sums
     requires { (nat_abs sum ≤ most_sum) × (nat_abs squares ≤ most_sum) }
     ensures { result ≡ sums_of sum squares out sample }
 {
-    let old = wide(out);
-    let new = wide(sample);
+    let old = i64::from(out);
+    let new = i64::from(sample);
     Sums {
         sum: exchanged(sum, old, new),
         squares: exchanged(squares, square(old), square(new)),

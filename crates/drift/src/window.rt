@@ -1,11 +1,9 @@
 // The calls: the places are the caller's memory, and the other members of a window go in by value and come back as they then are.
 ghost use Rattle.std.specs.Prelude.{◌≡◌, true, set};
 ghost use Rattle.drift.specs.Drift.{
-  fit_of,
-  window_of,
+  fits,
   empty_places,
   empty_window,
-  accepted,
   checked_of,
   made_of,
   moved_of,
@@ -13,20 +11,34 @@ ghost use Rattle.drift.specs.Drift.{
   pushed_all,
   with_places,
   members_of,
-  refusal,
+  answered,
+  number_of,
 };
 
-use crate::fit::{is_fit, is_size};
+use crate::fit::{is_size, is_within};
 use crate::sums::sums_after;
 use crate::turn::{held_after, leaving, place_after};
 
-// The refusal code of an unfit N or window.
-const UNFIT: u32 = 17;
+// Why a call is refused: an unfit N or window.
+#[derive(Clone, Copy, PartialEq, Eq)]
+pub enum Refusal {
+    Unfit = 17,
+}
 
-// A refusal code, and the members of a window but its places: N, how many samples are held, the place that the next one takes, and the two sums.
+impl Refusal {
+    // The refusal code. Each error enum has its own, for the reason in codes.rt of streams.
+    pub fn number(self) -> u32
+        ensures { result ≡ number_of self }
+    {
+        self as u32
+    }
+}
+
+// The members of a window but its places: N, how many samples are held, the place that the next one takes, and the two sums.
+// The places go beside them: a struct of both would be made of the caller's references at each call and taken apart again.
+// No ghost field says that a window is fit: a caller may pass in one that is not, which is the refusal 17.
 #[derive(Clone, Copy)]
 pub struct Members {
-    pub code: u32,
     pub size: u32,
     pub held: u32,
     pub place: u32,
@@ -34,124 +46,101 @@ pub struct Members {
     pub squares: i64,
 }
 
-// The members of a window with none held.
-fn empty(code: u32, size: u32) -> Members
-    ensures { result ≡ members_of (record { code = code; window = empty_window size }) }
-{
-    Members {
-        code,
-        size,
-        held: 0,
-        place: 0,
-        sum: 0,
-        squares: 0,
+impl Members {
+    // None held.
+    pub fn empty(size: u32) -> Members
+        ensures { result ≡ members_of (empty_window size) }
+    {
+        Members {
+            size,
+            held: 0,
+            place: 0,
+            sum: 0,
+            squares: 0,
+        }
+    }
+
+    #[tactic(auto, unfolding(crate::specs::Drift::fit_of))]
+    fn is_fit(self) -> bool
+        ensures { result ≡ fits self }
+    {
+        is_size(self.size)
+            && self.held <= self.size
+            && self.place < self.size
+            && is_within(self.sum)
+            && is_within(self.squares)
+    }
+
+    // A fit window after a sample.
+    fn moved(self, places: &mut [i16; 4096], sample: i16) -> Members
+        requires { fits self ≡ true }
+        ensures value { result ≡ members_of (moved_of (with_places self places.old) sample) }
+        ensures places_after { places.new ≡ set places.old self.place sample }
+    {
+        let at = self.place as usize;
+        let out = leaving(self.held, self.size, places[at]);
+        let sums = sums_after(self.sum, self.squares, out, sample);
+        places[at] = sample;
+        Members {
+            size: self.size,
+            held: held_after(self.held, self.size),
+            place: place_after(self.place, self.size),
+            sum: sums.sum,
+            squares: sums.squares,
+        }
     }
 }
 
 // Every place 0.
+#[tactic(auto, unfolding(crate::specs::Drift::empty_places))]
 pub fn clear(places: &mut [i16; 4096])
     ensures { places.new ≡ empty_places }
 {
     *places = [0; 4096];
 }
 
-fn refuse(places: &mut [i16; 4096]) -> Members
-    ensures value { result ≡ members_of refusal }
-    ensures places_after { places.new ≡ refusal.window.places }
-{
-    clear(places);
-    empty(UNFIT, 0)
-}
-
 // The members of a window that is made; its places are empty.
-pub fn made(n: u32) -> Members
-    ensures { result ≡ members_of (made_of n) }
+#[tactic(auto, unfolding(crate::specs::Drift::made_of))]
+pub fn made(n: u32) -> Result<Members, Refusal>
+    ensures { result ≡ answered (made_of n) }
 {
-    if !is_size(n) {
-        return empty(UNFIT, 0);
+    if is_size(n) {
+        Ok(Members::empty(n))
+    } else {
+        Err(Refusal::Unfit)
     }
-    empty(0, n)
 }
 
-// The window passed in, or 17.
-fn checked(m: Members, places: &mut [i16; 4096]) -> Members
-    ensures value { result ≡ members_of (checked_of (with_places m places.old)) }
+// The window passed in, where it is fit; else its places are emptied.
+#[tactic(auto, unfolding(crate::specs::Drift::checked_of))]
+fn checked(m: Members, places: &mut [i16; 4096]) -> Result<Members, Refusal>
+    ensures value { result ≡ answered (checked_of (with_places m places.old)) }
     ensures places_after { places.new ≡ (checked_of (with_places m places.old)).window.places }
 {
-    let size = m.size;
-    let held = m.held;
-    let place = m.place;
-    let sum = m.sum;
-    let squares = m.squares;
-    if !is_fit(size, held, place, sum, squares) {
-        return refuse(places);
+    if !m.is_fit() {
+        clear(places);
+        return Err(Refusal::Unfit);
     }
-    Members {
-        code: 0,
-        size,
-        held,
-        place,
-        sum,
-        squares,
-    }
-}
-
-// A fit window after a sample.
-fn moved(
-    size: u32,
-    held: u32,
-    place: u32,
-    sum: i64,
-    squares: i64,
-    places: &mut [i16; 4096],
-    sample: i16,
-) -> Members
-    requires { fit_of size held place sum squares ≡ true }
-    ensures value { result ≡ members_of (accepted (moved_of (window_of size held place places.old sum squares) sample)) }
-    ensures places_after { places.new ≡ set places.old place sample }
-{
-    let at = place as usize;
-    let stored = places[at];
-    let out = leaving(held, size, stored);
-    let sums = sums_after(sum, squares, out, sample);
-    places[at] = sample;
-    Members {
-        code: 0,
-        size,
-        held: held_after(held, size),
-        place: place_after(place, size),
-        sum: sums.sum,
-        squares: sums.squares,
-    }
+    Ok(m)
 }
 
 // A push.
-pub fn step(m: Members, places: &mut [i16; 4096], sample: i16) -> Members
-    ensures value { result ≡ members_of (pushed_of (with_places m places.old) sample) }
+pub fn step(m: Members, places: &mut [i16; 4096], sample: i16) -> Result<Members, Refusal>
+    ensures value { result ≡ answered (pushed_of (with_places m places.old) sample) }
     ensures places_after { places.new ≡ (pushed_of (with_places m places.old) sample).window.places }
 {
-    let size = m.size;
-    let held = m.held;
-    let place = m.place;
-    let sum = m.sum;
-    let squares = m.squares;
-    if !is_fit(size, held, place, sum, squares) {
-        return refuse(places);
-    }
-    moved(size, held, place, sum, squares, places, sample)
+    let fit = checked(m, places)?;
+    Ok(fit.moved(places, sample))
 }
 
 // The pushes one by one.
-pub fn run(m: Members, places: &mut [i16; 4096], samples: &[i16]) -> Members
-    ensures value { result ≡ members_of (pushed_all (with_places m places.old) samples.now) }
+pub fn run(m: Members, places: &mut [i16; 4096], samples: &[i16]) -> Result<Members, Refusal>
+    ensures value { result ≡ answered (pushed_all (with_places m places.old) samples.now) }
     ensures places_after { places.new ≡ (pushed_all (with_places m places.old) samples.now).window.places }
 {
-    let mut last = checked(m, places);
-    let mut i = 0;
-    while i < samples.len() {
-        let sample = samples[i];
-        last = step(last, places, sample);
-        i += 1;
+    let mut last = checked(m, places)?;
+    for &sample in samples {
+        last = step(last, places, sample)?;
     }
-    last
+    Ok(last)
 }

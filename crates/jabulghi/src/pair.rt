@@ -1,4 +1,4 @@
-// Two samples: from two numbers, and from a record.
+// Two samples: from two numbers, and from a record. Apart from those of bits18.rt, for the reason in lib.rt.
 ghost use Rattle.std.specs.Prelude.{◌≡◌, ◌<◌, ◌^◌, [], ◌∷◌, pos, get_or};
 ghost use Rattle.radius.specs.Steps.{number_bits, inverse};
 ghost use Rattle.box_muller.specs.Steps.{fraction_bits};
@@ -8,7 +8,7 @@ ghost use Rattle.exact.specs.Pair.{Close};
 ghost use Rattle.noise.specs.Noise.{pair_of, samples_in};
 ghost use Rattle.jabulghi.specs.Words.{words_of, generator_of};
 
-use crate::words::{packed, unpacked};
+use crate::words::{stored, unpacked};
 
 // The two samples of k and v.
 pub fn jabulghi_sample(k: u64, v: u32, samples: &mut [i16; 2]) -> u32
@@ -27,7 +27,5 @@ pub fn jabulghi_pair(words: &mut [u32; 10], samples: &mut [i16; 2]) -> u32
     ensures words_after { words.new ≡ words_of (pair_of fraction_bits (generator_of words.old)).next }
 {
     let g = unpacked(*words);
-    let pair = noise::pair(g, samples);
-    *words = packed(pair.next);
-    pair.code
+    stored(noise::pair(g, samples), words)
 }

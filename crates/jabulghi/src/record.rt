@@ -3,10 +3,10 @@ ghost use Rattle.std.specs.Prelude.{◌≡◌};
 ghost use Rattle.streams.specs.Streams.{seed_of, skip_of, ask_of, give_up_of};
 ghost use Rattle.jabulghi.specs.Words.{words_of, generator_of};
 
-use crate::words::{packed, unpacked};
+use crate::words::{stored, unpacked};
 use streams::Generator;
 
-// Seeds a record.
+// Seeds a record. Six numbers, as the header has them.
 pub fn jabulghi_seed(
     a0: u32,
     a1: u32,
@@ -19,9 +19,7 @@ pub fn jabulghi_seed(
     ensures code { result ≡ (seed_of a0 a1 a2 b0 b1 b2).code }
     ensures words_after { words.new ≡ words_of (seed_of a0 a1 a2 b0 b1 b2).next }
 {
-    let seeded = Generator::seed(a0, a1, a2, b0, b1, b2);
-    *words = packed(seeded.next);
-    seeded.code
+    stored(Generator::seed(a0, a1, a2, b0, b1, b2), words)
 }
 
 // A record n pairs on.
@@ -30,9 +28,7 @@ pub fn jabulghi_skip(words: &mut [u32; 10], n: u64) -> u32
     ensures words_after { words.new ≡ words_of (skip_of (generator_of words.old) n).next }
 {
     let g = unpacked(*words);
-    let skipped = g.skip(n);
-    *words = packed(skipped.next);
-    skipped.code
+    stored(g.skip(n), words)
 }
 
 // Notes a request for n pairs.
@@ -41,9 +37,7 @@ pub fn jabulghi_ask(words: &mut [u32; 10], n: u32) -> u32
     ensures words_after { words.new ≡ words_of (ask_of (generator_of words.old) n).next }
 {
     let g = unpacked(*words);
-    let asked = streams::ask(g, n);
-    *words = packed(asked.next);
-    asked.code
+    stored(streams::ask(g, n), words)
 }
 
 // Clears the request.
@@ -52,7 +46,5 @@ pub fn jabulghi_give_up(words: &mut [u32; 10]) -> u32
     ensures words_after { words.new ≡ words_of (give_up_of (generator_of words.old)).next }
 {
     let g = unpacked(*words);
-    let given_up = streams::give_up(g);
-    *words = packed(given_up.next);
-    given_up.code
+    stored(streams::give_up(g), words)
 }

@@ -1,21 +1,15 @@
 // A generator record as the ten words of the header's struct jabulghi_record: a's s0, s1, s2, then b's, then the count's low and high word, then
 // whether a request is open and for how many pairs.
-ghost use Rattle.std.specs.Prelude.{◌≡◌, ◌+◌, ◌*◌, ◌^◌};
+ghost use Rattle.std.specs.Prelude.{◌≡◌};
 ghost use Rattle.jabulghi.specs.Words.{words_of, generator_of};
 
-use streams::{Generator, Stream};
+use streams::{Generator, RecordAnswer, Stream};
 
 // A word's values.
 const WORD: u64 = 1 << 32;
 
-// The number of 64 bits that two words are.
-fn joined(low: u32, high: u32) -> u64
-    ensures { result ≡ high * 2 ^ 32 + low }
-{
-    high as u64 * WORD + low as u64
-}
-
 // The record that ten words are.
+// A pair of functions and no `From`: the impl would have to stand in crate streams, which does not know the header's ten words.
 pub fn unpacked(words: [u32; 10]) -> Generator
     ensures { result ≡ generator_of words }
 {
@@ -29,7 +23,7 @@ pub fn unpacked(words: [u32; 10]) -> Generator
         s1: words[4],
         s2: words[5],
     };
-    let count = joined(words[6], words[7]);
+    let count = words[7] as u64 * WORD + words[6] as u64;
     Generator {
         a,
         b,
@@ -48,4 +42,13 @@ pub fn packed(g: Generator) -> [u32; 10]
     [
         g.a.s0, g.a.s1, g.a.s2, g.b.s0, g.b.s1, g.b.s2, low, high, g.waiting, g.asked,
     ]
+}
+
+// What a call returned goes to the caller's words; the code.
+pub(crate) fn stored(answer: RecordAnswer, words: &mut [u32; 10]) -> u32
+    ensures code { result ≡ answer.code }
+    ensures words_after { words.new ≡ words_of answer.next }
+{
+    *words = packed(answer.next);
+    answer.code
 }

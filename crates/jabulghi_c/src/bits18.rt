@@ -1,4 +1,4 @@
-// The calls for samples of 18 bits.
+// The calls for samples of 18 bits. Exported, so under the header's names and with its parameters.
 ghost use Rattle.std.specs.Prelude.{◌≡◌, ◌<◌, ◌^◌, [], ◌∷◌, pos, length, get_or};
 ghost use Rattle.radius.specs.Steps.{number_bits, inverse};
 ghost use Rattle.box_muller.specs.Steps.{fraction_bits18};

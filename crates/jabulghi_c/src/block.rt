@@ -1,4 +1,4 @@
-// Blocks of samples from a record.
+// Blocks of samples from a record. Exported, so under the header's names and with its parameters.
 ghost use Rattle.std.specs.Prelude.{◌≡◌, length};
 ghost use Rattle.box_muller.specs.Steps.{fraction_bits};
 ghost use Rattle.noise.specs.Noise.{block_of, block_holds, look_of, look_holds, take_of, take_holds};

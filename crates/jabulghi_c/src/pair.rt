@@ -1,4 +1,4 @@
-// Two samples: from two numbers, and from a record.
+// Two samples: from two numbers, and from a record. Exported, so under the header's names and with its parameters.
 ghost use Rattle.std.specs.Prelude.{◌≡◌, ◌<◌, ◌^◌, [], ◌∷◌, pos, get_or};
 ghost use Rattle.radius.specs.Steps.{number_bits, inverse};
 ghost use Rattle.box_muller.specs.Steps.{fraction_bits};

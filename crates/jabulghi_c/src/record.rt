@@ -1,4 +1,4 @@
-// Calls on a record alone.
+// Calls on a record alone. Exported, so under the header's names and with its parameters.
 ghost use Rattle.std.specs.Prelude.{◌≡◌};
 ghost use Rattle.streams.specs.Streams.{seed_of, skip_of, ask_of, give_up_of};
 ghost use Rattle.jabulghi.specs.Words.{words_of, generator_of};

@@ -1,35 +1,35 @@
--- Labels read place by place, and words written whole.
-use mathlib.Core.Path.{◌≡◌, sym, ap, ◌∙◌}
+-- Labels read place by place, and words written one after another.
+use mathlib.Core.Path.{◌≡◌, refl, sym, ap, ◌∙◌}
 use mathlib.Core.Bool.{not}
 use mathlib.Core.List.{List, [], ◌∷◌, ◌++◌, append-nil}
-use Prim.Native.Nat.{ℕ, ◌+◌, ◌-◌, ◌*◌, ◌≤◌, ◌<◌}
+use Prim.Native.Nat.{ℕ, ◌+◌, ◌*◌, ◌≤◌, ◌<◌}
 use native.Mathlib.Omega.{arith}
 use native.Mathlib.Numerals.{add-one}
 use lib.Dec.{eqb}
-use lib.ListN.{length, get_or, take, drop, set, replicate, length-set, length-replicate, length-drop, drop_of_length-le}
-use lib.Seq.{drop-cons, drop-drop, length-take-le, take-suc-set, take_all, append_snoc}
+use lib.ListN.{length, get_or, take, drop, set, length-set, drop_of_length-le}
+use lib.Seq.{drop-cons, drop-drop, take-suc-set, take_all, append_snoc}
+use borrow.Rule.Slice.PartMut.{put_mid}
+use Rattle.std.proofs.Common.{append_assoc}
+use Rattle.std.proofs.lemmas.List.Edits.{sets-eq, paste_all}
+use Rattle.std.proofs.lemmas.Slice.{put_mid-paste}
 use Rattle.text.specs.Limits.{name_length}
 use Rattle.text.specs.Buffer.{written}
-use Rattle.text.proofs.Writing.{written_fits}
 use Rattle.marks.specs.declared.label.Label.{Label}
 use Rattle.marks.specs.Marks.{places}
 use Rattle.jabulghi_marks.specs.Members.{labels_of}
 
--- n elements of a list, written into as many, are all that is there
-pub part_whole : (n at : ℕ) (l : List ℕ) → at + n ≤ length l
-    → written (replicate n 0) 0 (take (at + n - at) (drop at l)) ≡ take n (drop at l)
-part_whole n at l h =
-    let few : at + n - at ≡ n = omega arith in
-    let part = take n (drop at l) in
-    let size : length part ≡ n = length-take-le n (drop at l) (omega (arith, length-drop at l)) in
-    let room : length {A = ℕ} (replicate n 0) ≡ n = length-replicate n 0 in
-    rw few
-    (written_fits (replicate n 0) 0 part (omega (arith, size, room))
-    ∙ rw (drop_of_length-le {A = ℕ} (replicate n 0) {i = 0 + length part} (omega (arith, size, room))) (append-nil part))
+-- a part that is written over
+pub part_written : (out words : List ℕ) (at : ℕ) {new : List ℕ} {k : ℕ} → at + length words ≤ length out → new ≡ words → length words ≡ k
+    → put_mid at k out new ≡ written out at words
+unfolding written
+part_written out words at {new} {k} room same size =
+    put_mid-paste at k out new words (length words) same size refl
+    ∙ paste_all out at words (length words) refl
+    ∙ sym (append_assoc (take at out) words (drop (at + length words) out))
+    ∙ sym (sets-eq words out at room)
 
 -- the labels of i places are there
 pub record Filled (used lengths names : List ℕ) (labels : List Label) (i : ℕ) : Type 0 where
-  pub within : i ≤ places
   pub size : length labels ≡ places
   pub first : take i labels ++ labels_of (drop i used) (drop i lengths) (drop (i * name_length) names) ≡ labels_of used lengths names
 
@@ -53,7 +53,6 @@ module _ (used lengths names : List ℕ) (us : length used ≡ places) (ls : len
         e,
       ) in
       record {
-        within = omega arith;
         size = length-set labels i label ∙ so_far.size;
         first =
             rw (add-one i, take-suc-set labels i label (omega (arith, so_far.size)))

@@ -4,7 +4,7 @@ ghost use Rattle.jabulghi.specs.Words.{generator_of};
 ghost use Rattle.marks.specs.Marks.{places, place_to_save, place_to_return, place_to_drop};
 ghost use Rattle.jabulghi_marks.specs.Members.{members, labels_of, stored_in, saved_in, returned_words, dropped_in};
 
-use crate::members::{WORDS, labels_of, put_words, words_at};
+use crate::members::{WORDS, elements_at, labels_of};
 use jabulghi::words::unpacked;
 use marks::PLACES;
 use marks::call::{place_to_drop, place_to_return, place_to_save};
@@ -13,6 +13,7 @@ use text::buffer::put;
 use text::limits::NAME_LENGTH;
 
 // A label and the words of a record in a place.
+// The members come one by one: the clauses of the C calls name each.
 fn store(
     used: &mut [u32; PLACES],
     lengths: &mut [u32; PLACES],
@@ -30,10 +31,14 @@ fn store(
     used[place] = mark;
     lengths[place] = label.length;
     put(names, place * NAME_LENGTH, &bytes);
-    put_words(records, place * WORDS, &words);
+    let from = place * WORDS;
+    records[from..from + WORDS].copy_from_slice(&words);
 }
 
 // Saves the record under a name.
+// The three calls begin alike, and stay apart: tools/contracts wants here, for each function that is exported, one of its name with its clauses, and each
+// asks `marks` for another place.
+// Each tests a code: `Placed` has one, since the definitions of `marks` (place_to_save, place_to_return, place_to_drop) and this crate's `saved_in` speak of it.
 pub fn jabulghi_marks_save_members(
     used: &mut [u32; PLACES],
     lengths: &mut [u32; PLACES],
@@ -86,7 +91,7 @@ pub fn jabulghi_marks_return_members(
     if code != 0 {
         return code;
     }
-    *words = words_at(*records, place * WORDS);
+    *words = elements_at(records, place * WORDS);
     code
 }
 

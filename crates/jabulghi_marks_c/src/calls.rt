@@ -1,4 +1,5 @@
 // A saved record is its words, copied as they stand; an accepted call writes its own place alone, a refused one nothing.
+// Exported, so under the header's names and with its parameters.
 ghost use Rattle.std.specs.Prelude.{◌≡◌, ◌<◌};
 ghost use Rattle.jabulghi.specs.Words.{generator_of};
 ghost use Rattle.marks.specs.Marks.{places, place_to_save, place_to_return, place_to_drop};

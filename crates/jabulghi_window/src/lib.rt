@@ -2,11 +2,35 @@
 // of the header's struct jabulghi_window, whose inline functions take it apart.
 #![tactic(auto)]
 
-ghost use Rattle.std.specs.Prelude.{◌≡◌};
-ghost use Rattle.drift.specs.Drift.{window_of, made_of, pushed_of, pushed_all};
+ghost use Rattle.std.specs.Prelude.{◌≡◌, Result};
+ghost use Rattle.drift.specs.Drift.{window_of, with_places, empty_window, made_of, pushed_of, pushed_all, answer_code, answer_members};
 
 use drift::window;
-use drift::window::Members;
+use drift::window::{Members, Refusal};
+
+// What a call returned goes to the caller's members, all 0 where it is refused; the code.
+fn stored(
+    answer: Result<Members, Refusal>,
+    size: &mut u32,
+    held: &mut u32,
+    place: &mut u32,
+    sum: &mut i64,
+    squares: &mut i64,
+) -> u32
+    ensures code { result ≡ answer_code answer }
+    ensures members { record { size = size.new; held = held.new; place = place.new; sum = sum.new; squares = squares.new } ≡ answer_members answer }
+{
+    let (code, members) = match answer {
+        Ok(members) => (0, members),
+        Err(refusal) => (refusal.number(), Members::empty(0)),
+    };
+    *size = members.size;
+    *held = members.held;
+    *place = members.place;
+    *sum = members.sum;
+    *squares = members.squares;
+    code
+}
 
 // A window for the latest n samples.
 pub fn jabulghi_window_make_members(
@@ -22,18 +46,11 @@ pub fn jabulghi_window_make_members(
     ensures window_after { window_of size.new held.new place.new places.new sum.new squares.new ≡ (made_of n).window }
 {
     window::clear(places);
-    let made = window::made(n);
-    *size = made.size;
-    *held = made.held;
-    *place = made.place;
-    let sum_after = made.sum;
-    let squares_after = made.squares;
-    *sum = sum_after;
-    *squares = squares_after;
-    made.code
+    stored(window::made(n), size, held, place, sum, squares)
 }
 
 // One sample.
+// This and the next read the members by the same literal: a function for it would take five references for one expression.
 pub fn jabulghi_window_push_members(
     size: &mut u32,
     held: &mut u32,
@@ -47,7 +64,6 @@ pub fn jabulghi_window_push_members(
     ensures window_after { window_of size.new held.new place.new places.new sum.new squares.new ≡ (pushed_of (window_of size.old held.old place.old places.old sum.old squares.old) sample).window }
 {
     let was = Members {
-        code: 0,
         size: *size,
         held: *held,
         place: *place,
@@ -55,14 +71,7 @@ pub fn jabulghi_window_push_members(
         squares: *squares,
     };
     let pushed = window::step(was, places, sample);
-    *size = pushed.size;
-    *held = pushed.held;
-    *place = pushed.place;
-    let sum_after = pushed.sum;
-    let squares_after = pushed.squares;
-    *sum = sum_after;
-    *squares = squares_after;
-    pushed.code
+    stored(pushed, size, held, place, sum, squares)
 }
 
 // Many samples, as if they were pushed one by one.
@@ -79,7 +88,6 @@ pub fn jabulghi_window_push_all_members(
     ensures window_after { window_of size.new held.new place.new places.new sum.new squares.new ≡ (pushed_all (window_of size.old held.old place.old places.old sum.old squares.old) samples.now).window }
 {
     let was = Members {
-        code: 0,
         size: *size,
         held: *held,
         place: *place,
@@ -87,12 +95,5 @@ pub fn jabulghi_window_push_all_members(
         squares: *squares,
     };
     let ran = window::run(was, places, samples);
-    *size = ran.size;
-    *held = ran.held;
-    *place = ran.place;
-    let sum_after = ran.sum;
-    let squares_after = ran.squares;
-    *sum = sum_after;
-    *squares = squares_after;
-    ran.code
+    stored(ran, size, held, place, sum, squares)
 }

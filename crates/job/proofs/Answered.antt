@@ -2,21 +2,28 @@
 use Prim.Native.Nat.{ℕ, ◌+◌, ◌-◌, ◌≤◌, ◌<◌}
 use native.Mathlib.Omega.{arith}
 use native.Mathlib.Nat.{zero-add, pos_of_ne-zero}
-use mathlib.Core.Path.{◌≡◌, refl, sym, ap, subst, ◌∙◌}
-use mathlib.Core.Bool.{Bool, true, false, cond}
+use mathlib.Core.Path.{◌≡◌, refl, sym, ap, ap₂, ◌∙◌}
+use mathlib.Core.Bool.{Bool, true, false, cond, true≢false}
 use mathlib.Core.List.{List, [], ◌∷◌}
 use lib.ListN.{length}
 use lib.Dec.{leb, ltb, eqb}
 use borrow.Author.Tests.{lt-ltb, le-ltb, le-leb, lt-leb, leb-true, eqb-false}
-use Rattle.text.specs.Buffer.{Puts}
+use Rattle.std.specs.Prelude.{Ok, Err}
+use Rattle.text.specs.Buffer.{written, Puts}
 use Rattle.text.proofs.Writing.{position_fits, written_fits}
 use Rattle.job_reader.specs.Limits.{most_bytes}
 use Rattle.job_reader.specs.Setting.{start}
-use Rattle.job.specs.Job.{Outcome, refused, listed, onto, outcome, listing_of, job_of, answer_of, buffer_after, output_of}
+use Rattle.job.specs.Job.{Outcome, refused, listed, onto, outcome, listing_of, job_of, answer_of, answer_in, buffer_after, output_of}
 use Rattle.job.specs.Job.{printed, setting_after}
 use Rattle.job_lines.specs.Forms.{read_line}
-use Rattle.job_reader.specs.Refusals.{refusal, first_bad}
-use Rattle.job_reader.specs.declared.walk.BadLine.{BadLine}
+use Rattle.job_reader.specs.Refusals.{refusal, Verdict, number_of, verdict_in, first_bad}
+use Rattle.job_reader.specs.declared.refusals.BadLine.{BadLine}
+use Rattle.job_reader.specs.declared.refusals.Refusal.TheVariants.{Line}
+use Rattle.job_reader.proofs.Refused as reader
+use Rattle.job_reader.proofs.Refused.{number_positive}
+use Rattle.job.specs.Refusals.{code_of}
+use Rattle.job.specs.declared.refusal.Refusal.{Refusal}
+use Rattle.job.specs.declared.refusal.Refusal.TheVariants.{Job, ListingTooLong}
 use Rattle.listing_rows.specs.Rows.{header, end_row, refused_row}
 use Rattle.job_reader.specs.declared.walk.Setting.{Setting}
 use Rattle.text.specs.Scan.{lines}
@@ -31,34 +38,30 @@ pub job_short : (text : List ℕ) → length text ≤ most_bytes → job_of text
 unfolding job_of
 job_short text h = rw (le-ltb most_bytes (length text) h)
 
-abbrev code : JobAnswer → ℕ
-code r = r.code
-
 abbrev size : JobAnswer → ℕ
 size r = r.length
 
 -- ---- Whether a job is refused
 
 -- what is measured by way of a spare buffer decides
-module _ (m : JobAnswer) (spare spare' : List ℕ) (room : ℕ) where
-  pub measured_long : (o : Outcome) → Wrote o m spare spare' → room < m.length → Decided o room (record { code = 10; line = 0; length = 0 })
+module _ (o : Outcome) (room : ℕ) where
+  pub measured_long : (n : ℕ) (spare spare' : List ℕ) → Wrote o (Ok n) spare spare' → room < n → Decided o room (Err ListingTooLong)
   unfolding answer_of
-  measured_long (refused n k) w h = absurd (omega (arith, ap size w.0, h))
-  measured_long (listed bytes) w h =
-      record { yes = λ z. absurd (omega (arith, z)); no = λ z. rw (lt-leb (length bytes) room (omega (arith, ap size w.0, h))) }
+  measured_long n spare spare' (bytes, e, m, w) h = rw (e, lt-leb (length bytes) room (omega (arith, m, h)))
 
-  pub measured_fits : (o : Outcome) → Wrote o m spare spare' → m.length ≤ room → Decided o room m
+  pub measured_fits : (n : ℕ) (spare spare' : List ℕ) → Wrote o (Ok n) spare spare' → n ≤ room → Decided o room (Ok tt)
+  measured_fits n spare spare' (bytes, e, m, w) h = (bytes, e, omega (arith, m, h))
+
+  pub line_decides : (bad : BadLine) → o ≡ refused (number_of bad.cause) bad.line → Decided o room (Err (Job (Line bad)))
   unfolding answer_of
-  measured_fits (refused n k) w h = record { yes = λ z. absurd (omega (arith, ap code w.0, w.1, z)); no = λ z. w.0 }
-  measured_fits (listed bytes) w h =
-      record { yes = λ z. (bytes, refl, omega (arith, ap size w.0, h)); no = λ z. absurd (z (ap code w.0)) }
+  line_decides bad e = rw e
 
 -- and so does the first bad line, in a room for any listing
-abbrev pub Judged : BadLine → Outcome → Type 0
+abbrev pub Judged : Verdict → Outcome → Type 0
 Judged b (refused code line) = (b ≡ record { code = code; line = line }) × (0 < code)
 Judged b (listed bytes) = b.code ≡ 0
 
-judged_onto : (b : BadLine) (bytes : List ℕ) (o : Outcome) → Judged b o → Judged b (onto bytes o)
+judged_onto : (b : Verdict) (bytes : List ℕ) (o : Outcome) → Judged b o → Judged b (onto bytes o)
 judged_onto b bytes (refused n k) j = j
 judged_onto b bytes (listed rest) j = j
 
@@ -82,18 +85,43 @@ pub judged_text : (text : List ℕ) → Judged (first_bad 1 (lines text)) (listi
 unfolding listing_of
 judged_text text = judged_onto (first_bad 1 (lines text)) header (outcome 1 start (lines text)) (judged_lines (lines text) 1 start)
 
-judged_room : (b : BadLine) (o : Outcome) (room : ℕ) → Judged b o → ((bytes : List ℕ) → o ≡ listed bytes → length bytes ≤ room)
-    → Decided o room (record { code = b.code; line = b.line; length = 0 })
-unfolding answer_of
-judged_room b (refused n k) room j h =
-    rw j.0 (record { yes = λ z. absurd (omega (arith, j.1, z)); no = λ z. refl })
-judged_room b (listed bytes) room j h = record { yes = λ z. (bytes, refl, h bytes refl); no = λ z. absurd (z j) }
+-- a line is bad, or none is
+pub judged_refused : (text : List ℕ) (bad : BadLine) → verdict_in {A = ℕ} (Err bad) ≡ first_bad 1 (lines text) → listing_of text ≡ refused (number_of bad.cause) bad.line
+judged_refused text bad e = go (listing_of text) (rw (← e) at (judged_text text))
+  where
+    go : (o : Outcome) → Judged (record { code = number_of bad.cause; line = bad.line }) o → o ≡ refused (number_of bad.cause) bad.line
+    go (refused n k) j = ap₂ refused (sym (ap (λ (v : Verdict). v.code) j.0)) (sym (ap (λ (v : Verdict). v.line) j.0))
+    go (listed bytes) j = absurd (number_positive bad.cause j)
 
-pub judged_decided : (text : List ℕ) (room : ℕ) → ((bytes : List ℕ) → listing_of text ≡ listed bytes → length bytes ≤ room)
-    → Decided (listing_of text) room (record { code = (first_bad 1 (lines text)).code; line = (first_bad 1 (lines text)).line; length = 0 })
-judged_decided text room h = judged_room (first_bad 1 (lines text)) (listing_of text) room (judged_text text) h
+pub judged_listed : (text : List ℕ) → record { code = 0; line = 0 } ≡ first_bad 1 (lines text) → (bytes : List ℕ) × (listing_of text ≡ listed bytes)
+judged_listed text e = go (listing_of text) (rw (← e) at (judged_text text))
+  where
+    go : (o : Outcome) → Judged (record { code = 0; line = 0 }) o → (bytes : List ℕ) × (o ≡ listed bytes)
+    go (refused n k) j = absurd (omega (arith, ap (λ (v : Verdict). v.code) j.0, j.1))
+    go (listed bytes) j = (bytes, refl)
+
+bytes_of : Outcome → List ℕ
+bytes_of (refused code line) = []
+bytes_of (listed bytes) = bytes
+
+listed_same : {a b : List ℕ} → listed a ≡ listed b → a ≡ b
+unfolding bytes_of
+listed_same e = ap bytes_of e
+
+is_listed : Outcome → Bool
+is_listed (refused code line) = false
+is_listed (listed bytes) = true
+
+pub not_both : (o : Outcome) (bytes : List ℕ) (code line : ℕ) → o ≡ listed bytes → o ≡ refused code line → ⊥
+unfolding is_listed
+not_both o bytes code line e f = true≢false (ap is_listed (sym e ∙ f))
 
 -- ---- The answer, and the caller's buffer
+
+-- no refusal has the code 0
+pub code_positive : (why : Refusal) → code_of why ≡ 0 → ⊥
+code_positive (Job why) e = reader.code_positive why e
+code_positive ListingTooLong e = omega (arith, e)
 
 -- A refusal leaves the buffer and gives the one line of code and line.
 pub printed_refused : (o : Outcome) (out : List ℕ) → ((answer_of o (length out)).code ≡ 0 → ⊥)
@@ -109,18 +137,20 @@ printed_refused (listed bytes) out z = go (leb (length bytes) (length out)) refl
     go true e = absurd (z (rw (answer_of, e)))
     go false e = rw (buffer_after, answer_of, output_of, e) (refl, refl)
 
-module _ (d : JobAnswer) (out : List ℕ) where
-  pub answered_refused : (o : Outcome) → Decided o (length out) d → (d.code ≡ 0 → ⊥) → (d ≡ answer_of o (length out)) × (out ≡ buffer_after o out)
-  answered_refused o w z = (w.no z, sym (printed_refused o out (λ u. z (ap code (w.no z) ∙ u))).0)
+module _ (o : Outcome) (out : List ℕ) where
+  pub answered_refused : (refusal : Refusal) → Decided o (length out) (Err refusal)
+      → (answer_in (Err refusal) ≡ answer_of o (length out)) × (out ≡ buffer_after o out)
+  answered_refused refusal w = (sym w, sym (printed_refused o out (λ z. code_positive refusal (sym (ap (λ (r : JobAnswer). r.code) w) ∙ z))).0)
 
-  pub answered_listed : (o : Outcome) → Decided o (length out) d → d.code ≡ 0 → (r : JobAnswer) (out' : List ℕ)
-      → Wrote o r out out' → (r ≡ answer_of o (length out)) × (out' ≡ buffer_after o out)
+  pub answered_listed : (bytes : List ℕ) → o ≡ listed bytes → length bytes ≤ length out → (n : ℕ) (new : List ℕ) → Wrote o (Ok n) out new
+      → (answer_in (Ok n) ≡ answer_of o (length out)) × (new ≡ buffer_after o out)
   unfolding answer_of buffer_after
-  answered_listed o w z r out' v =
-      let (bytes, e, fit) = w.yes z in
-      let u : Wrote (listed bytes) r out out' = subst (λ (x : Outcome). Wrote x r out out') e v in
-      rw (e, le-leb (length bytes) (length out) fit)
-      (u.0, u.1 ∙ written_fits out 0 bytes (omega (arith, fit)) ∙ rw (zero-add (length bytes)))
+  answered_listed bytes e fit n new (written_bytes, f, m, w) =
+      let same : written_bytes ≡ bytes = listed_same (sym f ∙ e) in
+      let w' : new ≡ written out 0 bytes = rw same at w in
+      let m' : n ≡ length bytes = rw same at m in
+      rw (e, le-leb (length bytes) (length out) fit, m')
+      (refl, w' ∙ written_fits out 0 bytes (omega (arith, fit)) ∙ rw (zero-add (length bytes)))
 
 -- an answer's length is within the buffer
 pub answer_fits : (o : Outcome) (room : ℕ) → (answer_of o room).length ≤ room
@@ -148,7 +178,7 @@ pub onto_told : (bytes : List ℕ) (o : Outcome) → Told o → Told (onto bytes
 onto_told bytes (refused n k) h = h
 onto_told bytes (listed rest) h = tt
 
-judged_told : (b : BadLine) (o : Outcome) → Judged b o → Told o
+judged_told : (b : Verdict) (o : Outcome) → Judged b o → Told o
 judged_told b (refused n k) j = j.1
 judged_told b (listed bytes) j = tt
 

@@ -6,7 +6,7 @@ use mathlib.Core.Path.{◌≡◌, refl, sym, ap}
 use mathlib.Core.Bool.{true≢false}
 use mathlib.Core.List.{List}
 use lib.IntN.{ℤ, pos, negsuc, nat_abs}
-use lib.ListN.{length, get_or, take, drop, replicate}
+use lib.ListN.{length, get_or, take, replicate}
 use mir.Syntax.{w16}
 use mir.Val.{to_z, of_z}
 use borrow.Author.Tests.{ltb-false}
@@ -20,7 +20,7 @@ use Rattle.job_lines.specs.Forms.{Form, seeds, sigma, shot, no_form, shot_in, re
 use Rattle.job_lines.specs.declared.Shot.{Shot as ShotFields}
 use Rattle.text.specs.Buffer.{written, position_after, Puts}
 use Rattle.text.proofs.Writing.{written_out, room_holds}
-use Rattle.listing_rows.specs.declared.write.Row.{Row}
+use Rattle.text.specs.declared.written.Written.{Written}
 use Rattle.noisy_shot.specs.Rounding.{noise_size, noisy_distance, noisy_bearing}
 use Rattle.listing_rows.specs.Rows.{shot_row, end_row, row_room}
 use Rattle.text.specs.Limits.{name_length}
@@ -137,8 +137,8 @@ module _ (line : List ℕ) (x : ShotFields) (mm step : ℕ) (from to : List ℕ)
   row_measured out used n e h = (omega (arith, e, ap length same_row, short), sym (written_out out used bytes h))
 
   -- and made
-  pub row_added : (row : Row) (out out' : List ℕ) (used n : ℕ) → Puts (replicate row_room 0) 0 (shot_row from to mm step) row.length row.bytes
-      → (n ≡ used + row.length) × (out' ≡ written out used (take (row.length - 0) (drop 0 row.bytes)))
+  pub row_added : (row : Written row_room) (out out' : List ℕ) (used n : ℕ) → Puts (replicate row_room 0) 0 (shot_row from to mm step) row.length row.bytes
+      → (n ≡ used + row.length) × (out' ≡ written out used (take row.length row.bytes))
       → (n ≡ used + length bytes) × (out' ≡ written out used bytes)
   row_added row out out' used n p a =
       let q : Puts (replicate row_room 0) 0 bytes row.length row.bytes = rw (← same_row) p in
@@ -146,6 +146,6 @@ module _ (line : List ℕ) (x : ShotFields) (mm step : ℕ) (from to : List ℕ)
       rw (← k.0, ← k.1) a
 
 -- a row that was put into its room
-pub row_within : (row : Row) (s : List ℕ) → Puts (replicate row_room 0) 0 s row.length row.bytes → row.length ≤ row_room
+pub row_within : (row : Written row_room) (s : List ℕ) → Puts (replicate row_room 0) 0 s row.length row.bytes → row.length ≤ row_room
 unfolding position_after
 row_within row s p = omega (arith, p.0)

@@ -1,5 +1,5 @@
 -- A job's answer, from its bytes (document 01, "A job and its listing" and the table of causes).
-use Rattle.std.specs.Prelude.{ℕ, ◌+◌, ◌-◌, cond, List, [], ◌∷◌, ◌++◌, leb, ltb, eqb, ℤ, length, drop}
+use Rattle.std.specs.Prelude.{ℕ, ◌+◌, ◌-◌, cond, List, [], ◌∷◌, ◌++◌, leb, ltb, eqb, ℤ, length, drop, Result, Ok, Err}
 use Rattle.box_muller.specs.Steps.{fraction_bits}
 use Rattle.noise.specs.Noise.{pair_of}
 use Rattle.text.specs.Scan.{lines}
@@ -10,6 +10,8 @@ use Rattle.listing_rows.specs.Rows.{header, shot_row, end_row, refused_row}
 use Rattle.job_reader.specs.Refusals.{refusal}
 use Rattle.job_reader.specs.Setting.{start, setting_on}
 use Rattle.job_reader.specs.declared.walk.Setting.{Setting}
+use Rattle.job.specs.Refusals.{code_of, line_of}
+use Rattle.job.specs.declared.refusal.Refusal.{Refusal}
 use Rattle.job.specs.declared.JobAnswer.{JobAnswer}
 
 -- What a line leaves for those after it: "each shot takes one pair", and every other line leaves what it sets
@@ -65,6 +67,11 @@ answer_of (listed bytes) room =
     cond (leb (length bytes) room)
     (record { code = 0; line = 0; length = length bytes })
     (record { code = 10; line = 0; length = 0 })
+
+-- what is answered for a listing's length or a refusal
+abbrev pub answer_in : Result ℕ Refusal → JobAnswer
+answer_in (Ok n) = record { code = 0; line = 0; length = n }
+answer_in (Err refusal) = record { code = code_of refusal; line = line_of refusal; length = 0 }
 
 -- What the buffer then holds: "bytes beyond the listing's length keep their contents"; refused, what it held
 unfoldable pub buffer_after : Outcome → List ℕ → List ℕ

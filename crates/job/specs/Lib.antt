@@ -1,4 +1,5 @@
 pub mod Limits
+pub mod Refusals
 pub mod Job
 pub mod Theorems
 pub mod Private

@@ -1,19 +1,15 @@
 -- From what a line says, and where a shot's names stand, to the line as the code holds it.
-use Prim.Native.Nat.{ℕ, ◌<◌}
-use native.Mathlib.Omega.{arith}
+use Prim.Native.Nat.{ℕ}
 use mathlib.Core.Path.{◌≡◌, refl, sym, ap, ◌∙◌}
 use mathlib.Core.Bool.{Bool, true, false, cond, ◌&&◌, true≢false}
 use mathlib.Core.List.{List}
-use lib.ListN.{get_or, take}
-use lib.Seq.{get_or-take}
-use Rattle.text.specs.Forms.{no_place, found_of, places_from, marks, digit_string_at, three_at}
+use Rattle.std.proofs.Common.{Option, Some, None}
+use Rattle.text.specs.Forms.{places_from, digit_string_at, three_at}
 use Rattle.text.specs.declared.field.Place.{Place}
-use Rattle.text.specs.declared.form.Found.{Found}
-use Rattle.text.proofs.Steps.{places_found}
 use Rattle.job_lines.specs.Forms.{Form, seeds, sigma, shot, no_form, shot_form, seeds_of, sigma_of, said, line_in}
 use Rattle.job_lines.specs.Private.{NamesAt}
 use Rattle.job_lines.specs.declared.Line.{Line}
-use Rattle.job_lines.specs.declared.Line.TheVariants.{Seeds, Sigma, Shot, NoForm}
+use Rattle.job_lines.specs.declared.Line.TheVariants.{Seeds, Sigma, Shot}
 
 -- whether it is a shot
 abbrev pub is_shot : Form → Bool
@@ -36,36 +32,24 @@ unfolding sigma_of
 sigma_other v = not_either (digit_string_at v 0 && digit_string_at v 1) _ refl
 
 module _ (line : List ℕ) where
-  line_is : (r : Line) (x : Form) → said line r ≡ x → NamesAt (places_from 0 shot_form line) r → r ≡ line_in line x
+  line_is : (r : Option Line) (x : Form) → said line r ≡ x → NamesAt (places_from 0 shot_form line) r → r ≡ line_in line x
   unfolding line_in
-  line_is (Seeds s) x e h = ap (line_in line) e
-  line_is (Sigma s) x e h = ap (line_in line) e
-  line_is (Shot s) x e h = sym (rw (← e, ← h.0, ← h.1))
-  line_is NoForm x e h = ap (line_in line) e
+  line_is (Some (Seeds s)) x e h = ap (line_in line) e
+  line_is (Some (Sigma s)) x e h = ap (line_in line) e
+  line_is (Some (Shot s)) x e h = sym (rw (← e, ← h.0, ← h.1))
+  line_is None x e h = ap (line_in line) e
 
   -- a line without a name
-  pub told_other : (r : Line) (x : Form) → said line r ≡ x → is_shot x ≡ false → (said line r ≡ x) × (r ≡ line_in line x)
+  pub told_other : (r : Option Line) (x : Form) → said line r ≡ x → is_shot x ≡ false → (said line r ≡ x) × (r ≡ line_in line x)
   told_other r x e f = (e, line_is r x e (go r (ap is_shot e ∙ f)))
     where
-      go : (r : Line) → is_shot (said line r) ≡ false → NamesAt (places_from 0 shot_form line) r
-      go (Seeds s) g = tt
-      go (Sigma s) g = tt
-      go (Shot s) g = absurd (true≢false g)
-      go NoForm g = tt
+      go : (r : Option Line) → is_shot (said line r) ≡ false → NamesAt (places_from 0 shot_form line) r
+      go (Some (Seeds s)) g = tt
+      go (Some (Sigma s)) g = tt
+      go (Some (Shot s)) g = absurd (true≢false g)
+      go None g = tt
 
   -- a shot, or a line of its form that is none
-  pub told_shot : (r : Line) (x : Form) (c : Found) → said line r ≡ x → NamesAt c.places r → c ≡ found_of shot_form line → c.ok ≡ true → 4 ≡ marks shot_form
+  pub told_shot : (r : Option Line) (x : Form) (places : List Place) → said line r ≡ x → NamesAt places r → places ≡ places_from 0 shot_form line
       → (said line r ≡ x) × (r ≡ line_in line x)
-  told_shot r x c e h f t n = (e, line_is r x e (go r h))
-    where
-      found : take 4 c.places ≡ places_from 0 shot_form line
-      found = rw (n, f) (places_found shot_form line (sym (ap (λ (y : Found). y.ok) f) ∙ t))
-
-      at : (i : ℕ) → i < 4 → get_or c.places i no_place ≡ get_or (places_from 0 shot_form line) i no_place
-      at i l = sym (get_or-take 4 c.places i no_place l) ∙ ap (λ (v : List Place). get_or v i no_place) found
-
-      go : (r : Line) → NamesAt c.places r → NamesAt (places_from 0 shot_form line) r
-      go (Seeds s) g = tt
-      go (Sigma s) g = tt
-      go (Shot s) g = (g.0 ∙ at 0 (omega arith), g.1 ∙ at 1 (omega arith))
-      go NoForm g = tt
+  told_shot r x places e h f = (e, line_is r x e (rw f at h))

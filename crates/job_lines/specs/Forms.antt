@@ -1,5 +1,5 @@
 -- The three forms of a line (document 01, "A job and its listing"): the printer and the reader of each.
-use Rattle.std.specs.Prelude.{ℕ, ◌<◌, ◌≡◌, true, cond, ◌&&◌, List, [], ◌∷◌, get_or}
+use Rattle.std.specs.Prelude.{ℕ, ◌<◌, ◌≡◌, true, cond, Option, Some, None, ◌&&◌, List, [], ◌∷◌, get_or}
 use Rattle.text.specs.Limits.{decimal_bound}
 use Rattle.text.specs.Ascii.{ascii}
 use Rattle.text.specs.Fields.{name, decimal, part_of}
@@ -9,7 +9,7 @@ use Rattle.job_lines.specs.declared.Seeds.{Seeds as SeedsFields}
 use Rattle.job_lines.specs.declared.Sigma.{Sigma as SigmaFields}
 use Rattle.job_lines.specs.declared.Shot.{Shot as ShotFields}
 use Rattle.job_lines.specs.declared.Line.{Line}
-use Rattle.job_lines.specs.declared.Line.TheVariants.{Seeds, Sigma, Shot, NoForm}
+use Rattle.job_lines.specs.declared.Line.TheVariants.{Seeds, Sigma, Shot}
 
 -- A form is written with # for each name or number, and ends with the line feed.
 -- Line 1
@@ -71,7 +71,7 @@ Printable no_form = ⊥
 
 -- the seeds, the sigmas and the shot that a line says
 abbrev pub seeds_in : SeedsFields → Form
-seeds_in x = seeds x.a0 x.a1 x.a2 x.b0 x.b1 x.b2
+seeds_in x = seeds x.a.0 x.a.1 x.a.2 x.b.0 x.b.1 x.b.2
 
 abbrev pub sigma_in : SigmaFields → Form
 sigma_in x = sigma x.distance x.bearing
@@ -79,20 +79,24 @@ sigma_in x = sigma x.distance x.bearing
 abbrev pub shot_in : List ℕ → ShotFields → Form
 shot_in line x = shot (part_of line x.from) (part_of line x.to) x.distance x.bearing
 
--- what each case of the enum says of a line: the three kinds with their values, or no form
-abbrev pub said : List ℕ → Line → Form
-said line (Seeds s) = seeds_in s
-said line (Sigma s) = sigma_in s
-said line (Shot s) = shot_in line s
-said line NoForm = no_form
+-- what each case of the enum says of a line: the three kinds with their values
+abbrev pub line_says : List ℕ → Line → Form
+line_says line (Seeds s) = seeds_in s
+line_says line (Sigma s) = sigma_in s
+line_says line (Shot s) = shot_in line s
+
+-- and where there is none, no form
+abbrev pub said : List ℕ → Option Line → Form
+said line (Some x) = line_says line x
+said line None = no_form
 
 -- where the first and the second name of a shot's line stand in it
 abbrev pub name_place : List ℕ → ℕ → Place
 name_place line i = get_or (places_from 0 shot_form line) i no_place
 
 -- the case of the enum for what a line says
-unfoldable pub line_in : List ℕ → Form → Line
-line_in line (seeds a0 a1 a2 b0 b1 b2) = Seeds (record { a0 = a0; a1 = a1; a2 = a2; b0 = b0; b1 = b1; b2 = b2 })
-line_in line (sigma d b) = Sigma (record { distance = d; bearing = b })
-line_in line (shot from to d b) = Shot (record { from = name_place line 0; to = name_place line 1; distance = d; bearing = b })
-line_in line no_form = NoForm
+unfoldable pub line_in : List ℕ → Form → Option Line
+line_in line (seeds a0 a1 a2 b0 b1 b2) = Some (Seeds (record { a = (a0, a1, a2); b = (b0, b1, b2) }))
+line_in line (sigma d b) = Some (Sigma (record { distance = d; bearing = b }))
+line_in line (shot from to d b) = Some (Shot (record { from = name_place line 0; to = name_place line 1; distance = d; bearing = b }))
+line_in line no_form = None

@@ -6,11 +6,9 @@ use mathlib.Core.Bool.{Bool, true, false, cond, true≢false}
 use mathlib.Core.List.{List}
 use lib.Dec.{ltb, eqb}
 use borrow.Author.Tests.{ltb-false, eqb-true, not-false}
-use Rattle.streams.specs.Streams.{seed_of}
-use Rattle.job_lines.specs.Forms.{Form, seeds, sigma, shot, no_form, seeds_in}
-use Rattle.job_lines.specs.declared.Seeds.{Seeds as SeedsFields}
+use Rattle.job_lines.specs.Forms.{Form, seeds, sigma, shot, no_form}
 use Rattle.job_reader.specs.Limits.{last_line, most_sigma, most_distance, most_bearing}
-use Rattle.job_reader.specs.Refusals.{formless, misplaced, too_many, beyond, seed_code, refusal, seeds_answer}
+use Rattle.job_reader.specs.Refusals.{formless, misplaced, too_many, beyond, seed_code, refusal}
 use Rattle.job_reader.proofs.Refused.{or_false}
 
 -- an accepted line has none of the causes
@@ -55,8 +53,3 @@ unfolding beyond
 shot_within k from to d b h =
     let r = or_false (ltb most_distance d) (ltb most_bearing b) (accepted_line k (shot from to d b) h).ranged in
     (ltb-false most_distance d r.0, ltb-false most_bearing b r.1)
-
--- accepted seeds give what seeding answers
-pub seeds_seeded : (k : ℕ) (x : SeedsFields) → refusal k (seeds_in x) ≡ 0 → seeds_answer x ≡ seed_of x.a0 x.a1 x.a2 x.b0 x.b1 x.b2
-unfolding seeds_answer
-seeds_seeded k x h = rw (accepted_line k (seeds_in x) h).ranged

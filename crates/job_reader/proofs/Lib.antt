@@ -1,6 +1,6 @@
 pub mod Refused
 pub mod Accepted
-pub mod Walking
+pub mod Answered
 pub mod FirstBad
 pub mod Taking
 pub mod Going

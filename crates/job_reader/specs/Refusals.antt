@@ -1,12 +1,14 @@
 -- Why a line is refused (document 01, the table of causes, and "for a job 5, then the first bad line, within it 6, 8, 9, 7, 1;
 -- last 10"; document 02, Job 1, puts 11 and 12 where 1 stood).
-use Rattle.std.specs.Prelude.{ℕ, ◌+◌, Bool, true, false, cond, not, ◌||◌, List, [], ◌∷◌, ltb, eqb}
+use Rattle.std.specs.Prelude.{ℕ, ◌+◌, Bool, true, false, cond, not, ◌||◌, List, [], ◌∷◌, ltb, eqb, Result, Ok, Err}
 use Rattle.streams.specs.Streams.{seed_of}
 use Rattle.job_reader.specs.Limits.{last_line, most_seed, most_sigma, most_distance, most_bearing}
-use Rattle.job_lines.specs.Forms.{Form, seeds, sigma, shot, no_form, seeds_in, read_line}
-use Rattle.job_lines.specs.declared.Seeds.{Seeds as SeedsFields}
-use Rattle.streams.specs.declared.RecordAnswer.{RecordAnswer}
-use Rattle.job_reader.specs.declared.walk.BadLine.{BadLine}
+use Rattle.job_lines.specs.Forms.{Form, seeds, sigma, shot, no_form, read_line}
+use Rattle.job_reader.specs.declared.refusals.Cause.{Cause}
+use Rattle.job_reader.specs.declared.refusals.Cause.TheVariants.{NoForm, OutOfRange, WrongPlace, TooManyShots, FirstStream, SecondStream, NotFollowing}
+use Rattle.job_reader.specs.declared.refusals.BadLine.{BadLine}
+use Rattle.job_reader.specs.declared.refusals.Refusal.{Refusal}
+use Rattle.job_reader.specs.declared.refusals.Refusal.TheVariants.{JobTooLong, Line}
 
 -- "line is none of the three forms, or lacks its line feed"
 unfoldable pub formless : Form → Bool
@@ -48,13 +50,41 @@ seed_code no_form = 0
 unfoldable pub refusal : ℕ → Form → ℕ
 refusal k x = cond (formless x) 6 (cond (misplaced k x) 8 (cond (too_many k x) 9 (cond (beyond x) 7 (seed_code x))))
 
--- what seeds give: 7 and no record where one is beyond its range, else what seeding answers
-unfoldable pub seeds_answer : SeedsFields → RecordAnswer
-seeds_answer x =
-    cond (beyond (seeds_in x)) (record { code = 7; next = (seed_of 0 0 0 0 0 0).next }) (seed_of x.a0 x.a1 x.a2 x.b0 x.b1 x.b2)
+-- ---- The numbers of the causes
+
+abbrev pub number_of : Cause → ℕ
+number_of NoForm = 6
+number_of OutOfRange = 7
+number_of WrongPlace = 8
+number_of TooManyShots = 9
+number_of FirstStream = 11
+number_of SecondStream = 12
+number_of NotFollowing = 23
+
+-- "job over 60,000 bytes"; a line's cause
+abbrev pub code_of : Refusal → ℕ
+code_of JobTooLong = 5
+code_of (Line bad) = number_of bad.cause
+
+-- the line at fault, 0 where none is
+abbrev pub line_of : Refusal → ℕ
+line_of JobTooLong = 0
+line_of (Line bad) = bad.line
+
+-- ---- The first bad line
+
+-- a code and a line; 0 and 0 where no line is bad
+pub record Verdict : Type 0 where
+  pub code : ℕ
+  pub line : ℕ
+
+-- that of an answer
+abbrev pub verdict_in : {A : Type 0} → Result A BadLine → Verdict
+verdict_in (Ok x) = record { code = 0; line = 0 }
+verdict_in (Err bad) = record { code = number_of bad.cause; line = bad.line }
 
 -- "the first bad line", from line k on: its code and its number; "text ends before line 2 .. (missing: the next one)"; 0 and 0 where there is none
-unfoldable pub first_bad : ℕ → List (List ℕ) → BadLine
+unfoldable pub first_bad : ℕ → List (List ℕ) → Verdict
 first_bad k [] = cond (ltb k 3) (record { code = 8; line = k }) (record { code = 0; line = 0 })
 first_bad k (l ∷ ls) =
     cond (eqb (refusal k (read_line l)) 0) (first_bad (k + 1) ls) (record { code = refusal k (read_line l); line = k })

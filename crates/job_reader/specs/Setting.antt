@@ -1,12 +1,13 @@
 -- What a line of a job leaves for those after it (document 01, "A job and its listing").
-use Rattle.std.specs.Prelude.{ℕ, ◌+◌, ◌≤◌, cond, eqb, ltb}
+use Rattle.std.specs.Prelude.{ℕ, ◌+◌, ◌≡◌, ◌≤◌, List, Some, Result, MatchResult}
 use Rattle.streams.specs.Streams.{seed_of}
-use Rattle.job_lines.specs.Forms.{Form, seeds, sigma, shot, no_form}
+use Rattle.job_lines.specs.Forms.{Form, seeds, sigma, shot, no_form, read_line, line_says, line_in}
 use Rattle.job_reader.specs.Limits.{most_sigma}
-use Rattle.job_reader.specs.Refusals.{refusal}
+use Rattle.job_reader.specs.Refusals.{refusal, number_of}
 use Rattle.job_reader.specs.declared.walk.Setting.{Setting}
 use Rattle.job_reader.specs.declared.walk.Progress.{Progress}
-use Rattle.job_reader.specs.declared.walk.BadLine.{BadLine}
+use Rattle.job_reader.specs.declared.walk.Step.{Step}
+use Rattle.job_reader.specs.declared.refusals.BadLine.{BadLine}
 
 -- before line 1 there is no record and no sigma; no accepted job prints with these
 unfoldable pub start : Setting
@@ -22,21 +23,27 @@ setting_on no_form s = s
 
 -- Before line 1
 unfoldable pub begun : Progress
-begun = record { code = 0; line = 1; setting = start }
+begun = record { line = 1; setting = start }
 
--- A line that says x: accepted, its setting before its pair is drawn; refused, its code
-unfoldable pub progress_on : Form → Progress → Progress
-progress_on x p =
-    cond (eqb (refusal p.line x) 0)
-    (record { code = 0; line = p.line + 1; setting = setting_on x p.setting })
-    (record { code = refusal p.line x; line = p.line; setting = p.setting })
+-- after an accepted line that says x, before its pair is drawn
+abbrev pub progress_on : Form → Progress → Progress
+progress_on x p = record { line = p.line + 1; setting = setting_on x p.setting }
 
--- After the last line, or at the first that is refused: "text ends before line 2 .. (missing: the next one)"; 0 and 0 where no line is bad
-unfoldable pub verdict_of : Progress → BadLine
-verdict_of p =
-    cond (eqb p.code 0)
-    (cond (ltb p.line 3) (record { code = 8; line = p.line }) (record { code = 0; line = 0 }))
-    (record { code = p.code; line = p.line })
+-- line k that says x is refused
+pub record Refuses (k : ℕ) (x : Form) (bad : BadLine) : Type 0 where
+  pub cause : refusal k x ≡ number_of bad.cause
+  pub line : bad.line ≡ k
+
+-- a line is accepted: what it says, and the progress after it
+pub record Accepts (line : List ℕ) (p : Progress) (step : Step) : Type 0 where
+  pub accepted : refusal p.line (read_line line) ≡ 0
+  pub says : line_says line step.says ≡ read_line line
+  pub exact : Some step.says ≡ line_in line (read_line line)
+  pub next : step.next ≡ progress_on (read_line line) p
+
+-- one line more
+abbrev pub ReadsOn : List ℕ → Progress → Result Step BadLine → Type 0
+ReadsOn line p r = MatchResult r (λ step. Accepts line p step) (λ bad. Refuses p.line (read_line line) bad)
 
 -- sigmas within their range
 pub record Steady (distance bearing : ℕ) : Type 0 where

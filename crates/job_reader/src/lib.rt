@@ -4,7 +4,7 @@
 pub mod first_bad;
 pub mod limits;
 pub mod loops;
-mod refusals;
+pub mod refusals;
 mod seeds;
 mod shot;
 pub mod walk;

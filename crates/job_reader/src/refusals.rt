@@ -1,63 +1,82 @@
-// Why a line is refused (document 01, the table of causes): its refusal code.
-ghost use Rattle.std.specs.Prelude.{◌≡◌, []};
-ghost use Rattle.job_lines.specs.Forms.{seeds_in, sigma_in, shot_in, said};
-ghost use Rattle.job_reader.specs.Refusals.{refusal};
+// Why a job is refused (document 01, the table of causes).
+ghost use Rattle.std.specs.Prelude.{◌≡◌};
+ghost use Rattle.job_reader.specs.Refusals.{number_of, code_of, line_of};
+ghost use Rattle.job_reader.specs.declared.refusals.Refusal.TheVariants.{Line};
 
-use crate::limits::{LAST_LINE, MOST_BEARING, MOST_DISTANCE, MOST_SIGMA};
-use crate::seeds::seeds_answer;
-use job_lines::{Line, Seeds, Shot, Sigma};
-
-fn seeds_code(x: Seeds, line: u32) -> u32
-    ensures { result ≡ refusal line (seeds_in x) }
-{
-    if line != 1 {
-        return 8;
-    }
-    let answer = seeds_answer(x);
-    answer.code
+// Why a line is refused, under the documents' numbers.
+#[derive(Clone, Copy, PartialEq, Eq)]
+pub enum Cause {
+    // It says none of the three forms, or lacks its line feed.
+    NoForm = 6,
+    // A number is beyond its range.
+    OutOfRange = 7,
+    // Its form is in the wrong place, or the text ends before it.
+    WrongPlace = 8,
+    // It is the 501st shot.
+    TooManyShots = 9,
+    // A register of stream a is below its minimum.
+    FirstStream = 11,
+    // A register of stream b is below its minimum.
+    SecondStream = 12,
+    // Of a loop: its shot does not start where the one before it ended.
+    NotFollowing = 23,
 }
 
-fn sigma_code(x: Sigma, line: u32) -> u32
-    ensures { result ≡ refusal line (sigma_in x) }
-{
-    if line != 2 {
-        return 8;
+impl Cause {
+    // The number that names the cause.
+    // A method of each error enum, and no trait: no function takes two of them.
+    pub fn number(self) -> u32
+        ensures { result ≡ number_of self }
+    {
+        self as u32
     }
-    if MOST_SIGMA < x.distance {
-        return 7;
-    }
-    if MOST_SIGMA < x.bearing {
-        return 7;
-    }
-    0
 }
 
-fn shot_code(x: Shot, line: u32) -> u32
-    ensures { result ≡ refusal line (shot_in [] x) }
-{
-    if line < 3 {
-        return 8;
-    }
-    if LAST_LINE < line {
-        return 9;
-    }
-    if MOST_DISTANCE < x.distance {
-        return 7;
-    }
-    if MOST_BEARING < x.bearing {
-        return 7;
-    }
-    0
+// A line that is refused, and why.
+// Each reader has a struct of its own: survex counts its lines by usize, and a generic one would have to say the cause at each use.
+#[derive(Clone, Copy, PartialEq, Eq)]
+pub struct BadLine {
+    pub cause: Cause,
+    pub line: u32,
 }
 
-// The refusal code of a line by its number and what it says, 0 where it is accepted: no name in it matters.
-pub fn line_code(x: Line, line: u32) -> u32
-    ensures { result ≡ refusal line (said [] x) }
-{
-    match x {
-        Line::Seeds(seeds) => seeds_code(seeds, line),
-        Line::Sigma(sigma) => sigma_code(sigma, line),
-        Line::Shot(shot) => shot_code(shot, line),
-        Line::NoForm => 6,
+// Why a job is refused: by its length, or by a line.
+#[derive(Clone, Copy, PartialEq, Eq)]
+pub enum Refusal {
+    JobTooLong,
+    Line(BadLine),
+}
+
+impl Refusal {
+    // The refusal code.
+    pub fn code(self) -> u32
+        ensures { result ≡ code_of self }
+    {
+        match self {
+            Refusal::JobTooLong => 5,
+            Refusal::Line(bad) => {
+                let cause = bad.cause;
+                cause.number()
+            }
+        }
+    }
+
+    // The line at fault, 0 where none is.
+    // No Option: `line_of` of specs/Refusals.antt, which the `answer_in` of a loop, of a listing and of plays read, says 0.
+    pub fn line(self) -> u32
+        ensures { result ≡ line_of self }
+    {
+        match self {
+            Refusal::JobTooLong => 0,
+            Refusal::Line(bad) => bad.line,
+        }
+    }
+}
+
+impl From<BadLine> for Refusal {
+    ghost from_gives = { λ bad refusal. refusal ≡ Line bad };
+
+    fn from(bad: BadLine) -> Refusal {
+        Refusal::Line(bad)
     }
 }

@@ -1,65 +1,49 @@
-// What the seeds of a job's line 1 give.
-ghost use Rattle.std.specs.Prelude.{◌≡◌, false, ◌||◌, ltb};
-ghost use Rattle.streams.specs.Streams.{seed_of};
-ghost use Rattle.job_lines.specs.Forms.{seeds_in};
+// The record that the seeds of a job's line 1 give.
+ghost use Rattle.std.specs.Prelude.{◌≡◌, ◌≤◌, ◌<◌, MatchResult};
 ghost use Rattle.job_reader.specs.Limits.{most_seed};
-ghost use Rattle.job_reader.specs.Refusals.{beyond, seeds_answer};
+ghost use Rattle.job_reader.specs.declared.refusals.Cause.TheVariants.{OutOfRange};
+ghost use Rattle.job_reader.specs.Private.{Gives, ThreeWithin};
 
-use crate::limits::MOST_SEED;
+use crate::refusals::Cause;
 use job_lines::Seeds;
-use streams::{Generator, RecordAnswer};
+use streams::{Generator, Refusal, Stream};
 
-fn three_beyond(x: u64, y: u64, z: u64) -> bool
-    ensures { result ≡ ltb most_seed x || ltb most_seed y || ltb most_seed z }
+// A seed is a register of 32 bits.
+fn register(n: u64) -> Result<u32, Cause>
+    ensures { MatchResult result (λ r. (r ≡ n) × (n ≤ most_seed)) (λ e. (e ≡ OutOfRange) × (most_seed < n)) }
 {
-    if MOST_SEED < x {
-        return true;
-    }
-    if MOST_SEED < y {
-        return true;
-    }
-    MOST_SEED < z
+    u32::try_from(n).map_err(|_e| Cause::OutOfRange)
 }
 
-fn seeds_beyond(x: Seeds) -> bool
-    ensures { result ≡ beyond (seeds_in x) }
+// The three of a stream.
+fn registers(s: (u64, u64, u64)) -> Result<Stream, Cause>
+    ensures { ThreeWithin s.0 s.1 s.2 result }
 {
-    if three_beyond(x.a0, x.a1, x.a2) {
-        return true;
+    Ok(Stream {
+        s0: register(s.0)?,
+        s1: register(s.1)?,
+        s2: register(s.2)?,
+    })
+}
+
+// Seeding, where all are within their range.
+pub fn seeded(x: Seeds) -> Result<Generator, Cause>
+    ensures { Gives x result }
+{
+    let a = registers(x.a)?;
+    let b = registers(x.b)?;
+    let generator = Generator {
+        a,
+        b,
+        count: 0,
+        waiting: 0,
+        asked: 0,
+    };
+    let Err(refusal) = generator.check_streams() else {
+        return Ok(generator);
+    };
+    match refusal {
+        Refusal::FirstStream => Err(Cause::FirstStream),
+        _ => Err(Cause::SecondStream),
     }
-    three_beyond(x.b0, x.b1, x.b2)
-}
-
-// Seeding with seeds within their range.
-fn seeded(x: Seeds) -> RecordAnswer
-    requires { beyond (seeds_in x) ≡ false }
-    ensures { result ≡ seed_of x.a0 x.a1 x.a2 x.b0 x.b1 x.b2 }
-{
-    Generator::seed(
-        x.a0 as u32,
-        x.a1 as u32,
-        x.a2 as u32,
-        x.b0 as u32,
-        x.b1 as u32,
-        x.b2 as u32,
-    )
-}
-
-// No record: that of seeds which seeding refuses.
-fn beyond_range() -> RecordAnswer
-    ensures { result ≡ record { code = 7; next = (seed_of 0 0 0 0 0 0).next } }
-{
-    let unseeded = Generator::seed(0, 0, 0, 0, 0, 0);
-    let next = unseeded.next;
-    RecordAnswer { code: 7, next }
-}
-
-// 7 where a seed is beyond its range, else what seeding answers.
-pub fn seeds_answer(x: Seeds) -> RecordAnswer
-    ensures { result ≡ seeds_answer x }
-{
-    if seeds_beyond(x) {
-        return beyond_range();
-    }
-    seeded(x)
 }

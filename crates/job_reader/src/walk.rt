@@ -1,16 +1,19 @@
-// The walk through a job's lines (document 01, "A job and its listing"): for each line its refusal code, what it says, and the setting after it. Checking,
-// listing and playing are what their loops do with it.
-ghost use Rattle.std.specs.Prelude.{ℕ, ◌≡◌, []};
-ghost use Rattle.job_lines.specs.Forms.{seeds_in, sigma_in, said, read_line, line_in};
-ghost use Rattle.job_reader.specs.Refusals.{refusal};
-ghost use Rattle.job_reader.specs.Setting.{start, setting_on, begun, progress_on, verdict_of};
+// The walk through a job's lines (document 01, "A job and its listing"): each line is refused with its cause, or says what it says and leaves the setting
+// after it. Checking, listing and playing are what their loops do with it.
+ghost use Rattle.std.specs.Prelude.{◌+◌, ◌≡◌, [], List, ℕ, IfOk};
+ghost use Rattle.job_lines.specs.Forms.{seeds_in, sigma_in, shot_in, line_says};
+ghost use Rattle.job_reader.specs.Refusals.{first_bad, verdict_in};
+ghost use Rattle.job_reader.specs.Setting.{start, begun, ReadsOn};
+ghost use Rattle.job_reader.specs.Private.{SetBy};
 
-use crate::refusals::line_code;
-use crate::seeds::seeds_answer;
-use job_lines::{Line, Seeds, Sigma, read_line};
+use crate::limits::{LAST_LINE, MOST_BEARING, MOST_DISTANCE, MOST_SIGMA};
+use crate::refusals::{BadLine, Cause};
+use crate::seeds::seeded;
+use job_lines::{Line, Seeds, Shot, Sigma, read_line};
 use streams::Generator;
 
 // The generator record and the sigmas.
+// No struct of the two sigmas: `start` and `setting_on` of specs/Setting.antt build the setting by these members.
 #[derive(Clone, Copy)]
 pub struct Setting {
     pub generator: Generator,
@@ -18,26 +21,18 @@ pub struct Setting {
     pub bearing: u32,
 }
 
-// A job half read: the refusal code of a line, 0 while all are accepted; the number of the next line, or of that one; and the setting.
+// A job read so far, every line of it accepted: the number of the next line, and the setting before it.
 #[derive(Clone, Copy)]
 pub struct Progress {
-    pub code: u32,
     pub line: u32,
     pub setting: Setting,
 }
 
-// One line more: what it says, and the progress after it.
+// An accepted line: what it says, and the progress after it.
 #[derive(Clone, Copy)]
 pub struct Step {
     pub says: Line,
     pub next: Progress,
-}
-
-// The refusal code and the number of a line; 0 and 0 where no line is bad.
-#[derive(Clone, Copy)]
-pub struct BadLine {
-    pub code: u32,
-    pub line: u32,
 }
 
 // Before line 1.
@@ -53,41 +48,67 @@ pub fn first_setting() -> Setting
     }
 }
 
-fn on_seeds(x: Seeds, s: Setting) -> Setting
-    requires { (k : ℕ) × (refusal k (seeds_in x) ≡ 0) }
-    ensures { result ≡ setting_on (seeds_in x) s }
+fn on_seeds(x: Seeds, p: Progress) -> Result<Setting, Cause>
+    ensures { SetBy (seeds_in x) p.line p.setting result }
 {
-    let answer = seeds_answer(x);
-    let generator = answer.next;
-    Setting {
-        generator,
-        distance: s.distance,
-        bearing: s.bearing,
+    if p.line != 1 {
+        return Err(Cause::WrongPlace);
     }
+    let generator = seeded(x)?;
+    let setting = p.setting;
+    Ok(Setting {
+        generator,
+        ..setting
+    })
 }
 
-fn on_sigma(x: Sigma, s: Setting) -> Setting
-    requires { (k : ℕ) × (refusal k (sigma_in x) ≡ 0) }
-    ensures { result ≡ setting_on (sigma_in x) s }
+fn on_sigma(x: Sigma, p: Progress) -> Result<Setting, Cause>
+    ensures { SetBy (sigma_in x) p.line p.setting result }
 {
-    let generator = s.generator;
-    Setting {
-        generator,
+    if p.line != 2 {
+        return Err(Cause::WrongPlace);
+    }
+    if MOST_SIGMA < x.distance {
+        return Err(Cause::OutOfRange);
+    }
+    if MOST_SIGMA < x.bearing {
+        return Err(Cause::OutOfRange);
+    }
+    let setting = p.setting;
+    Ok(Setting {
         distance: x.distance as u32,
         bearing: x.bearing as u32,
-    }
+        ..setting
+    })
 }
 
-// A line that is accepted in its place.
-fn setting_on(x: Line, s: Setting) -> Setting
-    requires { (k : ℕ) × (refusal k (said [] x) ≡ 0) }
-    ensures { result ≡ setting_on (said [] x) s }
+// A shot's pair is not drawn yet.
+fn on_shot(x: Shot, p: Progress) -> Result<Setting, Cause>
+    ensures { (text : List ℕ) → SetBy (shot_in text x) p.line p.setting result }
+{
+    if p.line < 3 {
+        return Err(Cause::WrongPlace);
+    }
+    if LAST_LINE < p.line {
+        return Err(Cause::TooManyShots);
+    }
+    if MOST_DISTANCE < x.distance {
+        return Err(Cause::OutOfRange);
+    }
+    if MOST_BEARING < x.bearing {
+        return Err(Cause::OutOfRange);
+    }
+    Ok(p.setting)
+}
+
+// The setting after the next line: no name in it matters.
+fn setting_after(x: Line, p: Progress) -> Result<Setting, Cause>
+    ensures { (text : List ℕ) → SetBy (line_says text x) p.line p.setting result }
 {
     match x {
-        Line::Seeds(seeds) => on_seeds(seeds, s),
-        Line::Sigma(sigma) => on_sigma(sigma, s),
-        Line::Shot(shot) => s,
-        Line::NoForm => s,
+        Line::Seeds(seeds) => on_seeds(seeds, p),
+        Line::Sigma(sigma) => on_sigma(sigma, p),
+        Line::Shot(shot) => on_shot(shot, p),
     }
 }
 
@@ -96,58 +117,43 @@ pub fn first_progress() -> Progress
     ensures { result ≡ begun }
 {
     let setting = first_setting();
-    Progress {
-        code: 0,
-        line: 1,
-        setting,
-    }
+    Progress { line: 1, setting }
 }
 
-// One line: whether it is accepted in its place, what it says, and what it sets. A shot's pair is not drawn yet.
-pub fn read_on(line: &[u8], p: Progress) -> Step
-    ensures progress { result.next ≡ progress_on (read_line line.now) p }
-    ensures says { said line.now result.says ≡ read_line line.now }
-    ensures exact { result.says ≡ line_in line.now (read_line line.now) }
+// One line: whether it is accepted in its place, what it says, and what it sets.
+pub fn read_on(line: &[u8], p: Progress) -> Result<Step, BadLine>
+    ensures { ReadsOn line.now p result }
 {
-    let says = read_line(line);
-    let code = line_code(says, p.line);
-    let setting = p.setting;
-    if code != 0 {
-        return Step {
-            says,
-            next: Progress {
-                code,
-                line: p.line,
-                setting,
-            },
-        };
-    }
-    let after = setting_on(says, setting);
-    Step {
+    let number = p.line;
+    let says = read_line(line).ok_or(BadLine {
+        cause: Cause::NoForm,
+        line: number,
+    })?;
+    let setting = setting_after(says, p).map_err(|cause| BadLine {
+        cause,
+        line: number,
+    })?;
+    Ok(Step {
         says,
         next: Progress {
-            code,
-            line: p.line + 1,
-            setting: after,
+            line: number + 1,
+            setting,
         },
-    }
+    })
 }
 
-// After the last line, or at the first that is refused; a text that ends before line 2 lacks its next line.
-pub fn verdict(p: Progress) -> BadLine
-    ensures { result ≡ verdict_of p }
-{
-    if p.code != 0 {
-        return BadLine {
-            code: p.code,
-            line: p.line,
-        };
+impl Progress {
+    // After the last line, the number of shots; a text that ends before line 2 lacks its next line.
+    pub fn finish(self) -> Result<u32, BadLine>
+        ensures verdict { verdict_in result ≡ first_bad self.line [] }
+        ensures count { IfOk result (λ n. n + 3 ≡ self.line) }
+    {
+        if self.line < 3 {
+            return Err(BadLine {
+                cause: Cause::WrongPlace,
+                line: self.line,
+            });
+        }
+        Ok(self.line - 3)
     }
-    if p.line < 3 {
-        return BadLine {
-            code: 8,
-            line: p.line,
-        };
-    }
-    BadLine { code: 0, line: 0 }
 }

@@ -1,18 +1,20 @@
 -- From the fields of a line to what it says.
-use Prim.Native.Nat.{ℕ, ◌+◌, ◌≤◌, ◌<◌}
+use Prim.Native.Nat.{ℕ, ◌+◌, ◌≤◌}
 use native.Mathlib.Omega.{arith}
-use mathlib.Core.Path.{◌≡◌, refl, sym, ap, ◌∙◌}
+use mathlib.Core.Path.{◌≡◌, refl, sym, ◌∙◌}
 use mathlib.Core.Bool.{Bool, true, false, cond, ◌&&◌}
-use mathlib.Core.List.{List}
+use mathlib.Core.List.{List, [], ◌∷◌}
 use mathlib.Core.Option.{some, none}
-use lib.ListN.{take}
-use Rattle.text.specs.Fields.{name, digit_string, value}
-use Rattle.text.specs.Forms.{read_form, read_few, marks, fields_at, found_in, field_at}
-use Rattle.text.specs.declared.form.Found.{Found}
-use Rattle.text.proofs.Steps.{few_some}
-use Rattle.text.proofs.FoundFields.{part_at, field_place}
+use lib.ListN.{get_or}
+use Rattle.std.proofs.Common.{Option, Some, None}
+use Rattle.text.specs.Fields.{name, digit_string, value, Spells, SpellThree}
+use Rattle.text.specs.Forms.{read_form, read_exactly, or_else, marks, fields_at, found_in, no_place}
+use Rattle.text.specs.declared.field.Place.{Place}
+use Rattle.text.proofs.FoundFields.{part_at, field_place, found, missed}
+use Rattle.text.proofs.Readings.{there, not_there}
+use Rattle.listing_rows.specs.Private.{of_two, RowAt}
 use Rattle.listing_rows.specs.Rows.{header, header_of, row_form, end_form}
-use Rattle.listing_rows.specs.Entries.{is_some, is_header, high_at, leg, last, neither, leg_of, end_of, read_entry}
+use Rattle.listing_rows.specs.Entries.{high_at, leg, last, neither, leg_of, end_of, read_entry}
 
 -- the fields of each form
 pub header_marks : (b : Bool) → 0 ≡ marks (header_of b)
@@ -51,38 +53,93 @@ module _ (b : Bool) (l : List ℕ) where
   unfolding read_entry
   read_neither p e = rw (p, e, read_entry)
 
--- a shot, by the places of its fields
-pub leg_at_lem : (line : List ℕ) (c : Found) (b : Bool) → leg_of (high_at b) (fields_at line (take (high_at b + 2) c.places))
-    ≡ cond (name (part_at line c 0) && name (part_at line c 1) && (digit_string (part_at line c 2) && digit_string (part_at line c (high_at b)) && digit_string (part_at line c (high_at b + 1))))
-    (leg (part_at line c 0) (part_at line c 1) (value 0 (part_at line c 2)) (value 0 (part_at line c (high_at b))) (value 0 (part_at line c (high_at b + 1))))
-    neither
-unfolding leg_of
-leg_at_lem line c b =
-    let place : (i : ℕ) → i < high_at b + 2 → field_at (fields_at line (take (high_at b + 2) c.places)) i ≡ part_at line c i = λ i h. field_place line c (high_at b + 2) i h in
-    rw (
-      place 0 (omega arith),
-      place 1 (omega arith),
-      place 2 (omega (arith, high_range b)),
-      place (high_at b) (omega arith),
-      place (high_at b + 1) (omega arith),
-    )
+-- a shot by the fields of its row, as of one with two readings
+of_two_lem : (b : Bool) (v : List (List ℕ)) → leg_of (high_at b) v ≡ leg_of 3 (of_two b v)
+unfolding leg_of high_at
+of_two_lem true v = refl
+of_two_lem false v = refl
 
--- the count of the last row, by its place
-pub end_at : (line : List ℕ) (c : Found)
-    → end_of (fields_at line (take 1 c.places)) ≡ cond (digit_string (part_at line c 0)) (last (value 0 (part_at line c 0))) neither
-unfolding end_of
-end_at line c = rw (field_place line c 1 0 (omega arith))
+-- a line by where the fields of a row stand in it
+module _ (b : Bool) (line : List ℕ) (r : Option (List Place)) (h : RowAt b line r) where
+  pub row_is : (places : List Place) → r ≡ Some places → read_entry b line ≡ leg_of 3 (fields_at line places)
+  row_is places e =
+      let (v, p, q) = rw e at h in
+      read_row b line v p ∙ of_two_lem b v ∙ rw q
 
-found_some : (form line : List ℕ) (c : Found) → is_some (found_in form line c) ≡ c.ok
-unfolding found_in is_some
-found_some form line c = go c.ok
-  where
-    go : (b : Bool) → is_some (cond b (some (fields_at line (take (marks form) c.places))) none) ≡ b
-    go true = refl
-    go false = refl
+  pub row_other : r ≡ None → read_entry b line ≡ or_else (read_form end_form line) end_of neither
+  unfolding read_entry
+  row_other e =
+      let p : read_form (row_form b) line ≡ none = rw e at h in
+      rw (p, read_entry)
 
--- a line is the header just where the form without fields fits it
-pub header_found : (b : Bool) (line : List ℕ) (c : Found) → read_few (header_of b) line ≡ found_in (header_of b) line c → c.ok ≡ is_header b line
-unfolding is_header
-header_found b line c e =
-    sym (ap is_some (sym (few_some (header_of b) line (omega (arith, header_marks b))) ∙ e) ∙ found_some (header_of b) line c)
+module _ (line : List ℕ) (places : List Place) where
+  abbrev p : ℕ → List ℕ
+  p i = part_at line places i
+
+  -- a shot, by the places of its fields
+  leg_at_lem : leg_of 3 (fields_at line places)
+      ≡ cond (name (p 0) && name (p 1) && (digit_string (p 2) && digit_string (p 3) && digit_string (p 4)))
+      (leg (p 0) (p 1) (value 0 (p 2)) (value 0 (p 3)) (value 0 (p 4)))
+      neither
+  unfolding leg_of
+  leg_at_lem = rw (
+    field_place line places 0,
+    field_place line places 1,
+    field_place line places 2,
+    field_place line places 3,
+    field_place line places 4,
+  )
+
+  pub leg_unnamed : false ≡ name (p 0) → neither ≡ leg_of 3 (fields_at line places)
+  leg_unnamed e = rw (leg_at_lem, ← e)
+
+  module _ (m : true ≡ name (p 0)) where
+    pub leg_nowhere : false ≡ name (p 1) → neither ≡ leg_of 3 (fields_at line places)
+    leg_nowhere e = rw (leg_at_lem, ← m, ← e)
+
+    module _ (n : true ≡ name (p 1)) (r : Option (ℕ × ℕ × ℕ)) (s : SpellThree (p 2) (p 3) (p 4) r) where
+      pub leg_unmeasured : r ≡ None → neither ≡ leg_of 3 (fields_at line places)
+      leg_unmeasured e = rw (leg_at_lem, ← m, ← n, not_there _ _ r s e)
+
+      pub leg_whole : (x : ℕ × ℕ × ℕ) → r ≡ Some x → leg (p 0) (p 1) x.0 x.1 x.2 ≡ leg_of 3 (fields_at line places)
+      leg_whole x e = let (t, u) = there _ _ r x s e in rw (leg_at_lem, ← m, ← n, t, u)
+
+  -- the count of the last row, by its place
+  end_at : end_of (fields_at line places) ≡ cond (digit_string (p 0)) (last (value 0 (p 0))) neither
+  unfolding end_of
+  end_at = rw (field_place line places 0)
+
+-- the last row, or a line that is none
+module _ (line : List ℕ) (r : Option (List Place)) (e : read_exactly 1 end_form line ≡ found_in line r) where
+  pub end_not : r ≡ None → neither ≡ or_else (read_form end_form line) end_of neither
+  end_not k = rw (missed end_form line 1 r e (sym end_marks) k)
+
+  module _ (places : List Place) (k : r ≡ Some places) (d : Option ℕ) (s : Spells (digit_string (part_at line places 0)) (part_at line places 0) d) where
+    end_here : or_else (read_form end_form line) end_of neither ≡ end_of (fields_at line places)
+    end_here = rw (found end_form line 1 r e (sym end_marks) places k)
+
+    pub end_uncounted : d ≡ None → neither ≡ or_else (read_form end_form line) end_of neither
+    end_uncounted f = rw (end_here, end_at line places, not_there _ _ d s f)
+
+    pub end_counted : (n : ℕ) → d ≡ Some n → last n ≡ or_else (read_form end_form line) end_of neither
+    end_counted n f = let (t, u) = there _ _ d n s f in rw (end_here, end_at line places, t, u)
+
+-- where the fields of a row stand, by what the reader of forms found
+pub row_of_two : (line : List ℕ) (r : Option (List Place)) → read_exactly 5 (row_form true) line ≡ found_in line r → RowAt true line r
+unfolding high_at
+row_of_two line None e = missed (row_form true) line 5 None e (sym (row_marks true)) refl
+row_of_two line (Some places) e = (fields_at line places, found (row_form true) line 5 (Some places) e (sym (row_marks true)) places refl, refl)
+
+module _ (line : List ℕ) (r : Option (List Place)) (e : read_exactly 4 (row_form false) line ≡ found_in line r) where
+  pub row_of_none : r ≡ None → RowAt false line None
+  unfolding high_at
+  row_of_none k = missed (row_form false) line 4 r e (sym (row_marks false)) k
+
+  pub row_of_one : (places : List Place) → r ≡ Some places
+      → RowAt false line (Some (get_or places 0 no_place ∷ get_or places 1 no_place ∷ get_or places 2 no_place ∷ get_or places 2 no_place ∷ get_or places 3 no_place ∷ []))
+  unfolding high_at
+  row_of_one places k = (
+    fields_at line places,
+    found (row_form false) line 4 r e (sym (row_marks false)) places k,
+    sym (rw (field_place line places 0, field_place line places 1, field_place line places 2, field_place line places 3)),
+  )

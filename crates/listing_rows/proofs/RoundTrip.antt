@@ -21,6 +21,8 @@ use Rattle.text.proofs.Tests.{Tests, test, ◌and◌, holds, Each, each}
 use Rattle.text.proofs.TypedFields.{Field, named, counted, all_shown, Named, all_plain_lem, read_back, a_name, a_number, printed_back}
 use Rattle.listing_rows.specs.Rows.{header, shot_row, end_row, header_of, row_form, end_form, row_of}
 use Rattle.listing_rows.specs.Entries.{is_some, is_header, high_at, Said, leg, last, neither, leg_of, end_of, read_entry}
+use Rattle.std.specs.Str.{bytes_eq}
+use Rattle.text.proofs.SameBytes.{unmarked_read}
 use Rattle.listing_rows.proofs.Reading.{header_marks, row_marks, end_marks, read_row, read_end, read_neither}
 
 row_formed : (b : Bool) → (formed (row_form b) ≡ true) × (feed_form (row_form b) ≡ true)
@@ -152,6 +154,15 @@ header_is b l h = go (read_form (header_of b) l) refl h
     go none e h = absurd (false≢true h)
     go (some []) e h = sym (printed_read (header_of b) l [] e) ∙ printed_header b
     go (some (v ∷ vs)) e h = absurd (omega (arith, read_count (header_of b) l (v ∷ vs) e, header_marks b))
+
+-- a line is the header just where it is the same bytes
+pub header_same : (b : Bool) (l h : List ℕ) → h ≡ header_of b → bytes_eq l h ≡ is_header b l
+unfolding is_header is_some
+header_same b l h e = rw (e, unmarked_read (header_of b) l (header_marks b)) (go (bytes_eq l (header_of b)))
+  where
+    go : (t : Bool) → t ≡ is_some (cond t (some []) none)
+    go true = refl
+    go false = refl
 
 -- ---- what is read is what is printed
 

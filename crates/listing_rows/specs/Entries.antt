@@ -1,11 +1,19 @@
 -- The lines of a listing as they are read (document 02, Job 13: "Names and numbers have a job's form").
 use Rattle.std.specs.Prelude.{ℕ, ◌+◌, Bool, true, false, cond, ◌&&◌, List}
+use Rattle.std.specs.Prelude.{Option as Found, Some, None}
 use Rattle.std.proofs.Math.Option.{Option, some, none}
 use Rattle.text.specs.Fields.{name, part_of}
 use Rattle.text.specs.Forms.{read_form, or_else, field_at, digit_string_at, value_at}
 use Rattle.listing_rows.specs.Rows.{header_of, row_form, end_form}
+use Rattle.listing_rows.specs.declared.read.Kind.{Kind}
+use Rattle.listing_rows.specs.declared.read.Kind.TheVariants.{OneDistance, TwoReadings}
 use Rattle.listing_rows.specs.declared.read.Entry.{Entry}
-use Rattle.listing_rows.specs.declared.read.Entry.TheVariants.{Shot, End, NoEntry}
+use Rattle.listing_rows.specs.declared.read.Entry.TheVariants.{Shot, End}
+
+-- the kind of a listing as the definitions have it: whether its distances lie between two readings
+abbrev pub two_readings : Kind → Bool
+two_readings OneDistance = false
+two_readings TwoReadings = true
 
 unfoldable pub is_some : Option (List (List ℕ)) → Bool
 is_some (some fields) = true
@@ -40,7 +48,7 @@ unfoldable pub read_entry : Bool → List ℕ → Said
 read_entry between line = or_else (read_form (row_form between) line) (leg_of (high_at between)) (or_else (read_form end_form line) end_of neither)
 
 -- what each case of the enum says of a line
-abbrev pub tells : List ℕ → Entry → Said
-tells line (Shot s) = leg (part_of line s.from) (part_of line s.to) s.low s.high s.step
-tells line (End count) = last count
-tells line NoEntry = neither
+abbrev pub tells : List ℕ → Found Entry → Said
+tells line (Some (Shot s)) = leg (part_of line s.from) (part_of line s.to) s.low s.high s.step
+tells line (Some (End count)) = last count
+tells line None = neither

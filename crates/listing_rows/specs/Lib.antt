@@ -1,3 +1,4 @@
+pub mod Private
 pub mod Rows
 pub mod Entries
 pub mod RowReadings

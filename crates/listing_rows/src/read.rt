@@ -1,14 +1,24 @@
-// What a line of a listing says: a shot, or the end with its count (document 01, "A job and its listing"; document 02, Jobs 13 and 14). `between`
-// tells the kind of the listing: whether distances lie between two readings.
-ghost use Rattle.std.specs.Prelude.{◌≡◌, ◌+◌, take};
-ghost use Rattle.text.specs.Forms.{fields_at, read_few, found_in};
-ghost use Rattle.listing_rows.specs.Rows.{row_form};
-ghost use Rattle.listing_rows.specs.Entries.{is_header, high_at, leg_of, end_of, read_entry, tells};
+// What a line of a listing says: a shot, or the end with its count (document 01, "A job and its listing"; document 02, Jobs 13 and 14).
+ghost use Rattle.std.specs.Prelude.{◌≡◌};
+ghost use Rattle.text.specs.Forms.{fields_at, read_form, or_else};
+ghost use Rattle.listing_rows.specs.Rows.{end_form};
+ghost use Rattle.listing_rows.specs.Entries.{two_readings, neither, is_header, leg_of, end_of, read_entry, tells};
+ghost use Rattle.listing_rows.specs.Private.{RowAt};
 
 use text::field::{Place, digit_string_at, name_at, three_at};
-use text::form::{Found, read_form};
+use text::form::read_form;
 
-// A shot: where its names stand in the line, its shortest and its longest distance in mm, and its bearing in steps.
+// What the distances of a listing are.
+#[derive(Clone, Copy)]
+pub enum Kind {
+    // One a shot.
+    OneDistance,
+    // The two readings that each lies between.
+    TwoReadings,
+}
+
+// A shot: where its names stand in the line, its shortest and its longest distance in mm, and its bearing in steps. By place and no slice: `tells` of
+// specs/Entries.antt reads the names in the line.
 #[derive(Clone, Copy)]
 pub struct Span {
     pub from: Place,
@@ -18,96 +28,73 @@ pub struct Span {
     pub step: u64,
 }
 
-// A line once read: a shot, the end with its count, or neither.
+// A line once read: a shot, or the end with its count.
 #[derive(Clone, Copy)]
 pub enum Entry {
     Shot(Span),
     End(u64),
-    NoEntry,
 }
 
 // Whether a line is the header of a kind.
-pub fn is_header(line: &[u8], between: bool) -> bool
-    ensures { result ≡ is_header between line.now }
+pub fn is_header(line: &[u8], kind: Kind) -> bool
+    ensures { result ≡ is_header (two_readings kind) line.now }
 {
-    if between {
-        let header = read_form(b"FROM TO LOW HIGH STEP\n", line);
-        return header.ok;
+    match kind {
+        Kind::OneDistance => line == b"FROM TO MM STEP\n".as_slice(),
+        Kind::TwoReadings => line == b"FROM TO LOW HIGH STEP\n".as_slice(),
     }
-    let header = read_form(b"FROM TO MM STEP\n", line);
-    header.ok
 }
 
-// The fields of a shot's row.
-fn row_fields(line: &[u8], between: bool) -> Found
-    ensures { read_few (row_form between) line.now ≡ found_in (row_form between) line.now result }
+// Where the names, the shortest and the longest distance and the bearing of a shot's row stand; one distance is both.
+fn row_places(line: &[u8], kind: Kind) -> Option<[Place; 5]>
+    ensures { RowAt (two_readings kind) line.now result }
 {
-    if between {
-        return read_form(b"# # # # #\n", line);
+    match kind {
+        Kind::OneDistance => {
+            let places: [Place; 4] = read_form(b"# # # #\n", line)?;
+            Some([places[0], places[1], places[2], places[2], places[3]])
+        }
+        Kind::TwoReadings => read_form(b"# # # # #\n", line),
     }
-    read_form(b"# # # #\n", line)
 }
 
-// The field of the longest distance.
-fn high_at(between: bool) -> usize
-    ensures { result ≡ high_at between }
+// The shot that five fields give.
+fn shot_entry(line: &[u8], places: [Place; 5]) -> Option<Entry>
+    ensures { tells line.now result ≡ leg_of 3 (fields_at line.now places) }
 {
-    if between {
-        return 3;
-    }
-    2
-}
-
-// The shot that the fields of a row give.
-fn shot_entry(line: &[u8], c: Found, between: bool) -> Entry
-    ensures { tells line.now result ≡ leg_of (high_at between) (fields_at line.now (take (high_at between + 2) c.places)) }
-{
-    let high = high_at(between);
-    let places = c.places;
     let from = places[0];
     let to = places[1];
     if !name_at(line, from) {
-        return Entry::NoEntry;
+        return None;
     }
     if !name_at(line, to) {
-        return Entry::NoEntry;
+        return None;
     }
-    let n = three_at(line, places[2], places[high], places[high + 1]);
-    if !n.ok {
-        return Entry::NoEntry;
-    }
-    Entry::Shot(Span {
+    let n = three_at(line, places[2], places[3], places[4])?;
+    Some(Entry::Shot(Span {
         from,
         to,
-        low: n.first,
-        high: n.second,
-        step: n.third,
-    })
+        low: n.0,
+        high: n.1,
+        step: n.2,
+    }))
 }
 
-// The end, with the count that its field gives.
-fn end_entry(line: &[u8], c: Found) -> Entry
-    ensures { tells line.now result ≡ end_of (fields_at line.now (take 1 c.places)) }
+// The end, with its count.
+fn end_entry(line: &[u8]) -> Option<Entry>
+    ensures { tells line.now result ≡ or_else (read_form end_form line.now) end_of neither }
 {
-    let places = c.places;
-    let count = digit_string_at(line, places[0]);
-    if !count.ok {
-        return Entry::NoEntry;
-    }
-    Entry::End(count.value)
+    let places: [Place; 1] = read_form(b"END #\n", line)?;
+    let count = digit_string_at(line, places[0])?;
+    Some(Entry::End(count))
 }
 
-// What a line after the header, with its line feed, says.
-pub fn read_entry(line: &[u8], between: bool) -> Entry
-    ensures { tells line.now result ≡ read_entry between line.now }
+// What a line after the header, with its line feed, says; nothing where it is neither.
+pub fn read_entry(line: &[u8], kind: Kind) -> Option<Entry>
+    ensures { tells line.now result ≡ read_entry (two_readings kind) line.now }
 {
-    let row = row_fields(line, between);
-    if row.ok {
-        return shot_entry(line, row, between);
+    if let Some(places) = row_places(line, kind) {
+        return shot_entry(line, places);
     }
-    let last = read_form(b"END #\n", line);
-    if last.ok {
-        return end_entry(line, last);
-    }
-    Entry::NoEntry
+    end_entry(line)
 }

@@ -14,7 +14,7 @@ fn past(n: u64) -> u32
     0xffffffff
 }
 
-// The entries of B, from 0 on.
+// The entries of B, from 0 on, a match as in log_coarse_lookup.
 fn nth(n: u64) -> u32
     ensures { result ≡ get_or log_fine_list n 0xffffffff }
 {

@@ -1,18 +1,23 @@
 -- A label has one name and no other.
 use mathlib.Core.Path.{◌≡◌, refl, sym, ◌∙◌}
-use mathlib.Core.Bool.{Bool, true, false, and-eq-true_iff}
+use mathlib.Core.Bool.{Bool, true, false, ◌&&◌, and-eq-true_iff}
 use mathlib.Core.List.{List, ◌++◌}
-use Prim.Native.Nat.{ℕ, ◌+◌, ◌≤◌}
+use Prim.Native.Nat.{ℕ, ◌+◌, ◌≤◌, ◌<◌}
 use native.Mathlib.Omega.{arith}
 use native.Mathlib.Nat.{min-eq_left, zero-add}
 use lib.Dec.{leb}
-use lib.ListN.{length, drop, replicate}
+use lib.ListN.{length, take, drop, replicate}
 use lib.Seq.{sets, sets-eq, take-append_seam}
-use borrow.Author.Tests.{le-leb, leb-true}
+use borrow.Author.Tests.{le-leb, lt-leb, leb-true}
 use Rattle.text.specs.Limits.{name_length}
 use Rattle.text.specs.Buffer.{written}
 use Rattle.marks.specs.declared.label.Label.{Label}
-use Rattle.text.proofs.SameBytes.{same_refl, same_bytes}
+use Rattle.text.specs.Fields.{same}
+use Rattle.text.proofs.SameBytes.{same_refl, same_bytes, same_is}
+use Rattle.std.specs.Prelude.{Option, Some, None, MatchOption}
+use Rattle.std.specs.Option.{option_eq}
+use Rattle.std.specs.Str.{bytes_eq}
+use denote.Ref.{Bor}
 use Rattle.marks.specs.Marks.{has_name, label_of}
 use Rattle.marks.specs.Refusals.{Has}
 
@@ -20,6 +25,13 @@ use Rattle.marks.specs.Refusals.{Has}
 pub not_passed : (t : Bool) → (t ≡ true → ⊥) → t ≡ false
 not_passed true h = absurd (h refl)
 not_passed false h = refl
+
+-- the name of a label, compared with another
+pub own_same : (label : Label) (own : Option (Bor (List ℕ))) (bytes : Bor (List ℕ))
+    → MatchOption own (name_length < label.length) (λ own. (label.length ≤ name_length) × (own.now ≡ take label.length label.bytes)) → {b : Bool}
+    → b ≡ option_eq (λ (x y : Bor (List ℕ)). bytes_eq x.now y.now) own (Some bytes) → b ≡ (leb label.length name_length && same (take label.length label.bytes) bytes.now)
+own_same label (Some own) bytes (short, is) e = rw (le-leb _ 12 short) (e ∙ rw is (same_is _ _))
+own_same label None bytes long e = rw (lt-leb _ 12 long) e
 
 -- what a place with a name says of itself, and what does so has the name
 pub has : (bytes : List ℕ) (label : Label) → has_name bytes label ≡ true → Has bytes label

@@ -48,6 +48,11 @@ pub drop_inside : (labels : List Label) (bytes : List ℕ) → Inside (place_to_
 unfolding place_to_drop
 drop_inside labels bytes = placed_inside (place_of labels bytes) 0 (name_code bytes) 19 (omega arith)
 
+-- a code and a place
+pub placed_is : {code code' place place' : ℕ} → code ≡ code' → place ≡ place'
+    → let placed : ℕ → ℕ → Placed = λ c p. record { code = c; place = p } in placed code place ≡ placed code' place'
+placed_is e f = rw (e, f)
+
 -- so is that of what equals it
 pub both : {r placed : Placed} → Inside placed → r ≡ placed → (r ≡ placed) × Inside r
 both h e = (e, rw e h)

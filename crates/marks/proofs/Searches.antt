@@ -1,35 +1,42 @@
--- The search for the first place of a test: none of those before this one passes it.
-use mathlib.Core.Path.{◌≡◌}
-use mathlib.Core.Bool.{Bool, true, false}
-use mathlib.Core.List.{List}
-use Prim.Native.Nat.{ℕ, suc, ◌+◌, ◌≤◌, ◌<◌}
-use native.Mathlib.Omega.{arith}
-use native.Mathlib.Numerals.{add-one}
-use lib.ListN.{length, get_or, drop, drop_of_length-le}
-use lib.Seq.{drop-cons}
+-- What `position` finds in the labels of a set is the first place that passes the test.
+use Rattle.std.proofs.Common.{◌≡◌, refl, sym, ◌∙◌, ℕ, suc, ◌+◌, ◌<◌, Bool, true, false, List, [], ◌∷◌, length, Option, Some, None, position, IfSome, zero-add, arith}
+use Rattle.std.specs.List.{position_from}
+use Rattle.std.proofs.lemmas.Iterator.Adapters.{position_from-zero}
 use Rattle.marks.specs.declared.label.Label.{Label}
 use Rattle.marks.specs.Marks.{places, first_place}
+use Rattle.marks.specs.Codes.{or_places, Within}
 
-pub record Searched (test : Label → Bool) (l : List Label) (place : ℕ) : Type 0 where
-  pub within : place ≤ places
-  pub first : place + first_place test (drop place l) ≡ first_place test l
+-- the place that was found, or the end
+abbrev or_end : ℕ → Option ℕ → ℕ
+or_end end (Some place) = place
+or_end end None = end
 
-module _ (test : Label → Bool) (l : List Label) (size : length l ≡ places) (place : ℕ) (so_far : Searched test l place) where
-  pub found : (d : Label) → place < places → test (get_or l place d) ≡ true → place ≡ first_place test l
+or_places_is : (found : Option ℕ) → or_places found ≡ or_end places found
+or_places_is (Some place) = refl
+or_places_is None = refl
+
+record Located (found : Option ℕ) (first end : ℕ) : Type 0 where
+  is : or_end end found ≡ first
+  within : IfSome found (λ place. place < end)
+
+module _ (test : Label → Bool) where
+  located : (i : ℕ) (l : List Label) (end : ℕ) → i + length l ≡ end → Located (position_from test i l) (i + first_place test l) end
   unfolding first_place
-  found d some e =
-      let here : first_place test (drop place l) ≡ 0 = rw (drop-cons l place d (omega (arith, size)), first_place, e) in
-      omega (arith, here, so_far.first)
+  located i [] end e = record { is = sym e; within = tt }
+  located i (x ∷ l) end e = by_test (test x) refl (located (i + 1) l end (omega arith))
+    where
+      by_test : (t : Bool) → test x ≡ t → Located (position_from test (i + 1) l) (i + 1 + first_place test l) end
+          → Located (position_from test i (x ∷ l)) (i + first_place test (x ∷ l)) end
+      by_test true t later = rw t (record { is = omega arith; within = omega arith })
+      by_test false t later =
+          let on : i + 1 + first_place test l ≡ i + suc (first_place test l) = omega arith in
+          rw (t, ← on) later
 
-  pub passed : (d : Label) → place < places → test (get_or l place d) ≡ false → Searched test l (place + 1)
-  unfolding first_place
-  passed d some e =
-      let on : first_place test (drop place l) ≡ suc (first_place test (drop (suc place) l))
-      = rw (drop-cons l place d (omega (arith, size)), first_place, e) in
-      record { within = omega arith; first = rw (add-one place) (omega (arith, on, so_far.first)) }
+  at_0 : (l : List Label) → length l ≡ places → Located (position test l) (first_place test l) places
+  at_0 l size = rw (position_from-zero test l, ← zero-add (first_place test l)) (located 0 l places (zero-add _ ∙ size))
 
-  pub exhausted : places ≤ place → places ≡ first_place test l
-  unfolding first_place
-  exhausted e =
-      let none : first_place test (drop place l) ≡ 0 = rw (drop_of_length-le l {i = place} (omega (arith, size))) in
-      omega (arith, none, so_far.first, so_far.within)
+  pub found_first : (l : List Label) → length l ≡ places → or_places (position test l) ≡ first_place test l
+  found_first l size = or_places_is (position test l) ∙ (at_0 l size).is
+
+  pub found_within : (l : List Label) → length l ≡ places → Within (position test l)
+  found_within l size = (at_0 l size).within

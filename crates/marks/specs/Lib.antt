@@ -1,4 +1,5 @@
 pub mod Marks
+pub mod Codes
 pub mod Runs
 pub mod Refusals
 pub mod Theorems

@@ -1,65 +1,36 @@
 // Where a name stands in a set of 16 places, and where a new one goes.
-ghost use Rattle.std.specs.Prelude.{◌≡◌};
-ghost use Rattle.marks.specs.Marks.{has_name, is_free, first_place, save_place};
+ghost use Rattle.std.specs.Prelude.{◌≡◌, position};
+ghost use Rattle.marks.specs.Marks.{has_name, is_free, save_place};
+ghost use Rattle.marks.specs.Codes.{or_places, Within};
 
 use crate::PLACES;
 use crate::label::Label;
-use text::field::is_same;
-use text::limits::NAME_LENGTH;
 
 // Whether a place is used and has the name.
-fn has_name(label: Label, name: &[u8]) -> bool
-    ensures { result ≡ has_name name.now label }
+fn has_name(label: &Label, name: &[u8]) -> bool
+    ensures { result ≡ has_name name.now label.now }
 {
-    let used = label.used;
-    let length = label.length as usize;
-    let bytes = label.bytes;
-    if !used {
-        return false;
-    }
-    if NAME_LENGTH < length {
-        return false;
-    }
-    is_same(&bytes[0..length], name)
+    label.used && label.name() == Some(name)
 }
 
-// The first place with the name; PLACES where there is none.
-pub fn place_of(labels: [Label; PLACES], name: &[u8]) -> usize
-    ensures { result ≡ first_place (has_name name.now) labels }
+// The first place with the name.
+pub fn place_of(labels: &[Label; PLACES], name: &[u8]) -> Option<usize>
+    ensures { result ≡ position (has_name name.now) labels.now }
 {
-    let mut place = 0;
-    while place < PLACES {
-        let label = labels[place];
-        if has_name(label, name) {
-            return place;
-        }
-        place += 1;
-    }
-    PLACES
+    labels.iter().position(|label| has_name(label, name))
 }
 
-// The first free place; PLACES where there is none.
-fn free_place(labels: [Label; PLACES]) -> usize
-    ensures { result ≡ first_place is_free labels }
+// The first free place.
+fn free_place(labels: &[Label; PLACES]) -> Option<usize>
+    ensures { result ≡ position is_free labels.now }
 {
-    let mut place = 0;
-    while place < PLACES {
-        let label = labels[place];
-        if !label.used {
-            return place;
-        }
-        place += 1;
-    }
-    PLACES
+    labels.iter().position(|label| !label.used)
 }
 
 // The place that a name is saved in: its own, else the first free one.
-pub fn save_place(labels: [Label; PLACES], name: &[u8]) -> usize
-    ensures { result ≡ save_place labels name.now }
+pub fn save_place(labels: &[Label; PLACES], name: &[u8]) -> Option<usize>
+    ensures place { or_places result ≡ save_place labels.now name.now }
+    ensures within { Within result }
 {
-    let held = place_of(labels, name);
-    if held < PLACES {
-        return held;
-    }
-    free_place(labels)
+    place_of(labels, name).or_else(|| free_place(labels))
 }

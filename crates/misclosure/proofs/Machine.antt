@@ -14,6 +14,7 @@ use Rattle.angle.specs.Steps.{signed_of}
 use Rattle.angle.proofs.Ranges.{signed_range}
 use Rattle.signs.proofs.Sizes.{nat_abs_neg, sum_size, product_size, size_fits, size_reads, fits_size}
 use Rattle.sums.specs.Sums.{sine, cosine, most_distance, rounded}
+use Rattle.misclosure.specs.Sizes.{SumsOf}
 use Rattle.misclosure.specs.Private.{widened_by}
 use Rattle.misclosure.specs.declared.Ends.{Ends}
 use Rattle.sums.proofs.Parts.{rounded_size}
@@ -90,6 +91,21 @@ widened_is g t low high e x y sign least greatest =
     ap₂ (λ (a b : ℤ). record { low = a; high = b })
     (least ∙ ap (λ (t : Bool). e.low +ℤ pos (cond t low high) *ℤ g) (sym sign))
     (greatest ∙ ap (λ (t : Bool). e.high +ℤ pos (cond t high low) *ℤ g) (sym sign))
+
+-- two sums of n shots with the products of one more
+product_more : (n : ℕ) (z : ℤ) (d : ℕ) (g : ℤ) → nat_abs z ≤ n * (most_distance * 2 ^ 30) → d ≤ most_distance → nat_abs g ≤ 2 ^ 30
+    → nat_abs (z +ℤ pos d *ℤ g) ≤ (n + 1) * (most_distance * 2 ^ 30)
+product_more n z d g size far unit =
+    let product : nat_abs (pos d *ℤ g) ≤ most_distance * 2 ^ 30 = rw (product_size (pos d) g) (mul-le-mul far unit) in
+    omega (arith, sum_size z (pos d *ℤ g), product, size)
+
+pub widened_size : (n : ℕ) (e r : Ends) (g : ℤ) (low high : ℕ) → r ≡ widened_by g low high e → SumsOf n e → low ≤ most_distance → high ≤ most_distance
+    → nat_abs g ≤ 2 ^ 30 → SumsOf (n + 1) r
+widened_size n e r g low high same (least, greatest) near far unit = rw same (go (non_neg g))
+  where
+    go : (t : Bool) → SumsOf (n + 1) (record { low = e.low +ℤ pos (cond t low high) *ℤ g; high = e.high +ℤ pos (cond t high low) *ℤ g })
+    go true = (product_more n e.low low g least near unit, product_more n e.high high g greatest far unit)
+    go false = (product_more n e.low high g least far unit, product_more n e.high low g greatest near unit)
 
 -- ---- rounding
 

@@ -1,147 +1,109 @@
 // A listing, line by line: what each line after the header adds, or why it is refused.
-ghost use Rattle.std.specs.Prelude.{◌≡◌, cond, eqb};
+ghost use Rattle.std.specs.Prelude.{◌≡◌, ◌≤◌, []};
 ghost use Rattle.text.specs.Fields.{part_of};
-ghost use Rattle.misclosure.specs.Private.{Small, Limited, limit_code, order_code, Takes, Moved, shot_said};
-ghost use Rattle.listing_rows.specs.Entries.{read_entry, last};
+ghost use Rattle.misclosure.specs.Misclosure.{beyond, refusal};
+ghost use Rattle.misclosure.specs.Private.{Limited, number_of, code_in, Takes, Moved, shot_said};
+ghost use Rattle.listing_rows.specs.Entries.{two_readings, read_entry, leg, last};
 
-use crate::Ends;
 use crate::limits::{LAST_LINE, MOST_DISTANCE, MOST_STEP};
-use crate::sum::widened;
+use crate::state::State;
 use angle::signed_of;
-use job_lines::link::station_code;
-use listing_rows::read::{Entry, Span, read_entry};
-use text::field::{Place, part};
+use job_lines::link::follows;
+use listing_rows::read::{Entry, Kind, Span, read_entry};
+use text::field::part;
 
-// The number of the next line, where the last station stands in the line before it, and the sums so far.
-#[derive(Clone, Copy)]
-pub struct State {
-    pub line: u32,
-    pub station: Place,
-    pub east: Ends,
-    pub north: Ends,
+// Why a line is refused, under the documents' numbers.
+#[derive(Clone, Copy, PartialEq, Eq)]
+pub enum Cause {
+    // It is not what has to stand there: the header, a shot, the end with the count of the shots, or nothing.
+    Misplaced = 6,
+    // Its shot does not start at the last station.
+    NotFollowing = 23,
+    // It is the 501st shot, a distance is too large, or its step is.
+    BeyondLimit = 24,
+    // Its low distance is above the high one.
+    LowAboveHigh = 25,
 }
 
-// The refusal code of a line, 0 where it is accepted; whether it is the end; and after an accepted shot the state.
-#[derive(Clone, Copy)]
-pub struct Taken {
-    pub code: u32,
-    pub ended: bool,
-    pub next: State,
+impl Cause {
+    // The number that names the cause. Each error enum has its own, for the reason in codes.rt of streams.
+    pub fn number(self) -> u32
+        ensures { result ≡ number_of self }
+    {
+        self as u32
+    }
 }
 
-// 24 for a shot beyond a limit, else 0.
-fn limit_code(line: u32, x: Span) -> u32
-    ensures { result ≡ limit_code line x.low x.high x.step }
+#[tactic(auto, unfolding(crate::specs::Misclosure::beyond))]
+fn is_beyond(line: u32, x: Span) -> bool
+    ensures { result ≡ beyond line x.low x.high x.step }
 {
-    if LAST_LINE < line {
-        return 24;
-    }
-    if MOST_DISTANCE < x.low {
-        return 24;
-    }
-    if MOST_DISTANCE < x.high {
-        return 24;
-    }
-    if MOST_STEP < x.step {
-        return 24;
-    }
-    0
+    LAST_LINE < line || MOST_DISTANCE < x.low || MOST_DISTANCE < x.high || MOST_STEP < x.step
 }
 
-// 25 for a low distance above the high one, else 0.
-fn order_code(x: Span) -> u32
-    ensures { result ≡ order_code x.low x.high }
+// The first cause for which a shot from a station is refused, after another.
+fn check_shot(line: u32, x: Span, station: &[u8], from: &[u8]) -> Result<(), Cause>
+    ensures { code_in result ≡ refusal line station.now (leg from.now [] x.low x.high x.step) }
 {
+    if is_beyond(line, x) {
+        return Err(Cause::BeyondLimit);
+    }
     if x.high < x.low {
-        return 25;
+        return Err(Cause::LowAboveHigh);
     }
-    0
-}
-
-// The first of two codes that is not 0.
-fn first_of(first: u32, second: u32) -> u32
-    ensures { result ≡ cond (eqb first 0) second first }
-{
-    if first == 0 {
-        return second;
+    if !follows(station, from) {
+        return Err(Cause::NotFollowing);
     }
-    first
+    Ok(())
 }
 
 // A shot within its limits is added.
-fn moved(x: Span, s: State) -> State
-    requires small { Small s }
-    requires limited { Limited s.line x }
-    ensures { Moved x s result }
+fn moved<'a>(line: &'a [u8], x: Span, s: State<'a>) -> State<'a>
+    requires { Limited s.line x }
+    ensures { Moved line.now x s.entry result }
 {
     let turned = signed_of(x.step as u32);
-    let east = widened(s.east, x.low, x.high, turned.sine);
-    let north = widened(s.north, x.low, x.high, turned.cosine);
-    let station = x.to;
+    let east = s.east.widened(x.low, x.high, turned.sine);
+    let north = s.north.widened(x.low, x.high, turned.cosine);
     State {
         line: s.line + 1,
-        station,
+        station: part(line, x.to),
         east,
         north,
     }
 }
 
-fn on_shot(previous: &[u8], line: &[u8], x: Span, s: State) -> Taken
-    requires { Small s }
-    ensures { Takes (part_of previous.now s.station) line.now s (shot_said line.now x) result }
+fn on_shot<'a>(line: &'a [u8], x: Span, s: State<'a>) -> Result<Option<State<'a>>, Cause>
+    ensures { Takes line.now s.entry (shot_said line.now x) result }
 {
-    let limit = limit_code(s.line, x);
-    let order = order_code(x);
-    let link = station_code(part(previous, s.station), part(line, x.from));
-    let code = first_of(limit, first_of(order, link));
-    if code != 0 {
-        return Taken {
-            code,
-            ended: false,
-            next: s,
-        };
-    }
-    let next = moved(x, s);
-    Taken {
-        code: 0,
-        ended: false,
-        next,
-    }
+    check_shot(s.line, x, s.station, part(line, x.from))?;
+    Ok(Some(moved(line, x, s)))
 }
 
 // The end has the count of the shots: all lines before it but the header.
-fn on_end(previous: &[u8], line: &[u8], count: u64, s: State) -> Taken
-    requires { Small s }
-    ensures { Takes (part_of previous.now s.station) line.now s (last count) result }
+fn check_end(line: u32, count: u64) -> Result<(), Cause>
+    requires { 2 ≤ line }
+    ensures { code_in result ≡ refusal line [] (last count) }
 {
-    let shots = (s.line - 2) as u64;
-    if count != shots {
-        return Taken {
-            code: 6,
-            ended: true,
-            next: s,
-        };
-    }
-    Taken {
-        code: 0,
-        ended: true,
-        next: s,
+    if count == (line - 2) as u64 {
+        Ok(())
+    } else {
+        Err(Cause::Misplaced)
     }
 }
 
-// One line after the header, the line before it besides.
-pub fn take_line(previous: &[u8], line: &[u8], between: bool, s: State) -> Taken
-    requires { Small s }
-    ensures { Takes (part_of previous.now s.station) line.now s (read_entry between line.now) result }
+// One line after the header: the state after a shot, none after the end.
+pub fn take_line<'a>(line: &'a [u8], kind: Kind, s: State<'a>) -> Result<Option<State<'a>>, Cause>
+    ensures { Takes line.now s.entry (read_entry (two_readings kind) line.now) result }
 {
-    let said = read_entry(line, between);
-    match said {
-        Entry::Shot(x) => on_shot(previous, line, x, s),
-        Entry::End(count) => on_end(previous, line, count, s),
-        Entry::NoEntry => Taken {
-            code: 6,
-            ended: false,
-            next: s,
-        },
+    let Some(entry) = read_entry(line, kind) else {
+        return Err(Cause::Misplaced);
+    };
+    match entry {
+        Entry::Shot(x) => on_shot(line, x, s),
+        Entry::End(count) => {
+            check_end(s.line, count)?;
+            Ok(None)
+        }
     }
 }

@@ -5,20 +5,21 @@
 mod entry;
 pub mod limits;
 pub mod printer;
+mod state;
 mod sum;
 mod walk;
 
 ghost use Rattle.std.specs.Prelude.{◌≡◌, true, false};
 ghost use Rattle.misclosure.specs.Misclosure.{listing_of, miss_of, intervals_of, is_between};
 
-use crate::sum::both_millimetres;
 use crate::walk::read_listing;
-use listing_rows::read::is_header;
+use listing_rows::read::{Kind, is_header};
 pub use sum::millimetres;
-use text::line::line_end;
+use text::line::lines_of;
 
 // The refusal code, 0 where the listing is accepted; the line, 0 where no line is at fault; east and north at 2^30, and each in whole
 // millimetres.
+// A code and a line, and no `Result`: the theorems of specs/Theorems.antt speak of this answer, and of the next.
 #[derive(Clone, Copy)]
 pub struct Miss {
     pub code: u32,
@@ -51,16 +52,27 @@ pub struct IntervalSums {
 pub fn misclosure(text: &[u8]) -> Miss
     ensures { result ≡ miss_of (listing_of false text.now) }
 {
-    let sums = read_listing(text, false);
-    let easting = millimetres(sums.east.low);
-    let northing = millimetres(sums.north.low);
-    Miss {
-        code: sums.code,
-        line: sums.line,
-        east: sums.east.low,
-        north: sums.north.low,
-        easting,
-        northing,
+    match read_listing(text, Kind::OneDistance) {
+        Ok(sums) => {
+            let easting = millimetres(sums.east.low);
+            let northing = millimetres(sums.north.low);
+            Miss {
+                code: 0,
+                line: 0,
+                east: sums.east.low,
+                north: sums.north.low,
+                easting,
+                northing,
+            }
+        }
+        Err(bad) => Miss {
+            code: bad.cause.number(),
+            line: bad.line,
+            east: 0,
+            north: 0,
+            easting: 0,
+            northing: 0,
+        },
     }
 }
 
@@ -68,18 +80,30 @@ pub fn misclosure(text: &[u8]) -> Miss
 pub fn intervals(text: &[u8]) -> IntervalSums
     ensures { result ≡ intervals_of (listing_of true text.now) }
 {
-    let sums = read_listing(text, true);
-    let east = sums.east;
-    let north = sums.north;
-    let easting = both_millimetres(east);
-    let northing = both_millimetres(north);
-    IntervalSums {
-        code: sums.code,
-        line: sums.line,
-        east,
-        north,
-        easting,
-        northing,
+    match read_listing(text, Kind::TwoReadings) {
+        Ok(sums) => {
+            let easting = sums.east.in_millimetres();
+            let northing = sums.north.in_millimetres();
+            IntervalSums {
+                code: 0,
+                line: 0,
+                east: sums.east,
+                north: sums.north,
+                easting,
+                northing,
+            }
+        }
+        Err(bad) => {
+            let none = Ends { low: 0, high: 0 };
+            IntervalSums {
+                code: bad.cause.number(),
+                line: bad.line,
+                east: none,
+                north: none,
+                easting: none,
+                northing: none,
+            }
+        }
     }
 }
 
@@ -87,6 +111,7 @@ pub fn intervals(text: &[u8]) -> IntervalSums
 pub fn is_between(text: &[u8]) -> bool
     ensures { result ≡ is_between text.now }
 {
-    let first = line_end(text, 0);
-    is_header(&text[0..first], true)
+    lines_of(text)
+        .next()
+        .is_some_and(|header| is_header(header, Kind::TwoReadings))
 }

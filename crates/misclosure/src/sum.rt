@@ -17,27 +17,6 @@ fn added(sum: i64, distance: u64, factor: i64) -> i64
     sum + distance as i64 * factor
 }
 
-// A shot's least and greatest product added: where the factor is negative, the longest distance gives the least.
-pub fn widened(sums: Ends, low: u64, high: u64, factor: i64) -> Ends
-    requires { SmallEnds sums × (low ≤ most_distance) × (high ≤ most_distance) × (nat_abs factor ≤ 2 ^ 30) }
-    ensures { result ≡ widened_by factor low high sums }
-{
-    if factor < 0 {
-        let least = added(sums.low, high, factor);
-        let greatest = added(sums.high, low, factor);
-        return Ends {
-            low: least,
-            high: greatest,
-        };
-    }
-    let least = added(sums.low, low, factor);
-    let greatest = added(sums.high, high, factor);
-    Ends {
-        low: least,
-        high: greatest,
-    }
-}
-
 // A sum at 2^30 in whole millimetres, halves away from zero, by way of its half millimetres: `/` goes towards zero.
 pub fn millimetres(sum: i64) -> i64
     ensures { result ≡ rounded sum }
@@ -49,12 +28,35 @@ pub fn millimetres(sum: i64) -> i64
     (halves + 1) / 2
 }
 
-// Both ends in whole millimetres.
-pub fn both_millimetres(sums: Ends) -> Ends
-    requires { SmallEnds sums }
-    ensures { result ≡ rounded_ends sums }
-{
-    let low = millimetres(sums.low);
-    let high = millimetres(sums.high);
-    Ends { low, high }
+impl Ends {
+    // A shot's least and greatest product added: where the factor is negative, the longest distance gives the least.
+    pub(crate) fn widened(self, low: u64, high: u64, factor: i64) -> Ends
+        requires { SmallEnds self × (low ≤ most_distance) × (high ≤ most_distance) × (nat_abs factor ≤ 2 ^ 30) }
+        ensures { result ≡ widened_by factor low high self }
+    {
+        if factor < 0 {
+            let least = added(self.low, high, factor);
+            let greatest = added(self.high, low, factor);
+            return Ends {
+                low: least,
+                high: greatest,
+            };
+        }
+        let least = added(self.low, low, factor);
+        let greatest = added(self.high, high, factor);
+        Ends {
+            low: least,
+            high: greatest,
+        }
+    }
+
+    // Both in whole millimetres.
+    pub(crate) fn in_millimetres(self) -> Ends
+        requires { SmallEnds self }
+        ensures { result ≡ rounded_ends self }
+    {
+        let low = millimetres(self.low);
+        let high = millimetres(self.high);
+        Ends { low, high }
+    }
 }

@@ -1,89 +1,89 @@
 // All lines of a listing of either kind: the header, line after line, the end.
-ghost use Rattle.std.specs.Prelude.{◌≡◌, ◌+◌, ◌≤◌, [], length, drop};
+ghost use Rattle.std.specs.Prelude.{◌≡◌, [], pos};
 ghost use Rattle.text.specs.Scan.{lines};
-ghost use Rattle.misclosure.specs.Misclosure.{last_line, listing_of, outcome};
-ghost use Rattle.misclosure.specs.Private.{sums_of, SmallSums, refused_sums, end_sums};
+ghost use Rattle.listing_rows.specs.Entries.{two_readings};
+ghost use Rattle.misclosure.specs.Misclosure.{listing_of, outcome, both_ends};
+ghost use Rattle.misclosure.specs.declared.entry.Cause.TheVariants.{Misplaced};
+ghost use Rattle.misclosure.specs.Private.{sums_of, sums_in, end_sums};
 
 use crate::Ends;
-use crate::entry::{State, take_line};
-use listing_rows::read::is_header;
-use text::field::Place;
-use text::line::line_end;
+use crate::entry::{Cause, take_line};
+use crate::state::{State, Totals};
+use listing_rows::read::{Kind, is_header};
+use text::line::{Lines, lines_of};
 
-// The code and the line as in a Miss, and the sums at 2^30.
+// The first line that is refused, and why.
+// A struct of its own, as in job_reader and survex: the causes differ, and survex counts the lines of a text of any length by usize.
 #[derive(Clone, Copy)]
-pub struct Sums {
-    pub code: u32,
+pub struct BadLine {
+    pub cause: Cause,
     pub line: u32,
-    pub east: Ends,
-    pub north: Ends,
 }
 
-fn refused(code: u32, line: u32) -> Sums
-    ensures { result ≡ refused_sums code line }
+// Where another line has to stand, or none.
+fn misplaced(line: u32) -> BadLine
+    ensures { result ≡ record { cause = Misplaced; line = line } }
 {
-    Sums {
-        code,
+    BadLine {
+        cause: Cause::Misplaced,
         line,
-        east: Ends { low: 0, high: 0 },
-        north: Ends { low: 0, high: 0 },
     }
 }
 
-// The end in its place, with what follows it or nothing.
-fn ended(s: State, more: bool) -> Sums
-    requires { s.line ≤ last_line + 1 }
-    ensures { result ≡ end_sums s more }
+// The end in its place: no line may follow.
+fn ended(s: State, mut rest: Lines) -> Result<Totals, BadLine>
+    ensures { sums_in result ≡ end_sums s.entry (lines rest.entry.rest.now) }
 {
-    if more {
-        return refused(6, s.line + 1);
+    if rest.next().is_some() {
+        return Err(misplaced(s.line + 1));
     }
-    let east = s.east;
-    let north = s.north;
-    Sums {
-        code: 0,
-        line: 0,
-        east,
-        north,
-    }
+    Ok(Totals {
+        east: s.east,
+        north: s.north,
+    })
 }
 
-// The lines from line 2 on, which begins at a place.
-fn walk(text: &[u8], between: bool, first: usize) -> Sums
-    requires { (first ≤ length text.now) × (listing_of between text.now ≡ outcome between 2 [] (lines (drop first text.now))) }
-    ensures { (result ≡ sums_of (listing_of between text.now)) × SmallSums result }
+// Before line 2.
+fn first_state<'a>() -> State<'a>
+    ensures { (result.line ≡ 2) × (result.station.now ≡ []) × (result.east ≡ both_ends (pos 0)) × (result.north ≡ both_ends (pos 0)) }
 {
-    let mut s = State {
+    let none = Ends { low: 0, high: 0 };
+    State {
         line: 2,
-        station: Place { from: 0, to: 0 },
-        east: Ends { low: 0, high: 0 },
-        north: Ends { low: 0, high: 0 },
-    };
-    let mut before = first;
-    let mut at = first;
-    while at < text.len() {
-        let end = line_end(text, at);
-        let t = take_line(&text[before..at], &text[at..end], between, s);
-        if t.code != 0 {
-            return refused(t.code, s.line);
-        }
-        if t.ended {
-            return ended(s, end < text.len());
-        }
-        s = t.next;
-        before = at;
-        at = end;
+        station: b"",
+        east: none,
+        north: none,
     }
-    refused(6, s.line)
+}
+
+// The lines from line 2 on.
+fn walk(mut rest: Lines, kind: Kind) -> Result<Totals, BadLine>
+    ensures { sums_in result ≡ sums_of (outcome (two_readings kind) 2 [] (lines rest.entry.rest.now)) }
+{
+    let mut s = first_state();
+    while let Some(line) = rest.next() {
+        let taken = take_line(line, kind, s).map_err(|cause| BadLine {
+            cause,
+            line: s.line,
+        })?;
+        match taken {
+            Some(next) => s = next,
+            None => return ended(s, rest),
+        }
+    }
+    Err(misplaced(s.line))
 }
 
 // The sums of a listing of a kind.
-pub fn read_listing(text: &[u8], between: bool) -> Sums
-    ensures { (result ≡ sums_of (listing_of between text.now)) × SmallSums result }
+pub fn read_listing(text: &[u8], kind: Kind) -> Result<Totals, BadLine>
+    ensures { sums_in result ≡ sums_of (listing_of (two_readings kind) text.now) }
 {
-    let first = line_end(text, 0);
-    if !is_header(&text[0..first], between) {
-        return refused(6, 1);
+    let mut rest = lines_of(text);
+    let Some(header) = rest.next() else {
+        return Err(misplaced(1));
+    };
+    if !is_header(header, kind) {
+        return Err(misplaced(1));
     }
-    walk(text, between, first)
+    walk(rest, kind)
 }

@@ -71,33 +71,38 @@ module _ (g : Generator) (n : ℕ) {code : ℕ} (code_is : code ≡ block_code g
   pub block_room : g.count + n / 2 ≤ most_count
   block_room = ((pairs_accepted g (n / 2)).0 block_pairs).1
 
-module _ (f : ℕ) (g : Generator) (old : List ℤ) {code : ℕ} (code_is : code ≡ block_code g (length old)) where
-  pub block_refused : (code ≡ 0 → ⊥) → (answer code g ≡ block_of g (length old)) × (old ≡ block_holds f g old)
+-- memory of n elements, whose values are old
+module _ (f : ℕ) (g : Generator) (old : List ℤ) {n : ℕ} (size : length old ≡ n) {code : ℕ} (code_is : code ≡ block_code g n) where
+  block_is : code ≡ block_code g (length old)
+  block_is = code_is ∙ ap (block_code g) (sym size)
+
+  pub block_refused : (code ≡ 0 → ⊥) → (answer code g ≡ block_of g n) × (old ≡ block_holds f g old)
   unfolding block_of block_holds
-  block_refused = refused _ _ _ _ code_is
+  block_refused some = rw (← size) (refused _ _ _ _ block_is some)
 
   pub block_drawn : {u state : Lanes} {next : Generator} {out : List ℤ} → code ≡ 0 → StreamsFilled f g u state old out
-      → next ≡ onward g (upper state) (lower state) (length old / 2) → (answer code next ≡ block_of g (length old)) × (out ≡ block_holds f g old)
+      → next ≡ onward g (upper state) (lower state) (n / 2) → (answer code next ≡ block_of g n) × (out ≡ block_holds f g old)
   unfolding block_of block_holds
   block_drawn none filled next_is =
-      accepted _ _ _ _ code_is none (drawn_pairs f g (block_even g _ code_is none) (block_pairs g _ code_is none) filled next_is)
+      rw (← size) (accepted _ _ _ _ block_is none (drawn_pairs f g (block_even g _ block_is none) (block_pairs g _ block_is none) filled (rw (← size) at next_is)))
 
 -- ---- A look
 
-module _ (f : ℕ) (g : Generator) (old : List ℤ) {code : ℕ} {free : Generator} (free-is : free ≡ cleared g) (code_is : code ≡ block_code free (length old)) where
-  returned : answer code g ≡ look_of g (length old)
+module _ (f : ℕ) (g : Generator) (old : List ℤ) {n : ℕ} (size : length old ≡ n) {code : ℕ} {free : Generator} (free-is : free ≡ cleared g) (code_is : code ≡ block_code free n) where
+  returned : answer code g ≡ look_of g n
   unfolding look_of block_of
   returned = rw (← free-is) (ap (λ (code : ℕ). answer code g) code_is)
 
-  pub look_refused : (code ≡ 0 → ⊥) → (answer code g ≡ look_of g (length old)) × (old ≡ look_holds f g old)
+  pub look_refused : (code ≡ 0 → ⊥) → (answer code g ≡ look_of g n) × (old ≡ look_holds f g old)
   unfolding look_holds
-  look_refused some = (returned, rw (← free-is) (block_refused f free old code_is some).1)
+  look_refused some = (returned, rw (← free-is) (block_refused f free old size code_is some).1)
 
   pub look_drawn : {u state : Lanes} {out : List ℤ} → code ≡ 0 → StreamsFilled f free u state old out
-      → (answer code g ≡ look_of g (length old)) × (out ≡ look_holds f g old)
+      → (answer code g ≡ look_of g n) × (out ≡ look_holds f g old)
   unfolding look_holds block_holds
   look_drawn none filled =
-      (returned, rw (← free-is, ← code_is, none) (drawn_samples_lem f free (block_even free _ code_is none) (block_pairs free _ code_is none) filled))
+      let is = block_is f free old size code_is in
+      (returned, rw (← free-is, ← is, none) (drawn_samples_lem f free (block_even free _ is none) (block_pairs free _ is none) filled))
 
 -- ---- A take
 
@@ -118,15 +123,18 @@ module _ (g : Generator) (n : ℕ) {code : ℕ} (code_is : code ≡ code_of (a_t
   pub take_room : (free : Generator) → free ≡ cleared g → free.count + n / 2 ≤ most_count
   take_room free free-is = ((pairs_accepted free (n / 2)).0 (take_pairs free free-is)).1
 
-module _ (f : ℕ) (g : Generator) (old : List ℤ) {code : ℕ} (code_is : code ≡ code_of (a_take (length old)) g) where
-  pub take_refused : (code ≡ 0 → ⊥) → (answer code g ≡ take_of g (length old)) × (old ≡ take_holds f g old)
+module _ (f : ℕ) (g : Generator) (old : List ℤ) {n : ℕ} (size : length old ≡ n) {code : ℕ} (code_is : code ≡ code_of (a_take n) g) where
+  take_is : code ≡ code_of (a_take (length old)) g
+  take_is = code_is ∙ ap (λ (m : ℕ). code_of (a_take m) g) (sym size)
+
+  pub take_refused : (code ≡ 0 → ⊥) → (answer code g ≡ take_of g n) × (old ≡ take_holds f g old)
   unfolding take_of take_holds
-  take_refused = refused _ _ _ _ code_is
+  take_refused some = rw (← size) (refused _ _ _ _ take_is some)
 
   pub take_drawn : (free : Generator) {u state : Lanes} {next : Generator} {out : List ℤ} → code ≡ 0 → free ≡ cleared g
-      → StreamsFilled f free u state old out → next ≡ onward free (upper state) (lower state) (length old / 2)
-      → (answer code next ≡ take_of g (length old)) × (out ≡ take_holds f g old)
+      → StreamsFilled f free u state old out → next ≡ onward free (upper state) (lower state) (n / 2)
+      → (answer code next ≡ take_of g n) × (out ≡ take_holds f g old)
   unfolding take_of take_holds
   take_drawn free none free-is filled next_is =
-      let pairs = drawn_pairs f free (take_even g _ code_is none) (take_pairs g _ code_is none free free-is) filled next_is in
-      accepted _ _ _ _ code_is none (rw (← free-is, ← half g _ code_is none) pairs)
+      let pairs = drawn_pairs f free (take_even g _ take_is none) (take_pairs g _ take_is none free free-is) filled (rw (← size) at next_is) in
+      rw (← size) (accepted _ _ _ _ take_is none (rw (← free-is, ← half g _ take_is none) pairs))

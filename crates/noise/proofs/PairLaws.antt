@@ -20,9 +20,9 @@ abbrev PairDone : (f : ℕ) → Generator → RecordAnswer → List ℤ → Type
 PairDone f g r out = (r ≡ pair_returns f g) × (out ≡ samples_in (pair_of f g))
 
 module _ (f : ℕ) (g : Generator) {drawn : Uniforms} (is : drawn ≡ uniforms_of g) where
-  pub pair_refused : (drawn.code ≡ 0 → ⊥) → PairDone f g (record { code = drawn.code; next = drawn.next }) (pos 0 ∷ pos 0 ∷ [])
+  pub pair_refused : {out : List ℤ} → (drawn.code ≡ 0 → ⊥) → out ≡ pos 0 ∷ pos 0 ∷ [] → PairDone f g (record { code = drawn.code; next = drawn.next }) out
   unfolding pair_of
-  pair_refused some = rw (← is, ne_eqb _ _ some) (refl, refl)
+  pair_refused some cleared = rw (cleared, ← is, ne_eqb _ _ some) (refl, refl)
 
   -- the call from k and v accepts what is drawn
   pub pair_drawn : {code : ℕ} {out : List ℤ} → InRange g.a → InRange g.b → drawn.code ≡ 0 → code ≡ (samples_of f drawn.k drawn.v).code

@@ -22,10 +22,7 @@ pub fn noisy_distance(sigma: u32, distance: u32, sample: i16) -> u64
     if 0 <= sample {
         return exact + noise;
     }
-    if exact < noise {
-        return 0;
-    }
-    exact - noise
+    exact.saturating_sub(noise)
 }
 
 pub fn noisy_bearing(sigma: u32, bearing: u32, sample: i16) -> u64

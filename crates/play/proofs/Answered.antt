@@ -1,8 +1,8 @@
 -- From the loop that was read to the answer of the call.
-use Prim.Native.Nat.{ℕ, zero, suc, ◌+◌, ◌-◌, ◌*◌, ◌/◌, ◌%◌, ◌≤◌}
+use Prim.Native.Nat.{ℕ, zero, suc, ◌+◌, ◌-◌, ◌*◌, ◌≤◌}
 use native.Mathlib.Nat.{zero-add, le_of_suc-le-suc}
 use native.Mathlib.Omega.{arith}
-use mathlib.Core.Path.{◌≡◌, refl, sym, ap, ap₂, ◌∙◌}
+use mathlib.Core.Path.{◌≡◌, refl, sym, ap, ◌∙◌}
 use mathlib.Core.Bool.{Bool, true, false, cond}
 use mathlib.Core.List.{List, [], ◌∷◌, map}
 use lib.Dec.{eqb, leb}
@@ -16,26 +16,24 @@ use Rattle.job_reader.specs.Setting.{Steady}
 use Rattle.job_reader.specs.declared.walk.Setting.{Setting}
 use Rattle.noisy_shot.specs.Shots.{Shot}
 use Rattle.job_reader.specs.Loop as loop
-use Rattle.job_reader.specs.declared.loops.LoopAnswer.{LoopAnswer}
+use Rattle.job_reader.specs.declared.loops.LoopShot.{LoopShot}
+use Rattle.job_reader.specs.Loop.{LoopAnswer}
 use Rattle.play.proofs.LoopTheorems.{theorems, answer_accepted, answer_refused, Within, Ready, ready}
 use Rattle.play.specs.Play.{room_for, play_of, answer_of, misses_from, misses_after}
-use Rattle.play.specs.Private.{unpacked_all, Near}
-use Rattle.play.specs.Room.{room_of}
+use Rattle.play.specs.Near.{Near}
+use Rattle.play.specs.Private.{shots_of}
+use Rattle.play.specs.Room.{has_room, room_of}
 
 -- shots as they were kept, read back
-pub unpacked_are : (l : List Shot) → Within l → unpacked_all (map loop.packed l) ≡ l
-unfolding Within
-unpacked_are [] h = refl
-unpacked_are (x ∷ l) h =
-    let d : (x.distance * 65536 + x.step) / 65536 ≡ x.distance = omega (arith, h.1) in
-    let b : (x.distance * 65536 + x.step) % 65536 ≡ x.step = omega (arith, h.1) in
-    ap₂ (λ (y : Shot) (m : List Shot). y ∷ m) (ap₂ (λ (p q : ℕ). record { distance = p; step = q }) d b) (unpacked_are l h.2)
+pub read_back : (l : List Shot) → shots_of (map loop.kept_shot l) ≡ l
+read_back [] = refl
+read_back (x ∷ l) = ap (λ (m : List Shot). x ∷ m) (read_back l)
 
-near_are : (l : List Shot) → Within l → Near (map loop.packed l)
+near_are : (l : List Shot) → Within l → Near (map loop.kept_shot l)
 unfolding Within Near
-near_are [] h i more = absurd (omega arith)
-near_are (x ∷ l) h zero more = omega (arith, h.0, h.1)
-near_are (x ∷ l) h (suc i) more = near_are l h.2 i (le_of_suc-le-suc more)
+near_are [] h i other more = absurd (omega arith)
+near_are (x ∷ l) h zero other more = h.0
+near_are (x ∷ l) h (suc i) other more = near_are l h.1 i other (le_of_suc-le-suc more)
 
 -- ---- A loop that is refused
 
@@ -83,24 +81,16 @@ module _ (text : List ℕ) (first : ℕ) (old : List (List ℤ)) (r : LoopAnswer
     unfolding play_of
     by_room = ap (room_for plays) is_loop ∙ ap (λ (k : ℕ). cond (eqb k 0) (loop.accepted g l) (loop.refused 13 0)) room_is
 
-    module _ (full : ℕ) (f : full ≡ room_of plays n) where
-      full_is : (full ≡ 0 → ⊥) → play_of text first (length old) ≡ loop.refused full 0
-      full_is y = by_room ∙ go (leb (plays * n) most_count) (λ u. y (f ∙ u)) ∙ ap (λ (m : ℕ). loop.refused m 0) (sym f)
-        where
-          go : (q : Bool) → (◌≡◌ {A = ℕ} (cond q 0 13) 0 → ⊥)
-              → ◌≡◌ {A = loop.Outcome} (cond (eqb (cond q 0 13) 0) (loop.accepted g l) (loop.refused 13 0)) (loop.refused (cond q 0 13) 0)
-          go true u = absurd (u refl)
-          go false u = refl
+    module _ (room : Bool) (f : room ≡ has_room plays n) where
+      pub play_full : room ≡ false
+          → (record { code = 13; line = 0 } ≡ answer_of (play_of text first (length old))) × (old ≡ misses_after (play_of text first (length old)) first old)
+      play_full y = rw (by_room, ← f, y) (refl, refl)
 
-      pub play_full : (full ≡ 0 → ⊥)
-          → (record { code = full; line = 0 } ≡ answer_of (play_of text first (length old))) × (old ≡ misses_after (play_of text first (length old)) first old)
-      play_full y = rw (full_is y) (refl, refl)
-
-      module _ (memory new : List ℕ) (size : length memory ≡ limits.most_shots) (kept : new ≡ loop.memory_after text memory) (y : full ≡ 0) where
-        abbrev shots : List ℕ
+      module _ (memory new : List LoopShot) (size : length memory ≡ limits.most_shots) (kept : new ≡ loop.memory_after text memory) (y : room ≡ true) where
+        abbrev shots : List LoopShot
         shots = take (n - 0) new
 
-        shots_are : shots ≡ map loop.packed l
+        shots_are : shots ≡ map loop.kept_shot l
         shots_are =
             let i : n - 0 ≡ length l = omega (arith, count) in
             rw (i, kept) (theorems.kept text memory g l is_loop (omega (arith, prepared.few, size)))
@@ -112,20 +102,20 @@ module _ (text : List ℕ) (first : ℕ) (old : List (List ℤ)) (r : LoopAnswer
         steady = prepared.steady
 
         shots_count : length shots ≡ n
-        shots_count = ap length shots_are ∙ length-map l loop.packed ∙ count
+        shots_count = ap length shots_are ∙ length-map l loop.kept_shot ∙ count
 
         pub shots_few : length shots ≤ limits.most_shots
         shots_few = omega (arith, shots_count, few)
 
         pub pairs : pairs_code g.generator ((first + length old) * length shots) ≡ 0
         pairs =
-            let room = (count_room g.generator (plays * n)).0 (rw count at room_is ∙ sym f ∙ y) in
-            rw shots_count ((pairs_accepted g.generator (plays * n)).1 (sound_accepted _ prepared.sound, room, prepared.none))
+            let counted = (count_room g.generator (plays * n)).0 (rw count at room_is ∙ ap (λ (t : Bool). cond t 0 13) (sym f ∙ y)) in
+            rw shots_count ((pairs_accepted g.generator (plays * n)).1 (sound_accepted _ prepared.sound, counted, prepared.none))
 
         accepted : play_of text first (length old) ≡ loop.accepted g l
         accepted = by_room ∙ rw (← f, y)
 
-        pub play_accepted : (misses : List (List ℤ)) → misses ≡ misses_from first (length old) g (unpacked_all shots)
+        pub play_accepted : (misses : List (List ℤ)) → misses ≡ misses_from first (length old) g (shots_of shots)
             → (record { code = 0; line = 0 } ≡ answer_of (play_of text first (length old))) × (misses ≡ misses_after (play_of text first (length old)) first old)
         play_accepted misses m =
-            rw accepted (refl, m ∙ ap (misses_from first (length old) g) (ap unpacked_all shots_are ∙ unpacked_are l prepared.within))
+            rw accepted (refl, m ∙ ap (misses_from first (length old) g) (ap shots_of shots_are ∙ read_back l))

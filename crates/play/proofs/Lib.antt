@@ -2,6 +2,7 @@ mod RoomLaws
 pub mod Shots
 pub mod LoopTheorems
 pub mod Summing
+pub mod Zipped
 pub mod Blocks
 pub mod Runs
 pub mod Answered

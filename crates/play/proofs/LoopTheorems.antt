@@ -13,8 +13,7 @@ use Rattle.streams.specs.Recurrence.{Sound}
 use Rattle.text.specs.Scan.{lines}
 use Rattle.job_lines.specs.Forms.{Form, seeds, sigma, shot, no_form}
 use Rattle.job_reader.specs.Limits.{most_bytes, most_shots, most_distance}
-use Rattle.job_reader.specs.Refusals.{first_bad}
-use Rattle.job_reader.specs.declared.walk.BadLine.{BadLine}
+use Rattle.job_reader.specs.Refusals.{Verdict, first_bad}
 use Rattle.job_reader.proofs.Accepted.{sigma_within}
 use Rattle.job_reader.specs.Setting.{start, setting_on, Steady}
 use Rattle.job.specs.Job as job
@@ -27,8 +26,9 @@ use Rattle.job.proofs.Theorems as jobs
 use Rattle.noisy_shot.specs.Shots.{Shot}
 use Rattle.job_lines.specs.Links.{follows, station_code, Following}
 use Rattle.job_reader.specs.Loop as loop
+use Rattle.job_reader.specs.declared.loops.LoopShot.{LoopShot}
+use Rattle.job_reader.specs.Loop.{LoopAnswer}
 use Rattle.play.specs.LoopTheorems.{Theorems}
-use Rattle.job_reader.specs.declared.loops.LoopAnswer.{LoopAnswer}
 use Rattle.job_reader.proofs.Going.{kept_yes}
 use Rattle.play.proofs.Shots.{Shots, later_shots, few_lines, shots_count, setting_kept, kept_shots, by_heads, forms_read}
 
@@ -40,7 +40,7 @@ linked_job xs (job.refused code line) = loop.refused code line
 linked_job xs (job.listed bytes) =
     cond (eqb (loop.unlinked_line 1 [] xs) 0) (loop.accepted (loop.setting_in start xs) (loop.shots_in xs)) (loop.refused 23 (loop.unlinked_line 1 [] xs))
 
-by_judge : (xs : List Form) (b : BadLine) (o : job.Outcome) → Judged b o → loop.linked xs b ≡ linked_job xs o
+by_judge : (xs : List Form) (b : Verdict) (o : job.Outcome) → Judged b o → loop.linked xs b ≡ linked_job xs o
 by_judge xs b (job.refused n k) j = rw (j.0, ne_eqb n 0 (λ z. omega (arith, j.1, z)))
 by_judge xs b (job.listed bytes) j = rw j
 
@@ -169,12 +169,12 @@ module _ (r : LoopAnswer) where
 
 unfoldable pub Within : List Shot → Type 0
 Within [] = Unit {0}
-Within (x ∷ l) = (x.distance ≤ most_distance) × (x.step < 65536) × Within l
+Within (x ∷ l) = (x.distance ≤ most_distance) × Within l
 
 shots_within : (ys : List Form) → Shots ys → Within (loop.shots_in ys)
 unfolding Shots Within loop.shots_in
 shots_within [] h = tt
-shots_within (shot from to d b ∷ ys) h = (h.2, omega (arith, h.3), shots_within ys h.4)
+shots_within (shot from to d b ∷ ys) h = (h.2, shots_within ys h.4)
 shots_within (seeds a0 a1 a2 b0 b1 b2 ∷ ys) h = absurd h
 shots_within (sigma d b ∷ ys) h = absurd h
 shots_within (no_form ∷ ys) h = absurd h
@@ -212,10 +212,10 @@ ready text s l e =
 
 -- ---- The memory
 
-Kept : List ℕ → List Form → Type 0
-Kept memory xs = length (loop.shots_in xs) ≤ length memory → take (length (loop.shots_in xs)) (loop.kept_from 1 xs memory) ≡ map loop.packed (loop.shots_in xs)
+Kept : List LoopShot → List Form → Type 0
+Kept memory xs = length (loop.shots_in xs) ≤ length memory → take (length (loop.shots_in xs)) (loop.kept_from 1 xs memory) ≡ map loop.kept_shot (loop.shots_in xs)
 
-kept_heads : (memory : List ℕ) (a0 a1 a2 b0 b1 b2 d b : ℕ) (ys : List Form) → Accepts 1 (seeds a0 a1 a2 b0 b1 b2 ∷ sigma d b ∷ ys)
+kept_heads : (memory : List LoopShot) (a0 a1 a2 b0 b1 b2 d b : ℕ) (ys : List Form) → Accepts 1 (seeds a0 a1 a2 b0 b1 b2 ∷ sigma d b ∷ ys)
     → Kept memory (seeds a0 a1 a2 b0 b1 b2 ∷ sigma d b ∷ ys)
 unfolding Kept Accepts loop.shots_in loop.kept_on
 kept_heads memory a0 a1 a2 b0 b1 b2 d b ys a room =
@@ -224,13 +224,13 @@ kept_heads memory a0 a1 a2 b0 b1 b2 d b ys a room =
     rw (n, kept_yes 1 (seeds a0 a1 a2 b0 b1 b2) (sigma d b ∷ ys) memory a.1, kept_yes 2 (sigma d b) ys memory a.2.1)
     (kept_shots ys 3 memory (omega arith) a.2.2 (omega (arith, n, room)))
 
-kept : (text memory : List ℕ) (s : Setting) (l : List Shot) → loop.loop_of text ≡ loop.accepted s l → length l ≤ length memory
-    → take (length l) (loop.memory_after text memory) ≡ map loop.packed l
+kept : (text : List ℕ) (memory : List LoopShot) (s : Setting) (l : List Shot) → loop.loop_of text ≡ loop.accepted s l → length l ≤ length memory
+    → take (length l) (loop.memory_after text memory) ≡ map loop.kept_shot l
 unfolding loop.memory_after Kept
 kept text memory s l e room =
     let w = says text s l e in
     let held : Kept memory w.forms = by_heads (Kept memory) (kept_heads memory) w.forms w.accepts w.enough in
-    let whole : take (length (loop.shots_in w.forms)) (loop.kept_from 1 w.forms memory) ≡ map loop.packed (loop.shots_in w.forms) = held (rw w.shots room) in
+    let whole : take (length (loop.shots_in w.forms)) (loop.kept_from 1 w.forms memory) ≡ map loop.kept_shot (loop.shots_in w.forms) = held (rw w.shots room) in
     let same : loop.memory_after text memory ≡ loop.kept_from 1 w.forms memory = rw (le-ltb most_bytes (length text) w.short, w.read) in
     ap (take (length l)) same ∙ rw w.shots at whole
 

@@ -40,11 +40,11 @@ use Rattle.misclosure.proofs.Theorems as listingLaws
 use Rattle.job_lines.specs.Links.{Following}
 use Rattle.job_reader.specs.Loop as loop
 use Rattle.play.proofs.Shots.{Shots, later_shots, few_lines, setting_kept, by_heads}
-use Rattle.play.proofs.LoopTheorems.{Within, Ready, ready, says, linked_follow, same_loop, not_accepted, refused_code}
+use Rattle.play.proofs.LoopTheorems.{Ready, ready, says, linked_follow, same_loop, not_accepted, refused_code}
 use Rattle.play.specs.Play.{played_shots, sum_at, miss_at, misses_from, room_for, play_of, answer_of, misses_after}
 use Rattle.play.specs.Private.{setting_of, noisy_shots}
 use Rattle.play.specs.PlayBack.{reseeded, IsMisclosure, code_of, leaves, Theorems}
-use Rattle.play.proofs.Answered.{unpacked_are}
+use Rattle.play.proofs.Answered.{read_back}
 use Rattle.play.proofs.Blocks.{played_are}
 use Rattle.play.proofs.Runs.{misses_joined}
 use Rattle.play.proofs.Rows.{noisy_rows, rows_printed, rows_linked, rows_played, rows_count}
@@ -66,12 +66,12 @@ module _ (g : Generator) (h : Sound g) where
       samples_words fraction_bits n g h none room
       ∙ sym (samples_words fraction_bits n (fresh g.a g.b) fresh_sound refl (omega (arith, room)))
 
-  same_play : (l : List Shot) (d b : ℕ) → Within l → g.waiting ≡ 0 → g.count + length l ≤ most_count
+  same_play : (l : List Shot) (d b : ℕ) → g.waiting ≡ 0 → g.count + length l ≤ most_count
       → played_shots (setting_of g d b) l ≡ played_shots (setting_of (fresh g.a g.b) d b) l
-  same_play l d b within none room =
-      let zs = map loop.packed l in
-      let n : length zs ≡ length l = length-map l loop.packed in
-      let read = unpacked_are l within in
+  same_play l d b none room =
+      let zs = map loop.kept_shot l in
+      let n : length zs ≡ length l = length-map l loop.kept_shot in
+      let read = read_back l in
       ap (played_shots (setting_of g d b)) (sym read)
       ∙ sym (played_are zs d b g)
       ∙ ap (noisy_shots d b zs) (same_samples (length zs) none (omega (arith, room, n)))
@@ -109,7 +109,7 @@ module _ (g : Generator) (h : Sound g) where
 -- ---- The job with the registers of a record as seeds
 
 module _ (g : Generator) (h : Sound g) (none : g.waiting ≡ 0) (d b : ℕ) (ys : List Form) (second : jobs.Accepts 2 (sigma d b ∷ ys))
-    (within : Within (loop.shots_in ys)) (room : g.count + length (loop.shots_in ys) ≤ most_count) (follow : Following [] ys) where
+    (room : g.count + length (loop.shots_in ys) ≤ most_count) (follow : Following [] ys) where
   abbrev forms : List Form
   forms = seeds_line g h ∷ sigma d b ∷ ys
 
@@ -161,7 +161,7 @@ module _ (g : Generator) (h : Sound g) (none : g.waiting ≡ 0) (d b : ℕ) (ys 
       let fresh-is = (seeded g.a g.b h.range_a h.range_b (reseeds g h)).0 in
       let same : low_shots (listings.spans_in (noisy_rows after_seeds ys)) ≡ played_shots (setting_of g d b) (loop.shots_in ys) = rows_played ys after_seeds shots
       ∙ ap (λ (x : Generator). played_shots (setting_of x d b) (loop.shots_in ys)) fresh-is
-      ∙ sym (same_play g h (loop.shots_in ys) d b within none room) in
+      ∙ sym (same_play g h (loop.shots_in ys) d b none room) in
       (listings.text_of false (noisy_rows after_seeds ys), listing, ap miss_of reads ∙ rw same)
 
 -- ---- Play j
@@ -180,7 +180,7 @@ module _ (plays j : ℕ) (more : j < plays) where
       let moved-is = after_moved (j * n) g prepared.sound prepared.none (omega (arith, room, least)) in
       let follow = (linked_follow ys 3 [] (later_shots ys 3 (omega arith) second.2) (omega arith)).0 linked in
       rw (after_first x (sigma d b ∷ ys) printable, moved-is)
-      (its_miss _ (moved_sound (j * n) g prepared.sound) prepared.none d b ys second prepared.within (omega (arith, room, least)) follow)
+      (its_miss _ (moved_sound (j * n) g prepared.sound) prepared.none d b ys second (omega (arith, room, least)) follow)
 
   Holds : List Form → Type 0
   Holds xs = loop.unlinked_line 1 [] xs ≡ 0 → Ready (loop.setting_in start xs) (loop.shots_in xs)

@@ -2,17 +2,19 @@
 use Prim.Native.Nat.{ℕ, ◌+◌, ◌-◌, ◌*◌, ◌/◌, ◌%◌, ◌^◌, ◌≤◌, ◌<◌}
 use native.Mathlib.Nat.{mul-zero, mul-le-mul}
 use native.Mathlib.Omega.{arith}
-use mathlib.Core.Path.{◌≡◌, ap, ◌∙◌}
-use borrow.Author.Tests.{le-leb, lt-leb}
+use mathlib.Core.Path.{◌≡◌, refl, ap, ◌∙◌}
+use mathlib.Core.Bool.{Bool, true, false}
+use lib.Dec.{ltb}
+use borrow.Author.Tests.{le-leb, lt-leb, ltb-true, ltb-false}
 use Rattle.streams.specs.Streams.{most_count}
-use Rattle.play.specs.Room.{room_of}
+use Rattle.play.specs.Room.{has_room}
 
-pub no_shots : (plays shots : ℕ) → shots ≡ 0 → 0 ≡ room_of plays shots
+pub no_shots : (plays shots : ℕ) → shots ≡ 0 → true ≡ has_room plays shots
 no_shots plays shots e =
     let z : plays * shots ≡ 0 = ap (λ (n : ℕ). plays * n) e ∙ mul-zero plays in
     rw (le-leb (plays * shots) most_count (omega (arith, z)))
 
-pub too_many_lem : (plays shots : ℕ) → 0 < shots → most_count < plays → 13 ≡ room_of plays shots
+pub too_many_lem : (plays shots : ℕ) → 0 < shots → most_count < plays → false ≡ has_room plays shots
 too_many_lem plays shots some many = rw (lt-leb (plays * shots) most_count (omega (arith, mul-le-mul many some)))
 
 -- ---- the upper half of the product, from the halves of one factor
@@ -42,8 +44,15 @@ module _ (plays shots : ℕ) where
       expanded : (a b n : ℕ) → (a * 2 ^ 32 + b) * n ≡ a * n * 2 ^ 32 + b * n
       expanded a b n = omega arith
 
-  pub has_room : a * shots + b * shots / 2 ^ 32 < 2 ^ 32 → 0 ≡ room_of plays shots
-  has_room few = rw (le-leb (plays * shots) most_count (omega (arith, whole)))
+  below : a * shots + b * shots / 2 ^ 32 < 2 ^ 32 → true ≡ has_room plays shots
+  below few = rw (le-leb (plays * shots) most_count (omega (arith, whole)))
 
-  pub no_room : 2 ^ 32 ≤ a * shots + b * shots / 2 ^ 32 → 13 ≡ room_of plays shots
+  no_room : 2 ^ 32 ≤ a * shots + b * shots / 2 ^ 32 → false ≡ has_room plays shots
   no_room many = rw (lt-leb (plays * shots) most_count (omega (arith, whole)))
+
+  pub by_halves : ltb (a * shots + b * shots / 2 ^ 32) (2 ^ 32) ≡ has_room plays shots
+  by_halves = by_test (ltb (a * shots + b * shots / 2 ^ 32) (2 ^ 32)) refl
+    where
+      by_test : (t : Bool) → ltb (a * shots + b * shots / 2 ^ 32) (2 ^ 32) ≡ t → t ≡ has_room plays shots
+      by_test true e = below (ltb-true _ _ e)
+      by_test false e = no_room (ltb-false _ _ e)

@@ -19,6 +19,7 @@ use Rattle.job.specs.Theorems.{text_of, Accepts}
 use Rattle.job_reader.specs.declared.walk.Setting.{Setting}
 use Rattle.job.proofs.Jobs.{lines_text}
 use Rattle.job_reader.specs.Loop as loop
+use Rattle.job_reader.specs.declared.loops.LoopShot.{LoopShot}
 use Rattle.job_reader.proofs.Going.{kept_yes}
 
 -- the forms of the text that says forms
@@ -73,18 +74,18 @@ setting_kept (sigma d b ∷ xs) s h = absurd h
 setting_kept (no_form ∷ xs) s h = absurd h
 
 -- and stand in the memory from their place on
-pub kept_shots : (xs : List Form) (k : ℕ) (memory : List ℕ) → 3 ≤ k → Accepts k xs → k - 3 + length xs ≤ length memory
-    → take (k - 3 + length xs) (loop.kept_from k xs memory) ≡ take (k - 3) memory ++ map loop.packed (loop.shots_in xs)
+pub kept_shots : (xs : List Form) (k : ℕ) (memory : List LoopShot) → 3 ≤ k → Accepts k xs → k - 3 + length xs ≤ length memory
+    → take (k - 3 + length xs) (loop.kept_from k xs memory) ≡ take (k - 3) memory ++ map loop.kept_shot (loop.shots_in xs)
 unfolding Accepts loop.kept_from loop.kept_on loop.shots_in Shots
 kept_shots [] k memory h a room = let n : k - 3 + 0 ≡ k - 3 = omega arith in rw n (sym (append-nil (take (k - 3) memory)))
 kept_shots (shot from to d b ∷ xs) k memory h a room =
-    let p = loop.packed (record { distance = d; step = b }) in
+    let p = loop.kept_shot (record { distance = d; step = b }) in
     let i : k + 1 - 3 ≡ suc (k - 3) = omega (arith, h) in
     let n : k - 3 + suc (length xs) ≡ k + 1 - 3 + length xs = omega (arith, h) in
     let inside : k - 3 < length memory = omega (arith, room) in
     let rest = kept_shots xs (k + 1) (set memory (k - 3) p) (omega (arith, h)) a.2 (omega (arith, room, h, length-set memory (k - 3) p)) in
     rw (n, kept_yes k (shot from to d b) xs memory a.1)
-    (rest ∙ rw (i, take-suc-set memory (k - 3) p inside) (append_assoc (take (k - 3) memory) (p ∷ []) (map loop.packed (loop.shots_in xs))))
+    (rest ∙ rw (i, take-suc-set memory (k - 3) p inside) (append_assoc (take (k - 3) memory) (p ∷ []) (map loop.kept_shot (loop.shots_in xs))))
 kept_shots (seeds a0 a1 a2 b0 b1 b2 ∷ xs) k memory h a room = absurd (later_shots (seeds a0 a1 a2 b0 b1 b2 ∷ xs) k h a)
 kept_shots (sigma d b ∷ xs) k memory h a room = absurd (later_shots (sigma d b ∷ xs) k h a)
 kept_shots (no_form ∷ xs) k memory h a room = absurd (later_shots (no_form ∷ xs) k h a)

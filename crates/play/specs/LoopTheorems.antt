@@ -4,9 +4,10 @@ use Rattle.job_lines.specs.Forms.{Form}
 use Rattle.job_reader.specs.Setting.{start}
 use Rattle.job.specs.Job as job
 use Rattle.job_reader.specs.declared.walk.Setting.{Setting}
+use Rattle.job_reader.specs.declared.loops.LoopShot.{LoopShot}
 use Rattle.noisy_shot.specs.Shots.{Shot}
 use Rattle.job_lines.specs.Links.{Following}
-use Rattle.job_reader.specs.Loop.{forms_of, setting_in, shots_in, refused, accepted, loop_of, packed, memory_after}
+use Rattle.job_reader.specs.Loop.{forms_of, setting_in, shots_in, refused, accepted, loop_of, kept_shot, memory_after}
 
 pub record Theorems : Type 0 where
   -- a loop is refused as its job is
@@ -22,5 +23,5 @@ pub record Theorems : Type 0 where
       → loop_of text ≡ refused 23 (3 + length xs)
   -- an accepted loop has at most 500 shots, and memory with room for them begins with them
   pub few : (text : List ℕ) (s : Setting) (l : List Shot) → loop_of text ≡ accepted s l → length l ≤ 500
-  pub kept : (text memory : List ℕ) (s : Setting) (l : List Shot) → loop_of text ≡ accepted s l → length l ≤ length memory
-      → take (length l) (memory_after text memory) ≡ map packed l
+  pub kept : (text : List ℕ) (memory : List LoopShot) (s : Setting) (l : List Shot) → loop_of text ≡ accepted s l → length l ≤ length memory
+      → take (length l) (memory_after text memory) ≡ map kept_shot l

@@ -1,12 +1,17 @@
 -- For private functions; no public contract cites these.
-use Rattle.std.specs.Prelude.{ℕ, ◌+◌, ◌*◌, ◌/◌, ◌%◌, ◌^◌, ◌≤◌, ◌<◌, List, [], ◌∷◌, map, ℤ, pos, nat_abs, length, get_or}
+use Rattle.std.specs.Prelude.{ℕ, ◌+◌, ◌*◌, ◌^◌, ◌≤◌, ◌<◌, List, [], ◌∷◌, map, ℤ, pos, nat_abs, length, get_or, Result, Ok, Err}
 use Rattle.streams.specs.declared.Generator.{Generator}
 use Rattle.noisy_shot.specs.Rounding.{noisy_distance, noisy_bearing}
 use Rattle.job_reader.specs.Limits as limits
+use Rattle.job_reader.specs.declared.loops.LoopShot.{LoopShot}
 use Rattle.job_reader.specs.declared.walk.Setting.{Setting}
 use Rattle.noisy_shot.specs.Shots.{Shot}
 use Rattle.sums.specs.Sums.{most_distance}
+use Rattle.job_reader.specs.Refusals.{code_of, line_of}
 use Rattle.play.specs.declared.sum.Sums.{Sums}
+use Rattle.play.specs.declared.PlayAnswer.{PlayAnswer}
+use Rattle.play.specs.declared.refusal.Refusal.{Refusal}
+use Rattle.play.specs.declared.refusal.Refusal.TheVariants.{Job, NoRoom}
 
 abbrev pub setting_of : Generator → ℕ → ℕ → Setting
 setting_of g distance bearing = record { generator = g; distance = distance; bearing = bearing }
@@ -15,28 +20,25 @@ setting_of g distance bearing = record { generator = g; distance = distance; bea
 abbrev pub chunk_shots : ℕ
 chunk_shots = 32
 
--- a shot in memory: 65536 times its distance, and its bearing
-abbrev pub unpacked : ℕ → Shot
-unpacked z = record { distance = z / 65536; step = z % 65536 }
+-- a shot in memory
+abbrev pub shot_of : LoopShot → Shot
+shot_of z = record { distance = z.distance; step = z.bearing }
 
-abbrev pub unpacked_all : List ℕ → List Shot
-unpacked_all zs = map unpacked zs
+abbrev pub shots_of : List LoopShot → List Shot
+shots_of zs = map shot_of zs
 
 -- it with two samples
-abbrev pub noisy_of : (distance bearing z : ℕ) → ℤ → ℤ → Shot
+abbrev pub noisy_of : (distance bearing : ℕ) → LoopShot → ℤ → ℤ → Shot
 noisy_of distance bearing z x y =
-    record { distance = noisy_distance distance (z / 65536) x; step = noisy_bearing bearing (z % 65536) y }
+    record { distance = noisy_distance distance z.distance x; step = noisy_bearing bearing z.bearing y }
 
-unfoldable pub noisy_shots : (distance bearing : ℕ) → List ℕ → List ℤ → List Shot
+unfoldable pub noisy_shots : (distance bearing : ℕ) → List LoopShot → List ℤ → List Shot
 noisy_shots d b [] ss = []
 noisy_shots d b (z ∷ zs) [] = []
 noisy_shots d b (z ∷ zs) (x ∷ []) = []
 noisy_shots d b (z ∷ zs) (x ∷ y ∷ ss) = noisy_of d b z x y ∷ noisy_shots d b zs ss
 
--- distances within a job's range, and samples of the size that a pair has at most
-unfoldable pub Near : List ℕ → Type 0
-Near zs = (i : ℕ) → i < length zs → get_or zs i 0 / 65536 ≤ limits.most_distance
-
+-- samples of the size that a pair has at most
 abbrev pub largest_sample : ℕ
 largest_sample = 16879
 
@@ -56,3 +58,9 @@ pub record Spare (s : Sums) (n : ℕ) : Type 0 where
 pub record Grown (s t : Sums) (n : ℕ) : Type 0 where
   pub east : nat_abs t.east ≤ nat_abs s.east + n * most
   pub north : nat_abs t.north ≤ nat_abs s.north + n * most
+
+-- what is returned says
+abbrev pub answer_in : Result Unit Refusal → PlayAnswer
+answer_in (Ok done) = record { code = 0; line = 0 }
+answer_in (Err (Job refused)) = record { code = code_of refused; line = line_of refused }
+answer_in (Err NoRoom) = record { code = 13; line = 0 }

@@ -1,5 +1,5 @@
 -- The inverse of a divisor h (65536 + i) from the reciprocal of h, and the quotient by way of it.
-use Rattle.std.proofs.Common.{◌≡◌, ℕ, suc, ◌+◌, ◌-◌, ◌*◌, ◌/◌, ◌%◌, ◌^◌, ◌<◌, ◌≤◌, refl, ap, le_of_lt, mul-le-mul_right, mod-eq_of_lt, div-lt_iff_lt-mul, mul-le-mul, le_antisymm, mul-le-mul_left, lt_of_not-le, le-div_iff_mul-le, arith}
+use Rattle.std.proofs.Common.{◌≡◌, ℕ, ◌+◌, ◌*◌, ◌/◌, ◌%◌, ◌^◌, ◌<◌, ◌≤◌, refl, ap, le_of_lt, mul-le-mul_right, mod-eq_of_lt, div-lt_iff_lt-mul, mul-le-mul, le_antisymm, mul-le-mul_left, lt_of_not-le, le-div_iff_mul-le, arith}
 use native.Mathlib.Decide.{dec_le}
 use Rattle.tables.specs.Tables.{entry_of}
 use Rattle.log_coarse_lookup.specs.Reciprocals.{reciprocals}

@@ -10,8 +10,7 @@ use Rattle.exact.specs.Fraction.{Fraction}
 use Rattle.exact.specs.Pair.{Close}
 use Rattle.radius.specs.Steps.{number_bits, inverse}
 use Rattle.box_muller.specs.Sample.{first_of, second_of, samples_of}
-use Rattle.box_muller.proofs.Closeness.{Room, answer_close}
-use Rattle.sample.specs.Samples.{samples_at}
+use Rattle.sample.specs.Samples.{samples_at, Within}
 
 -- code and memory are those of the answer
 abbrev pub Answered : (f k v code : ℕ) → List ℤ → Type 0
@@ -21,16 +20,18 @@ Answered f k v code out = (code ≡ (samples_of f k v).code) × (out ≡ (sample
 abbrev pub Near : (limit : Fraction) (f k v : ℕ) → List ℤ → Type 0
 Near limit f k v out = k < 2 ^ number_bits → v < 65536 → Close limit f (inverse k) v (get_or out 0 (pos 0)) (get_or out 1 (pos 0))
 
-pub answer_near : {limit : Fraction} {f k v code : ℕ} {out : List ℤ} → Room limit f → Answered f k v code out → Near limit f k v out
-answer_near {limit} {f} {k} {v} room answered hk hv = rw answered.1 (answer_close limit f k v room (samples_of f k v) refl hk hv)
-
-pub refused_two : (f k v : ℕ) → 2 ^ number_bits ≤ k → Answered f k v 2 (pos 0 ∷ pos 0 ∷ [])
+pub answer_near : {limit : Fraction} {f k v code : ℕ} {out : List ℤ} → Within limit f → Answered f k v code out → Near limit f k v out
 unfolding samples_of
-refused_two f k v large = rw (le-leb (2 ^ number_bits) k large) (refl, refl)
+answer_near {limit} {f} {k} {v} within answered hk hv =
+    rw (answered.1, lt-leb (2 ^ number_bits) k hk, le-ltb 65535 v (omega (arith, hv))) (within k v hk hv)
 
-pub refused_three : (f k v : ℕ) → k < 2 ^ number_bits → 65535 < v → Answered f k v 3 (pos 0 ∷ pos 0 ∷ [])
+pub refused_two : (f k v : ℕ) {out : List ℤ} → out ≡ pos 0 ∷ pos 0 ∷ [] → 2 ^ number_bits ≤ k → Answered f k v 2 out
 unfolding samples_of
-refused_three f k v small large = rw (lt-leb (2 ^ number_bits) k small, lt-ltb 65535 v large) (refl, refl)
+refused_two f k v none large = rw (none, le-leb (2 ^ number_bits) k large) (refl, refl)
+
+pub refused_three : (f k v : ℕ) {out : List ℤ} → out ≡ pos 0 ∷ pos 0 ∷ [] → k < 2 ^ number_bits → 65535 < v → Answered f k v 3 out
+unfolding samples_of
+refused_three f k v none small large = rw (none, lt-leb (2 ^ number_bits) k small, lt-ltb 65535 v large) (refl, refl)
 
 pub accepted : (f k v : ℕ) {out : List ℤ} → k < 2 ^ number_bits → v ≤ 65535 → out ≡ samples_at f ((k * 65536 + v) ∷ []) → Answered f k v 0 out
 unfolding samples_of samples_at

@@ -71,10 +71,11 @@ pub record Chunk (room most place end : ℕ) : Type 0 where
 pub chunk_is : {room most place end : ℕ} → room % 2 ≡ 0 → place % 2 ≡ 0 → 0 < most → place < room → end ≡ min room (place + 2 * most) → Chunk room most place end
 chunk_is even₀ even some more e = record { inside = omega arith; some = omega arith; few = omega arith; whole = omega arith }
 
--- the next chunk, between two turns
-pub next_chunk : {f : ℕ} {z₀ p₀ r₀ x₀ c₀ f₀ : List ℕ} {out₀ : List ℤ} {u : Lanes} {z p r x c fi : List ℕ} {out : List ℤ} {state : Lanes} {place end : ℕ} → Going f z₀ p₀ r₀ x₀ c₀ f₀ out₀ u z p r x c fi out state place → 0 < length z₀ → length out₀ % 2 ≡ 0
-    → place < length out → end ≡ min (length out) (place + 2 * length z) → Chunk (length out) (length z) place end
-next_chunk going some even more e = chunk_is (omega (arith, going.reached.length_kept, even)) going.reached.even (omega (arith, going.z_kept, some)) more e
+-- the next chunk, between two turns; the memory has as many elements as values
+pub next_chunk : {f : ℕ} {z₀ p₀ r₀ x₀ c₀ f₀ : List ℕ} {out₀ : List ℤ} {u : Lanes} {z p r x c fi : List ℕ} {out : List ℤ} {state : Lanes} {place end n m : ℕ}
+    → Going f z₀ p₀ r₀ x₀ c₀ f₀ out₀ u z p r x c fi out state place → length out₀ ≡ n → length out ≡ m → 0 < length z₀ → n % 2 ≡ 0
+    → place < m → end ≡ min m (place + 2 * length z) → Chunk m (length z) place end
+next_chunk going before now some even more e = chunk_is (omega (arith, going.reached.length_kept, before, now, even)) going.reached.even (omega (arith, going.z_kept, some)) more e
 
 module _ {room most place end : ℕ} (chunk : Chunk room most place end) (z : List ℕ) (size : length z ≡ most) where
   -- its words are the first of z
@@ -85,7 +86,7 @@ module _ {room most place end : ℕ} (chunk : Chunk room most place end) (z : Li
   words_size = simp length-take (omega (arith, words_room))
 
   -- what is asked of a chunk
-  module _ (out : List ℤ) (out-size : length out ≡ room) where
+  module _ {A : Type 0} (out : List A) (out-size : length out ≡ room) where
     part_size : length (take (end - place) (drop place out)) ≡ end - place
     part_size = simp (length-take, length-drop) (omega (arith, chunk.inside, chunk.some))
 
@@ -102,59 +103,59 @@ module _ {room most place end : ℕ} (chunk : Chunk room most place end) (z : Li
       omega (arith, chunk.whole),
     )
 
-    -- one chunk more
-    module _ {f : ℕ} {out₀ new : List ℤ} {u state next : Lanes} (r : Reached f out₀ u out state place) (same : room ≡ length out₀)
-        (drawn : LanesDrawn f (length (take ((end - place) / 2 - 0) z)) state next new) where
-      halves : place / 2 + (end - place) / 2 ≡ end / 2
-      halves = omega (arith, r.even, chunk.some)
+  -- one chunk more
+  module _ {f : ℕ} {out₀ out new : List ℤ} (out-size : length out ≡ room) {u state next : Lanes} (r : Reached f out₀ u out state place) (same : room ≡ length out₀)
+      (drawn : LanesDrawn f (length (take ((end - place) / 2 - 0) z)) state next new) where
+    halves : place / 2 + (end - place) / 2 ≡ end / 2
+    halves = omega (arith, r.even, chunk.some)
 
-      new_is : new ≡ samples_at f (words ((end - place) / 2) (repeat advance (place / 2) (upper u)) (repeat advance (place / 2) (lower u)))
-      new_is = drawn.written ∙ rw (words_size, r.now_at.a_at, r.now_at.b_at)
+    new_is : new ≡ samples_at f (words ((end - place) / 2) (repeat advance (place / 2) (upper u)) (repeat advance (place / 2) (lower u)))
+    new_is = drawn.written ∙ rw (words_size, r.now_at.a_at, r.now_at.b_at)
 
-      new_size : length new ≡ end - place
-      new_size = ap length new_is ∙ drawn_length f ((end - place) / 2) _ _ ∙ omega (arith, chunk.whole)
+    new_size : length new ≡ end - place
+    new_size = ap length new_is ∙ drawn_length f ((end - place) / 2) _ _ ∙ omega (arith, chunk.whole)
 
-      before_size : length (take place out) ≡ place
-      before_size = simp length-take (omega (arith, r.within))
+    before_size : length (take place out) ≡ place
+    before_size = simp length-take (omega (arith, r.within))
 
-      done_is : take end (put_mid place (end - place) out new) ≡ samples_at f (words (end / 2) (upper u) (lower u))
-      done_is =
-          let whole : length (take place out) + (end - place) ≡ end = omega (arith, before_size, chunk.some) in
-          rw whole at (take-append-add (take place out) (new ++ post_of place (end - place) out) (end - place))
-          ∙ rw (take_at new (post_of place (end - place) out) (end - place) new_size, r.done, new_is, ← halves, words_add (place / 2) ((end - place) / 2) (upper u) (lower u))
-          (sym (samples_append f (words (place / 2) (upper u) (lower u)) _))
+    done_is : take end (put_mid place (end - place) out new) ≡ samples_at f (words (end / 2) (upper u) (lower u))
+    done_is =
+        let whole : length (take place out) + (end - place) ≡ end = omega (arith, before_size, chunk.some) in
+        rw whole at (take-append-add (take place out) (new ++ post_of place (end - place) out) (end - place))
+        ∙ rw (take_at new (post_of place (end - place) out) (end - place) new_size, r.done, new_is, ← halves, words_add (place / 2) ((end - place) / 2) (upper u) (lower u))
+        (sym (samples_append f (words (place / 2) (upper u) (lower u)) _))
 
-      pub again : Reached f out₀ u (put_mid place (end - place) out new) next end
-      again =
-          record {
-            within = omega (arith, chunk.inside);
-            even = omega (arith, r.even, chunk.whole, chunk.some);
-            length_kept = same_len_mid place (end - place) out new (new_size ∙ sym part_size) ∙ out-size ∙ same;
-            now_at = record {
-              a_at = drawn.now_at.a_at ∙ rw (words_size, r.now_at.a_at, ← halves) (repeat_add advance (place / 2) ((end - place) / 2) (upper u));
-              b_at = drawn.now_at.b_at ∙ rw (words_size, r.now_at.b_at, ← halves) (repeat_add advance (place / 2) ((end - place) / 2) (lower u));
-            };
-            done = done_is;
-          }
+    pub again : Reached f out₀ u (put_mid place (end - place) out new) next end
+    again =
+        record {
+          within = omega (arith, chunk.inside);
+          even = omega (arith, r.even, chunk.whole, chunk.some);
+          length_kept = same_len_mid place (end - place) out new (new_size ∙ sym (part_size out out-size)) ∙ out-size ∙ same;
+          now_at = record {
+            a_at = drawn.now_at.a_at ∙ rw (words_size, r.now_at.a_at, ← halves) (repeat_add advance (place / 2) ((end - place) / 2) (upper u));
+            b_at = drawn.now_at.b_at ∙ rw (words_size, r.now_at.b_at, ← halves) (repeat_add advance (place / 2) ((end - place) / 2) (lower u));
+          };
+          done = done_is;
+        }
 
 -- the part of z that was lent is back
 pub part_kept : (k : ℕ) {m : ℕ} (z new : List ℕ) → length new ≡ length (take k z) → length z ≡ m → length (put_mid 0 k z new) ≡ m
 part_kept k z new e size = same_len_mid 0 k z new e ∙ size
 
 -- all are written
-pub ended : {f : ℕ} {out₀ out : List ℤ} {u state : Lanes} {place : ℕ} → Reached f out₀ u out state place → length out₀ ≤ place
-    → LanesDrawn f (length out₀ / 2) u state out
-ended {f} {out₀} {out} {u} {state} {place} r all =
-    let whole : place ≡ length out₀ = omega (arith, r.within) in
+pub ended : {f : ℕ} {out₀ out : List ℤ} {u state : Lanes} {place n : ℕ} → Reached f out₀ u out state place → length out₀ ≡ n → n ≤ place
+    → LanesDrawn f (n / 2) u state out
+ended {f} {out₀} {out} {u} {state} {place} {n} r size all =
+    let whole : place ≡ n = omega (arith, r.within, size) in
     record {
       now_at = subst (λ (n : ℕ). LanesAfter (n / 2) u state) whole r.now_at;
-      written = sym (take_all place out (omega (arith, r.length_kept))) ∙ r.done ∙ rw whole;
+      written = sym (take_all place out (omega (arith, r.length_kept, size))) ∙ r.done ∙ rw whole;
     }
 
 -- ---- Any length
 
-pub filled_even : {f : ℕ} {u next : Lanes} {old new : List ℤ} → length old % 2 ≡ 0 → LanesDrawn f (length old / 2) u next new → Filled f u next old new
-filled_even e drawn = record { even = λ _. drawn; odd = λ other. absurd (other e) }
+pub filled_even : {f n : ℕ} {u next : Lanes} {old new : List ℤ} → length old ≡ n → n % 2 ≡ 0 → LanesDrawn f (n / 2) u next new → Filled f u next old new
+filled_even size e drawn = record { even = λ _. rw size drawn; odd = λ other. absurd (other (rw size e)) }
 
-pub filled_odd : {f : ℕ} {u : Lanes} {old : List ℤ} → (length old % 2 ≡ 0 → ⊥) → Filled f u u old old
-filled_odd other = record { even = λ e. absurd (other e); odd = λ _. (refl, refl) }
+pub filled_odd : {f n : ℕ} {u : Lanes} {old : List ℤ} → length old ≡ n → (n % 2 ≡ 0 → ⊥) → Filled f u u old old
+filled_odd size other = record { even = λ e. absurd (other (rw size at e)); odd = λ _. (refl, refl) }

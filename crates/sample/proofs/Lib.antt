@@ -1,7 +1,7 @@
 -- Laws of the passes, of samples in the caller's memory, of one answer, and of a block that is filled chunk by chunk.
-mod ScaleLaws
+pub mod ValuesLaws
 mod PassLaws
 pub mod SamplesLaws
 mod StoredLaws
-mod AnswerLaws
+pub mod AnswerLaws
 mod ChunkLaws

@@ -1,13 +1,9 @@
 -- For private functions; no public contract cites these.
-use Rattle.std.specs.Prelude.{Bool, cond, ◌≡◌, List, ℕ, ◌/◌, ◌%◌, ◌^◌, ◌≤◌, ◌<◌, length, get_or}
+use Rattle.std.specs.Prelude.{◌≡◌, List, ℕ, ◌/◌, ◌%◌, ◌^◌, ◌≤◌, ◌<◌, length, get_or}
 use Rattle.radius.specs.Steps.{number_bits, under_root}
 use Rattle.radius.specs.Cells.{InCell}
 use Rattle.radius.specs.Root.{NearRoot}
 use Rattle.angle.specs.Rotations.{Rotated}
-
--- how many units of a sample make 2^-11
-abbrev pub scale_of : Bool → ℕ
-scale_of in18 = cond in18 4 1
 
 -- Room for n numbers in each of the five lists that the passes hand on.
 pub record Room (n : ℕ) (places r x coarse fine : List ℕ) : Type 0 where

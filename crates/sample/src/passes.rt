@@ -5,13 +5,16 @@ ghost use Rattle.std.specs.Prelude.{◌≡◌, ℕ, ◌*◌, ◌^◌, ◌≤◌,
 ghost use Rattle.radius.specs.Steps.{radius_limit};
 ghost use Rattle.angle.specs.Steps.{in_quarter, signed_of};
 ghost use Rattle.angle.specs.Rotations.{Rotated};
-ghost use Rattle.box_muller.specs.Steps.{fraction_bits, bits_of, size, rounded};
+ghost use Rattle.box_muller.specs.Steps.{size, rounded};
 ghost use Rattle.sample.specs.Samples.{samples_at};
-ghost use Rattle.sample.specs.Private.{scale_of, Room, Looked, UnderRoots, NearRoots, Ready};
+ghost use Rattle.sample.specs.Private.{Room, Looked, UnderRoots, NearRoots, Ready};
 
-use angle::Turned;
+use crate::width::Sample;
+use angle::{Rotations, SineCosine};
+use radius::Cell;
 
 // What the tables say of each z.
+// By index, here and in the passes below: several slices are read and written in step, and after an adapter of `iter_mut` a proof knows no element.
 pub fn look_up(
     z: &[u64],
     places: &mut [u64],
@@ -23,16 +26,14 @@ pub fn look_up(
     requires { Room (length z.now) places.old r.old x.old coarse.old fine.old }
     ensures { Looked z.now places.new r.new x.new coarse.new fine.new (length z.now) }
 {
-    let mut i = 0;
-    while i < z.len() {
-        let cell = radius::cell_of(z[i]);
-        let rotations = angle::rotations_of(z[i]);
+    for i in 0..z.len() {
+        let cell = Cell::of(z[i]);
+        let rotations = Rotations::of(z[i]);
         places[i] = cell.place;
         r[i] = cell.reciprocal;
         x[i] = cell.log;
         coarse[i] = rotations.coarse;
         fine[i] = rotations.fine;
-        i += 1;
     }
 }
 
@@ -41,10 +42,13 @@ pub fn under_roots(n: usize, places: &[u64], r: &[u32], x: &mut [u64])
     requires { (n ≤ length places.now) × (n ≤ length r.now) × (n ≤ length x.old) }
     ensures { UnderRoots n places.now r.now x.old x.new }
 {
-    let mut i = 0;
-    while i < n {
-        x[i] = radius::under_root(places[i], r[i], x[i]);
-        i += 1;
+    for i in 0..n {
+        let cell = Cell {
+            place: places[i],
+            reciprocal: r[i],
+            log: x[i],
+        };
+        x[i] = cell.under_root();
     }
 }
 
@@ -53,82 +57,76 @@ pub fn nears(n: usize, x: &[u64], r: &mut [u32])
     requires { (n ≤ length x.now) × (n ≤ length r.old) }
     ensures { NearRoots n x.now r.new }
 {
-    let mut i = 0;
-    while i < n {
+    for i in 0..n {
         r[i] = radius::near(x[i]);
-        i += 1;
     }
 }
 
-// The fraction bits of a sample of 16 bits, its unit in the product of F and a sine or cosine, and half of it.
-const FRACTION_BITS: u32 = 11;
+// The unit of 2^-11 in the product of F and a sine or cosine, and half of it.
+const UNIT: u64 = 1 << 39;
 
-const UNIT: u64 = 1 << (50 - FRACTION_BITS);
+const HALF: u64 = 1 << 38;
 
-const HALF: u64 = 1 << (49 - FRACTION_BITS);
-
-// The fraction bits of a sample of 18 bits, and how many of its units make one of 16 bits.
-const FRACTION_BITS_18: u32 = 13;
-
-const SCALE_18: u32 = 1 << (FRACTION_BITS_18 - FRACTION_BITS);
-
-// How many units of a sample make one of 16 bits.
-fn scale(in18: bool) -> u32
-    ensures { result ≡ scale_of in18 }
-{
-    if in18 { SCALE_18 } else { 1 }
-}
-
-// A sample's size: the nearest whole number of units, halves up, of the radius F times the size of a sine or cosine.
-fn units(in18: bool, f: u32, g: u32) -> u32
+// A sample's size: the nearest whole number of its units, halves up, of the radius F times the size of a sine or cosine.
+fn size<S: Sample>(f: u32, g: u32) -> u32
     requires { (f < radius_limit) × (g ≤ 2 ^ 30) }
-    ensures { result ≡ size (bits_of in18) f g }
+    ensures { result ≡ size S.bits f g }
 {
-    let scale = scale(in18);
-    (((f * scale) as u64 * g as u64 + HALF) / UNIT) as u32
+    (((f * S::SCALE) as u64 * g as u64 + HALF) / UNIT) as u32
 }
 
 // The two samples of a radius F, and of v by its rotations: sizes are rounded first, since rounding keeps the sign.
-pub fn pair_of(in18: bool, f: u32, v: u32, coarse: u64, fine: u64) -> Turned
-    requires { (f < radius_limit) × Rotated (in_quarter v) coarse fine }
-    ensures { (result.first ≡ rounded (bits_of in18) f (signed_of v).0) × (result.second ≡ rounded (bits_of in18) f (signed_of v).1) }
+fn pair_of<S: Sample>(f: u32, v: u32, rotations: Rotations) -> SineCosine
+    requires { (f < radius_limit) × Rotated (in_quarter v) rotations.coarse rotations.fine }
+    ensures { (result.sine ≡ rounded S.bits f (signed_of v).0) × (result.cosine ≡ rounded S.bits f (signed_of v).1) }
 {
     angle::turn(
         v / 16384,
-        units(in18, f, angle::sine(coarse, fine)),
-        units(in18, f, angle::cosine(coarse, fine)),
+        size::<S>(f, rotations.sine()),
+        size::<S>(f, rotations.cosine()),
     )
 }
 
 // The samples of each z, from its 2Q, a near radius and its rotations.
-fn sample_each(z: &[u64], x: &[u64], r: &[u32], coarse: &[u64], fine: &[u64], out: &mut [i16])
+fn sample_each<S: Sample>(
+    z: &[u64],
+    x: &[u64],
+    r: &[u32],
+    coarse: &[u64],
+    fine: &[u64],
+    out: &mut [S],
+)
     requires { Ready z.now x.now r.now coarse.now fine.now × (length out.old ≡ 2 * length z.now) }
-    ensures { out.new ≡ samples_at fraction_bits z.now }
+    ensures { S.values out.new ≡ samples_at S.bits z.now }
 {
-    let mut i = 0;
-    while i < z.len() {
+    for i in 0..z.len() {
         let f = radius::root(x[i], r[i]);
-        let pair = pair_of(false, f, (z[i] % 65536) as u32, coarse[i], fine[i]);
-        let first = pair.first as i16;
-        let second = pair.second as i16;
+        let rotations = Rotations {
+            coarse: coarse[i],
+            fine: fine[i],
+        };
+        let pair = pair_of::<S>(f, (z[i] % 65536) as u32, rotations);
+        let first = S::of_units(pair.sine);
+        let second = S::of_units(pair.cosine);
         out[2 * i] = first;
         out[2 * i + 1] = second;
-        i += 1;
     }
 }
 
 // The samples of each z. What the other slices hold does not matter.
-pub fn samples(
+// Six slices: as one struct of six arrays with the passes as its methods, which was proved, a block takes 98.3 instructions a sample and not 93.4, one of 16
+// samples 128 and not 105, and a pair on a Cortex-M4F 501 and not 412.
+pub fn samples<S: Sample>(
     z: &[u64],
     places: &mut [u64],
     r: &mut [u32],
     x: &mut [u64],
     coarse: &mut [u64],
     fine: &mut [u64],
-    out: &mut [i16],
+    out: &mut [S],
 )
     requires { Room (length z.now) places.old r.old x.old coarse.old fine.old × (length out.old ≡ 2 * length z.now) }
-    ensures { out.new ≡ samples_at fraction_bits z.now }
+    ensures { S.values out.new ≡ samples_at S.bits z.now }
 {
     look_up(z, places, r, x, coarse, fine);
     under_roots(z.len(), places, r, x);

@@ -1,3 +1,2 @@
--- Laws of signs and sizes, and the size of a sample.
+-- Laws of signs and sizes.
 pub mod Sizes
-mod SampleSize

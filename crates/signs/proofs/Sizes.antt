@@ -3,13 +3,14 @@ use mathlib.Core.Path.{◌≡◌, refl, ◌∙◌}
 use mathlib.Core.Bool.{Bool, true, false, cond}
 use Prim.Native.Nat.{ℕ, zero, suc, ◌+◌, ◌-◌, ◌*◌, ◌^◌, ◌≤◌, ◌<◌}
 use native.Mathlib.Omega.{arith}
-use native.Mathlib.Nat.{le-suc, lt_of_le_of_lt, lt_of_lt_of_le, pow-le-pow_right}
+use native.Mathlib.Nat.{lt_of_lt_of_le, pow-le-pow_right}
 use lib.Dec.{ltb}
 use lib.IntN.{ℤ, pos, negsuc, neg_ℤ, nat_abs, sub_ℕ, ◌+ℤ◌, ◌-ℤ◌, ◌*ℤ◌, +ℤ_idl}
 use lib.Signed.{nat_abs-le}
 use mir.Syntax.{Width}
 use mir.Val.{SFits, hbits, to_z, of_z}
 use mir.Facts.{to_z_pos, to_z-of_z}
+use Rattle.std.proofs.lemmas.Int.{unsigned_abs-mul, fits_signed_from_abs}
 
 -- both signs have one size
 pub nat_abs_neg : (x : ℤ) → nat_abs (neg_ℤ x) ≡ nat_abs x
@@ -34,15 +35,11 @@ pub minus_size : (x y : ℤ) → nat_abs (x -ℤ y) ≤ nat_abs x + nat_abs y
 minus_size x y = omega (arith, sum_size x (neg_ℤ y), nat_abs_neg y)
 
 pub product_size : (x y : ℤ) → nat_abs (x *ℤ y) ≡ nat_abs x * nat_abs y
-product_size (pos a) (pos b) = refl
-product_size (pos a) (negsuc b) = nat_abs_neg (pos (a * suc b))
-product_size (negsuc a) (pos b) = nat_abs_neg (pos (suc a * b))
-product_size (negsuc a) (negsuc b) = refl
+product_size = unsigned_abs-mul
 
 -- a number whose size fits the width less its sign fits the width, and reads back
 pub size_fits : (w : Width) (x : ℤ) → nat_abs x < 2 ^ hbits w → SFits w x
-size_fits w (pos n) h = record { sfits = h }
-size_fits w (negsuc n) h = record { sfits = lt_of_le_of_lt (le-suc n) h }
+size_fits = fits_signed_from_abs
 
 pub size_reads : (w : Width) (x : ℤ) → nat_abs x < 2 ^ hbits w → to_z w (of_z w x) ≡ x
 size_reads w x h = to_z-of_z (size_fits w x h)

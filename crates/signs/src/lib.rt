@@ -7,10 +7,5 @@ ghost use Rattle.std.specs.Prelude.{◌≡◌, ◌≤◌, nat_abs};
 pub fn size_of(sample: i16) -> u32
     ensures { (result ≡ nat_abs sample) × (result ≤ 32768) }
 {
-    let wide = sample as i32;
-    if wide < 0 {
-        let negated = -wide;
-        return negated as u32;
-    }
-    wide as u32
+    sample.unsigned_abs() as u32
 }

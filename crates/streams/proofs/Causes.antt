@@ -9,7 +9,7 @@ use lib.Dec.{leb, eqb}
 use borrow.Author.Tests.{leb-true, leb-false, eqb-true, eqb-false}
 use Rattle.streams.specs.declared.Generator.{Generator}
 use Rattle.streams.specs.Streams.{record_code, open_code, none_open_code, asked_code, taken_code, length_code, count_code, first_cause}
-use Rattle.streams.specs.Streams.{most_asked, most_count, Call, note_code, own_code, room_code, code_of, if_accepted}
+use Rattle.streams.specs.Streams.{most_asked, most_count, Call, note_code, own_code, room_code, code_of}
 
 -- One cause alone.
 pub lone_cause : (code : ℕ) → first_cause (code ∷ []) ≡ code
@@ -97,15 +97,6 @@ count_room g n = by_test (leb (g.count + n) most_count) refl
     by_test : (t : Bool) → leb (g.count + n) most_count ≡ t → (count_code g n ≡ 0) ↔ (g.count + n ≤ most_count)
     by_test true e = (λ h. leb-true _ _ e, λ h. rw (count_code, e))
     by_test false e = (λ h. absurd (omega (arith, rw (count_code, e) at h)), λ h. absurd (omega (arith, leb-false (g.count + n) most_count e)))
-
--- What stands for a count that has room.
-pub if_room : {A : Type 0} (g : Generator) (n : ℕ) {x y : A} (z : A) → x ≡ if_accepted (count_code g n) y z → g.count + n ≤ most_count → x ≡ y
-if_room g n z e h = e ∙ rw ((count_room g n).1 h)
-
--- A call that asks for pairs within the count's room is refused for its other causes alone.
-pub room_falls_away : (g : Generator) (note n : ℕ) {r : ℕ} → r ≡ first_cause (record_code g ∷ note ∷ 0 ∷ count_code g n ∷ [])
-    → g.count + n ≤ most_count → r ≡ first_cause (record_code g ∷ note ∷ [])
-room_falls_away g note n e h = e ∙ rw ((count_room g n).1 h)
 
 pub count_full : (g : Generator) (n : ℕ) → (count_code g n ≡ 13) ↔ (most_count < g.count + n)
 unfolding count_code

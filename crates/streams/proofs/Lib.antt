@@ -1,5 +1,6 @@
 mod Bits
 pub mod Causes
+pub mod Refused
 pub mod Order
 pub mod Register
 pub mod Theorems

@@ -1,87 +1,92 @@
-// Why a call on a record is refused: single causes, and the first of them in the order that they are tested.
+// Why a call on a record is refused: single causes, and a call's causes in the order that they are tested.
 ghost use Rattle.std.specs.Prelude.{◌≡◌, [], ◌∷◌};
+ghost use Rattle.streams.specs.Refusals.{number, code_of_result};
 ghost use Rattle.streams.specs.Streams.{record_code, open_code, none_open_code, count_code, first_cause, pairs_code};
 
-use crate::Generator;
+use crate::{Generator, RecordAnswer, Refusal};
 
-const MOST_COUNT: u64 = 0xffff_ffff_ffff_ffff;
+impl Refusal {
+    // The number that names the cause. Each error enum has its own: a trait for it would take as many lines and say no more.
+    pub fn number(self) -> u32
+        ensures { result ≡ number self }
+    {
+        self as u32
+    }
+}
 
-// The first of a call's four causes that is not 0, or 0: the record's, the note's, that of its own arguments, and the count's.
-pub fn first_of(unfit: u32, note: u32, own: u32, room: u32) -> u32
-    ensures { result ≡ first_cause (unfit ∷ note ∷ own ∷ room ∷ []) }
-{
-    if unfit != 0 {
-        return unfit;
+impl RecordAnswer {
+    // The record that an accepted call leaves.
+    pub fn accepted(next: Generator) -> RecordAnswer
+        ensures { result ≡ record { code = 0; next = next } }
+    {
+        RecordAnswer { code: 0, next }
     }
-    if note != 0 {
-        return note;
+
+    // The record that a refused call leaves, under the number of its refusal.
+    pub fn refused(refusal: Refusal, left: Generator) -> RecordAnswer
+        ensures { result ≡ record { code = number refusal; next = left } }
+    {
+        RecordAnswer {
+            code: refusal.number(),
+            next: left,
+        }
     }
-    if own != 0 {
-        return own;
-    }
-    room
 }
 
 impl Generator {
-    // The record's refusal code: 0, or why a call on it is refused.
-    pub fn record_code(self) -> u32
-        ensures { result ≡ record_code self }
+    // Whether both streams have their minima.
+    #[tactic(auto, unfolding(crate::specs::Streams::record_code))]
+    pub fn check_streams(self) -> Result<(), Refusal>
+        ensures { code_of_result result ≡ record_code self }
     {
-        let a = self.a;
-        let b = self.b;
-        if !a.is_fit() {
-            return 11;
+        if !self.a.is_fit() {
+            return Err(Refusal::FirstStream);
         }
-        if !b.is_fit() {
-            return 12;
+        if !self.b.is_fit() {
+            return Err(Refusal::SecondStream);
         }
-        0
+        Ok(())
     }
 
-    // The refusal code of n pairs more: 13 where the count would pass its most.
-    pub(crate) fn count_code(self, n: u64) -> u32
-        ensures { result ≡ count_code self n }
+    // Whether the count has room for n pairs more.
+    #[tactic(auto, unfolding(crate::specs::Streams::count_code))]
+    pub(crate) fn check_room(self, n: u64) -> Result<(), Refusal>
+        ensures { code_of_result result ≡ count_code self n }
     {
-        if MOST_COUNT - self.count < n {
-            return 13;
+        if self.count.checked_add(n).is_none() {
+            return Err(Refusal::CountFull);
         }
-        0
+        Ok(())
     }
 
-    // 14 where a request is open.
-    pub fn open_code(self) -> u32
-        ensures { result ≡ open_code self }
+    // Whether no request is open.
+    #[tactic(auto, unfolding(crate::specs::Streams::open_code))]
+    pub fn check_none_open(self) -> Result<(), Refusal>
+        ensures { code_of_result result ≡ open_code self }
     {
         if self.waiting != 0 {
-            return 14;
+            return Err(Refusal::Open);
         }
-        0
+        Ok(())
     }
 
-    // 15 where none is.
-    pub fn none_open_code(self) -> u32
-        ensures { result ≡ none_open_code self }
+    // Whether a request is open.
+    #[tactic(auto, unfolding(crate::specs::Streams::none_open_code))]
+    pub fn check_open(self) -> Result<(), Refusal>
+        ensures { code_of_result result ≡ none_open_code self }
     {
-        if self.waiting != 0 {
-            return 0;
+        if self.waiting == 0 {
+            return Err(Refusal::NoneOpen);
         }
-        15
+        Ok(())
     }
 
-    // The refusal code of a call for that many pairs, by the causes in the order that they are tested.
-    pub fn call_code(self, note: u32, own: u32, pairs: u64) -> u32
-        ensures { result ≡ first_cause (record_code self ∷ note ∷ own ∷ count_code self pairs ∷ []) }
+    // Whether n pairs can be drawn, by a call that has no arguments of its own to test.
+    pub(crate) fn check_pairs(self, n: u64) -> Result<(), Refusal>
+        ensures { code_of_result result ≡ pairs_code self n }
     {
-        let unfit = self.record_code();
-        let full = self.count_code(pairs);
-        first_of(unfit, note, own, full)
-    }
-
-    // The refusal code of a call for n pairs that has no arguments of its own to test.
-    pub(crate) fn pairs_code(self, n: u64) -> u32
-        ensures { result ≡ pairs_code self n }
-    {
-        let open = self.open_code();
-        self.call_code(open, 0, n)
+        self.check_streams()?;
+        self.check_none_open()?;
+        self.check_room(n)
     }
 }

@@ -1,8 +1,8 @@
 // A record from six numbers, and the two numbers of a pair.
-ghost use Rattle.std.specs.Prelude.{◌≡◌};
-ghost use Rattle.streams.specs.Streams.{fresh, onward, count_code, if_accepted, seed_of, uniforms_of};
+ghost use Rattle.std.specs.Prelude.{◌≡◌, ◌+◌, ◌≤◌};
+ghost use Rattle.streams.specs.Streams.{fresh, onward, most_count, seed_of, uniforms_of};
 
-use crate::{Generator, RecordAnswer, Stream, Uniforms};
+use crate::{Both, Generator, RecordAnswer, Stream, Uniforms};
 
 impl Generator {
     // A record as seeding makes it.
@@ -19,56 +19,54 @@ impl Generator {
     }
 
     // A record from six numbers.
+    // Six numbers and no two streams: the call that docs/ARCHITECTURE.md names, with the numbers of `jabulghi_seed`.
     pub fn seed(a0: u32, a1: u32, a2: u32, b0: u32, b1: u32, b2: u32) -> RecordAnswer
         ensures { result ≡ seed_of a0 a1 a2 b0 b1 b2 }
     {
-        let a = Stream {
-            s0: a0,
-            s1: a1,
-            s2: a2,
-        };
-        let b = Stream {
-            s0: b0,
-            s1: b1,
-            s2: b2,
-        };
-        let g = Generator::fresh_record(a, b);
-        let code = g.record_code();
-        if code == 0 {
-            return RecordAnswer { code, next: g };
+        let g = Generator::fresh_record(
+            Stream {
+                s0: a0,
+                s1: a1,
+                s2: a2,
+            },
+            Stream {
+                s0: b0,
+                s1: b1,
+                s2: b2,
+            },
+        );
+        match g.check_streams() {
+            Ok(()) => RecordAnswer::accepted(g),
+            Err(refusal) => {
+                let none = Stream {
+                    s0: 0,
+                    s1: 0,
+                    s2: 0,
+                };
+                RecordAnswer::refused(refusal, Generator::fresh_record(none, none))
+            }
         }
-        let none = Stream {
-            s0: 0,
-            s1: 0,
-            s2: 0,
-        };
-        let zeros = Generator::fresh_record(none, none);
-        RecordAnswer { code, next: zeros }
     }
 
-    // The same record n pairs on, its streams as they then are; the record itself where the count has no room for n.
-    pub(crate) fn onward(self, a: Stream, b: Stream, n: u64) -> Generator
-        ensures { result ≡ if_accepted (count_code self n) (onward self a b n) self }
+    // The same record n pairs on, its streams as they then are. Public for crate `noise` alone.
+    pub fn onward(self, streams: Both, n: u64) -> Generator
+        ensures { self.count + n ≤ most_count → result ≡ onward self streams.a streams.b n }
     {
-        let full = self.count_code(n);
-        if full != 0 {
-            return self;
+        Generator {
+            a: streams.a,
+            b: streams.b,
+            count: self.count.wrapping_add(n),
+            ..self
         }
-        let mut next = self;
-        next.a = a;
-        next.b = b;
-        next.count = self.count + n;
-        next
     }
 
     // The two numbers of a pair: a draw from a, then one from b, as 48 and 16 bits.
     pub fn uniforms(self) -> Uniforms
         ensures { result ≡ uniforms_of self }
     {
-        let code = self.pairs_code(1);
-        if code != 0 {
+        if let Err(refusal) = self.check_pairs(1) {
             return Uniforms {
-                code,
+                code: refusal.number(),
                 k: 0,
                 v: 0,
                 next: self,
@@ -76,11 +74,11 @@ impl Generator {
         }
         let a = self.a.advanced();
         let b = self.b.advanced();
-        let next = self.onward(a, b, 1);
+        let next = self.onward(Both { a, b }, 1);
         let high = a.word() as u64;
         let low = b.word();
         Uniforms {
-            code,
+            code: 0,
             k: high * 65536 + (low / 65536) as u64,
             v: low % 65536,
             next,

@@ -1,84 +1,87 @@
-// A request for pairs that is noted, given up or taken later, and the refusal codes of the calls that test a length or the note.
+// A request for pairs that is noted, given up or taken later, and the refusals of the calls that test a length or the note.
 ghost use Rattle.std.specs.Prelude.{◌≡◌};
-ghost use Rattle.streams.specs.Streams.{asked_code, taken_code, length_code, code_of, noted, ask_of, give_up_of};
+ghost use Rattle.streams.specs.Refusals.{code_of_result};
+ghost use Rattle.streams.specs.Streams.{asked_code, taken_code, length_code, code_of, noted, cleared, ask_of, give_up_of};
 ghost use Rattle.streams.specs.Streams.Call.{a_Block, an_ask, a_take, give_up};
 
-use crate::{Generator, RecordAnswer};
+use crate::{Generator, RecordAnswer, Refusal};
 
 // The most pairs that a request may ask for.
 const MOST_ASKED: u32 = 1_000_000;
 
 // ---- What a call tests of its own arguments
 
-// 4 for an odd length.
-fn length_code(n: usize) -> u32
-    ensures { result ≡ length_code n }
+// Whether a length is even.
+#[tactic(auto, unfolding(crate::specs::Streams::length_code))]
+fn check_length(n: usize) -> Result<(), Refusal>
+    ensures { code_of_result result ≡ length_code n }
 {
     if n % 2 != 0 {
-        return 4;
+        return Err(Refusal::OddLength);
     }
-    0
+    Ok(())
 }
 
-// 16 for a request for more pairs than it may ask for.
-fn asked_code(n: u32) -> u32
-    ensures { result ≡ asked_code n }
+// Whether a request may ask for n pairs.
+#[tactic(auto, unfolding(crate::specs::Streams::asked_code))]
+fn check_asked(n: u32) -> Result<(), Refusal>
+    ensures { code_of_result result ≡ asked_code n }
 {
     if MOST_ASKED < n {
-        return 16;
+        return Err(Refusal::WrongRequest);
     }
-    0
+    Ok(())
 }
 
-// 16 where more pairs are noted than a request may ask for, or n is not two for each of them.
-fn taken_code(g: Generator, n: usize) -> u32
-    ensures { result ≡ taken_code g n }
+// Whether a request may ask for the pairs that are noted, and n is two for each of them.
+fn check_taken(g: Generator, n: usize) -> Result<(), Refusal>
+    ensures { code_of_result result ≡ taken_code g n }
 {
-    let many = asked_code(g.asked);
-    if many != 0 {
-        return 16;
-    }
+    check_asked(g.asked)?;
     if n != 2 * g.asked as usize {
-        return 16;
+        return Err(Refusal::WrongRequest);
     }
-    0
+    Ok(())
 }
 
-// ---- The refusal codes of the calls
+// ---- What a call tests, in the order that its causes are told
 
-// Of a block of n elements.
-pub fn block_code(g: Generator, n: usize) -> u32
-    ensures { result ≡ code_of (a_Block n) g }
+// A block of n elements.
+pub fn check_block(g: Generator, n: usize) -> Result<(), Refusal>
+    ensures { code_of_result result ≡ code_of (a_Block n) g }
 {
-    let open = g.open_code();
-    let odd = length_code(n);
-    g.call_code(open, odd, (n / 2) as u64)
+    g.check_streams()?;
+    g.check_none_open()?;
+    check_length(n)?;
+    g.check_room((n / 2) as u64)
 }
 
-// Of asking for n pairs.
-fn ask_code(g: Generator, n: u32) -> u32
-    ensures { result ≡ code_of (an_ask n) g }
+// Asking for n pairs.
+fn check_ask(g: Generator, n: u32) -> Result<(), Refusal>
+    ensures { code_of_result result ≡ code_of (an_ask n) g }
 {
-    let open = g.open_code();
-    let many = asked_code(n);
-    g.call_code(open, many, n as u64)
+    g.check_streams()?;
+    g.check_none_open()?;
+    check_asked(n)?;
+    g.check_room(n as u64)
 }
 
-// Of taking into a block of n elements.
-pub fn take_code(g: Generator, n: usize) -> u32
-    ensures { result ≡ code_of (a_take n) g }
+// Taking into a block of n elements.
+pub fn check_take(g: Generator, n: usize) -> Result<(), Refusal>
+    ensures { code_of_result result ≡ code_of (a_take n) g }
 {
-    let none = g.none_open_code();
-    let other = taken_code(g, n);
-    g.call_code(none, other, g.asked as u64)
+    g.check_streams()?;
+    g.check_open()?;
+    check_taken(g, n)?;
+    g.check_room(g.asked as u64)
 }
 
-// Of giving up, which asks for no pairs.
-fn give_up_code(g: Generator) -> u32
-    ensures { result ≡ code_of give_up g }
+// Giving up, which asks for no pairs.
+fn check_give_up(g: Generator) -> Result<(), Refusal>
+    ensures { code_of_result result ≡ code_of give_up g }
 {
-    let none = g.none_open_code();
-    g.call_code(none, 0, 0)
+    g.check_streams()?;
+    g.check_open()
 }
 
 // ---- The calls
@@ -87,32 +90,39 @@ fn give_up_code(g: Generator) -> u32
 fn with_note(g: Generator, waiting: u32, asked: u32) -> Generator
     ensures { result ≡ noted g waiting asked }
 {
-    let mut noted = g;
-    noted.waiting = waiting;
-    noted.asked = asked;
-    noted
+    Generator {
+        waiting,
+        asked,
+        ..g
+    }
+}
+
+impl Generator {
+    // The same record with no request noted.
+    pub fn without_note(self) -> Generator
+        ensures { result ≡ cleared self }
+    {
+        with_note(self, 0, 0)
+    }
 }
 
 // Notes a request for n pairs.
+// Both cases of the test give an answer: a `match` says them plainest, here and in the other calls.
 pub fn ask(g: Generator, n: u32) -> RecordAnswer
     ensures { result ≡ ask_of g n }
 {
-    let code = ask_code(g, n);
-    if code != 0 {
-        return RecordAnswer { code, next: g };
+    match check_ask(g, n) {
+        Ok(()) => RecordAnswer::accepted(with_note(g, 1, n)),
+        Err(refusal) => RecordAnswer::refused(refusal, g),
     }
-    let next = with_note(g, 1, n);
-    RecordAnswer { code, next }
 }
 
 // Clears the request.
 pub fn give_up(g: Generator) -> RecordAnswer
     ensures { result ≡ give_up_of g }
 {
-    let code = give_up_code(g);
-    if code != 0 {
-        return RecordAnswer { code, next: g };
+    match check_give_up(g) {
+        Ok(()) => RecordAnswer::accepted(g.without_note()),
+        Err(refusal) => RecordAnswer::refused(refusal, g),
     }
-    let next = with_note(g, 0, 0);
-    RecordAnswer { code, next }
 }

@@ -8,24 +8,44 @@ ghost use Rattle.streams.specs.Private.{lanes_of};
 use crate::{Both, Lanes, Stream};
 
 // Two registers as the halves of one number.
+// As a sum, which is what its clause says: `<<` and `|` would say no more.
 fn joined(a: u32, b: u32) -> u64
     ensures { result ≡ a * 2 ^ 32 + b }
 {
     a as u64 * 0x1_0000_0000 + b as u64
 }
 
-impl Both {
-    // Both streams side by side.
-    pub fn lanes(self) -> Lanes
-        ensures { (upper result ≡ self.a) × (lower result ≡ self.b) }
-    {
-        let a = self.a;
-        let b = self.b;
+// Both streams side by side.
+impl From<Both> for Lanes {
+    ghost from_gives = { λ both lanes. (upper lanes ≡ both.a) × (lower lanes ≡ both.b) };
+
+    fn from(both: Both) -> Lanes {
+        let a = both.a;
+        let b = both.b;
         Lanes {
             s0: joined(a.s0, b.s0),
             s1: joined(a.s1, b.s1),
             s2: joined(a.s2, b.s2),
         }
+    }
+}
+
+// Both streams apart again.
+impl From<Lanes> for Both {
+    ghost from_gives = { λ lanes both. (both.a ≡ upper lanes) × (both.b ≡ lower lanes) };
+
+    fn from(lanes: Lanes) -> Both {
+        let a = Stream {
+            s0: (lanes.s0 / 0x1_0000_0000) as u32,
+            s1: (lanes.s1 / 0x1_0000_0000) as u32,
+            s2: (lanes.s2 / 0x1_0000_0000) as u32,
+        };
+        let b = Stream {
+            s0: (lanes.s0 % 0x1_0000_0000) as u32,
+            s1: (lanes.s1 % 0x1_0000_0000) as u32,
+            s2: (lanes.s2 % 0x1_0000_0000) as u32,
+        };
+        Both { a, b }
     }
 }
 
@@ -54,23 +74,6 @@ impl Lanes {
     {
         self.s0 ^ self.s1 ^ self.s2
     }
-
-    // Both streams apart again.
-    pub fn both(self) -> Both
-        ensures { (result.a ≡ upper self) × (result.b ≡ lower self) }
-    {
-        let a = Stream {
-            s0: (self.s0 / 0x1_0000_0000) as u32,
-            s1: (self.s1 / 0x1_0000_0000) as u32,
-            s2: (self.s2 / 0x1_0000_0000) as u32,
-        };
-        let b = Stream {
-            s0: (self.s0 % 0x1_0000_0000) as u32,
-            s1: (self.s1 % 0x1_0000_0000) as u32,
-            s2: (self.s2 % 0x1_0000_0000) as u32,
-        };
-        Both { a, b }
-    }
 }
 
 // The numbers 65536 k + v of as many pairs as z has elements, and both streams after them. Public for crate `noise` alone: the call on a
@@ -80,11 +83,9 @@ pub fn draw_pairs(streams: Lanes, z: &mut [u64]) -> Lanes
     ensures z_after { z.new ≡ words (length z.old) (upper streams) (lower streams) }
 {
     let mut state = streams;
-    let mut i = 0;
-    while i < z.len() {
+    for word in z.iter_mut() {
         state = state.advanced();
-        z[i] = state.word();
-        i += 1;
+        *word = state.word();
     }
     state
 }

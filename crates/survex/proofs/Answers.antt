@@ -14,10 +14,15 @@ use Rattle.job_lines.specs.Forms.{shot, print_line}
 use Rattle.job.specs.Job.{Outcome, refused, listed, answer_of, buffer_after}
 use Rattle.job.proofs.Answered.{Told, onto_told, answer_within, printed_refused}
 use Rattle.survex_reader.specs.Lines.{left_of, fed, remains}
-use Rattle.survex_reader.specs.Legs.{Said, leg, wrong, words, read_leg}
+use Rattle.survex_reader.specs.Legs.{Said, leg, wrong, words, read_leg, code_of}
 use Rattle.survex_reader.proofs.Facts.{wrong_facts}
-use Rattle.survex.specs.Survex.{is_data, leg_line, on_leg, legs_from, survex_from, survex_of, legs_answer}
+use Rattle.survex.specs.Survex.{is_data, leg_line, on_leg, legs_from, survex_from, survex_of, legs_answer, answer_in}
 use Rattle.survex.specs.Private.{Converts}
+use Rattle.std.specs.Prelude.{Err}
+use Rattle.survex_reader.specs.declared.leg.LegRefusal.{LegRefusal}
+use Rattle.survex_reader.specs.declared.leg.LegRefusal.TheVariants.{Form, Range}
+use Rattle.survex.specs.declared.refusal.Refusal.{Refusal}
+use Rattle.survex.specs.declared.refusal.Refusal.TheVariants.{Line, TooLong}
 use Rattle.survex.specs.declared.LegsAnswer.{LegsAnswer}
 
 -- a refusal has a code
@@ -79,3 +84,12 @@ buffer_is (listed bytes) out out' r told c z = split (dec_lt (length out) (lengt
     split (no h) =
         let f : length bytes ≤ length out = omega (arith, h) in
         rw (le-leb (length bytes) (length out) f) (c.wrote bytes refl f ∙ written_fits out 0 bytes (omega (arith, f)) ∙ rw (zero-add (length bytes)))
+
+-- no refusal has the number 0
+pub refusal_positive : (refusal : Refusal) → (answer_in (Err refusal)).code ≡ 0 → ⊥
+refusal_positive (Line bad) e = cause_positive bad.cause e
+  where
+    cause_positive : (cause : LegRefusal) → code_of cause ≡ 0 → ⊥
+    cause_positive Form e = omega (arith, e)
+    cause_positive Range e = omega (arith, e)
+refusal_positive TooLong e = omega (arith, e)

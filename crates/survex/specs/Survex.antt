@@ -1,5 +1,5 @@
 -- A Survex text's legs as a job's shot lines (document 02, Job 12).
-use Rattle.std.specs.Prelude.{ℕ, ◌+◌, Bool, true, false, cond, ◌&&◌, List, [], ◌∷◌}
+use Rattle.std.specs.Prelude.{ℕ, ◌+◌, Bool, true, false, cond, ◌&&◌, List, [], ◌∷◌, Result, Ok, Err}
 use Rattle.std.proofs.Math.Option.{Option, some, none}
 use Rattle.text.specs.Ascii.{ascii}
 use Rattle.text.specs.Scan.{lines}
@@ -7,7 +7,9 @@ use Rattle.text.specs.Forms.{read_form}
 use Rattle.job_lines.specs.Forms.{shot, print_line}
 use Rattle.job.specs.Job.{Outcome, refused, listed, onto, answer_of}
 use Rattle.survex_reader.specs.Lines.{left_of, fed, remains}
-use Rattle.survex_reader.specs.Legs.{Said, leg, wrong, words, read_leg}
+use Rattle.survex_reader.specs.Legs.{Said, leg, wrong, words, read_leg, code_of}
+use Rattle.survex.specs.declared.refusal.Refusal.{Refusal}
+use Rattle.survex.specs.declared.refusal.Refusal.TheVariants.{Line, TooLong}
 use Rattle.survex.specs.declared.LegsAnswer.{LegsAnswer}
 
 -- "The first remaining line is": a form without a field
@@ -48,3 +50,9 @@ survex_of text = survex_from 1 (lines text)
 -- (`buffer_after`)
 abbrev pub legs_answer : Outcome → ℕ → LegsAnswer
 legs_answer o room = record { code = (answer_of o room).code; line = (answer_of o room).line; length = (answer_of o room).length }
+
+-- what is answered for a length or a refusal
+abbrev pub answer_in : Result ℕ Refusal → LegsAnswer
+answer_in (Ok n) = record { code = 0; line = 0; length = n }
+answer_in (Err (Line bad)) = record { code = code_of bad.cause; line = bad.line; length = 0 }
+answer_in (Err TooLong) = record { code = 10; line = 0; length = 0 }

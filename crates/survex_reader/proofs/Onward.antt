@@ -3,19 +3,21 @@ use Prim.Native.Nat.{ℕ, ◌+◌, ◌-◌, ◌≤◌, ◌<◌}
 use native.Mathlib.Omega.{arith}
 use native.Mathlib.Nat.{add_assoc}
 use mathlib.Core.Path.{◌≡◌, refl, sym, ap, subst, ◌∙◌}
-use mathlib.Core.Bool.{Bool, true, false, true≢false, false≢true}
+use mathlib.Core.Bool.{Bool, true, false}
 use mathlib.Core.List.{List, [], ◌∷◌, head-eq_of_cons-eq, tail-eq_of_cons-eq}
 use lib.ListN.{length, take, drop, length-drop, drop_of_length-le}
 use lib.Seq.{drop-drop, take-take}
 use native.Mathlib.Decide.{dec_lt}
+use Rattle.std.specs.Prelude.{Option, Some, None}
 use Rattle.text.specs.Ascii.{ascii}
 use Rattle.text.specs.Scan.{one_of, up_to, lines, first_line}
 use Rattle.text.proofs.Scan.{run_take}
 use Rattle.text.proofs.Split.{lines_from, end_within, part_line}
-use Rattle.survex_reader.specs.Lines.{uncommented, blanks_before, trim_start, trim_end, left_of, fed, remains, kept_of, remaining_in}
+use Rattle.survex_reader.specs.Lines.{uncommented, blanks_before, trim_start, trim_end, left_of, fed, remains, kept_in, in_text, remaining_in}
+use Rattle.survex_reader.specs.declared.lines.Kept.{Kept}
 use Rattle.survex_reader.specs.declared.lines.Remaining.{Remaining}
 use Rattle.survex_reader.proofs.Trim.{trim_take, trim_length}
-use Rattle.survex_reader.proofs.Places.{drop_of_take, left_within}
+use Rattle.survex_reader.proofs.Places.{some_same, some_not_none, drop_of_take, left_within}
 
 -- what is left of a line is a part of it
 left_part : (l : List ℕ) → left_of l ≡ take (length (left_of l)) (drop (blanks_before (uncommented l)) l)
@@ -48,16 +50,16 @@ module _ (text : List ℕ) (at : ℕ) (h : at < length text) where
 
 -- What is handed out is a line of the text that remains. Whatever goes over the lines and passes over those that do not remain comes to it, so many
 -- lines on.
-pub record HandedOut {A : Type 0} (F : ℕ → List (List ℕ) → A) (text : List ℕ) (at n : ℕ) (r : Remaining) : Type 0 where
+pub record HandedOut {A : Type 0} (F : ℕ → List (List ℕ) → A) (text : List ℕ) (at n : ℕ) (k : Kept) (r : Remaining) : Type 0 where
   pub line : List ℕ
-  pub is_fed : r.fed ≡ fed line
+  pub is_fed : k.fed ≡ fed line
   pub left : remains line ≡ true
-  pub part : take (r.to - r.from) (drop r.from text) ≡ left_of line
-  pub order : r.from ≤ r.to
-  pub within : r.to ≤ length text
+  pub part : take (k.to - k.from) (drop k.from text) ≡ left_of line
+  pub order : k.from ≤ k.to
+  pub within : k.to ≤ length text
   pub ahead : r.passed + at < r.next + n
   pub next : r.next ≤ length text
-  pub onward : (k : ℕ) → F (k + n) (lines (drop at text)) ≡ F (k + r.passed) (line ∷ lines (drop r.next text))
+  pub onward : (i : ℕ) → F (i + n) (lines (drop at text)) ≡ F (i + r.passed) (line ∷ lines (drop r.next text))
 
 module _ {A : Type 0} (F : ℕ → List (List ℕ) → A)
     (skip : (k : ℕ) (l : List ℕ) (ls : List (List ℕ)) → remains l ≡ false → F k (l ∷ ls) ≡ F (k + 1) ls) where
@@ -75,7 +77,7 @@ module _ {A : Type 0} (F : ℕ → List (List ℕ) → A)
   -- the definition at a line that remains, and at one that does not
   module _ (at n : ℕ) (l : List ℕ) (ls : List (List ℕ)) where
     kept_here : remains l ≡ true
-        → remaining_in at n (l ∷ ls) ≡ record { found = true; fed = fed l; from = at + (kept_of l).from; to = at + (kept_of l).to; passed = n; next = at + length l }
+        → remaining_in at n (l ∷ ls) ≡ record { line = Some (in_text at (kept_in l)); passed = n; next = at + length l }
     unfolding remaining_in
     kept_here e = rw (e, remaining_in)
 
@@ -83,30 +85,30 @@ module _ {A : Type 0} (F : ℕ → List (List ℕ) → A)
     unfolding remaining_in
     passed_here e = rw (e, remaining_in)
 
-  abbrev is_found : Remaining → Bool
-  is_found r = r.found
+  abbrev line_of : Remaining → Option Kept
+  line_of r = r.line
 
   -- no line remains: all that are left are passed over
-  pub none_found : (ls : List (List ℕ)) (at n : ℕ) → (remaining_in at n ls).found ≡ false → (k : ℕ)
+  pub none_found : (ls : List (List ℕ)) (at n : ℕ) → (remaining_in at n ls).line ≡ None → (k : ℕ)
       → F (k + n) ls ≡ F (k + (remaining_in at n ls).passed) []
   unfolding remaining_in
   none_found [] at n e k = refl
   none_found (l ∷ ls) at n e k = go (remains l) refl (none_found ls (at + length l) (n + 1))
     where
       go : (t : Bool) → remains l ≡ t
-          → ((remaining_in (at + length l) (n + 1) ls).found ≡ false → (j : ℕ) → F (j + (n + 1)) ls ≡ F (j + (remaining_in (at + length l) (n + 1) ls).passed) [])
+          → ((remaining_in (at + length l) (n + 1) ls).line ≡ None → (j : ℕ) → F (j + (n + 1)) ls ≡ F (j + (remaining_in (at + length l) (n + 1) ls).passed) [])
           → F (k + n) (l ∷ ls) ≡ F (k + (remaining_in at n (l ∷ ls)).passed) []
-      go true u ih = absurd (true≢false (sym (ap is_found (kept_here at n l ls u)) ∙ e))
+      go true u ih = absurd (some_not_none (sym (ap line_of (kept_here at n l ls u)) ∙ e))
       go false u ih =
           let p = passed_here at n l ls u in
-          skip (k + n) l ls u ∙ ap (λ (i : ℕ). F i ls) (add_assoc k n 1) ∙ ih (sym (ap is_found p) ∙ e) k ∙
+          skip (k + n) l ls u ∙ ap (λ (i : ℕ). F i ls) (add_assoc k n 1) ∙ ih (sym (ap line_of p) ∙ e) k ∙
           ap (λ (r : Remaining). F (k + r.passed) []) (sym p)
 
-  pub some_found : (text : List ℕ) (ls : List (List ℕ)) (at n : ℕ) → lines (drop at text) ≡ ls → (remaining_in at n ls).found ≡ true
-      → HandedOut F text at n (remaining_in at n ls)
-  unfolding remaining_in kept_of
-  some_found text [] at n e f = absurd (false≢true f)
-  some_found text (l ∷ ls) at n e f = go (remains l) refl (some_found text ls (at + length l) (n + 1))
+  pub some_found : (text : List ℕ) (ls : List (List ℕ)) (at n : ℕ) → lines (drop at text) ≡ ls → (k : Kept) → (remaining_in at n ls).line ≡ Some k
+      → HandedOut F text at n k (remaining_in at n ls)
+  unfolding remaining_in kept_in
+  some_found text [] at n e k f = absurd (some_not_none (sym f))
+  some_found text (l ∷ ls) at n e k f = go (remains l) refl (some_found text ls (at + length l) (n + 1))
     where
       h : at < length text
       h = some_line text at l ls e
@@ -121,13 +123,14 @@ module _ {A : Type 0} (F : ℕ → List (List ℕ) → A)
       is_ls = ap (λ (m : List ℕ). lines (drop (at + length m) text)) (sym is_l) ∙ tail-eq_of_cons-eq here
 
       go : (t : Bool) → remains l ≡ t
-          → (lines (drop (at + length l) text) ≡ ls → (remaining_in (at + length l) (n + 1) ls).found ≡ true
-          → HandedOut F text (at + length l) (n + 1) (remaining_in (at + length l) (n + 1) ls))
-          → HandedOut F text at n (remaining_in at n (l ∷ ls))
+          → (lines (drop (at + length l) text) ≡ ls → (x : Kept) → (remaining_in (at + length l) (n + 1) ls).line ≡ Some x
+          → HandedOut F text (at + length l) (n + 1) x (remaining_in (at + length l) (n + 1) ls))
+          → HandedOut F text at n k (remaining_in at n (l ∷ ls))
       go true u ih =
           let w = rw is_l at (end_within text at h) in
           let v = left_within l in
-          rw (kept_here at n l ls u)
+          let q : k ≡ in_text at (kept_in l) = sym (some_same (sym (ap line_of (kept_here at n l ls u)) ∙ f)) in
+          rw (q, kept_here at n l ls u)
           (record {
             line = l;
             is_fed = refl;
@@ -138,11 +141,11 @@ module _ {A : Type 0} (F : ℕ → List (List ℕ) → A)
             within = omega (arith, v, w.1);
             ahead = omega (arith, w.0);
             next = w.1;
-            onward = λ k. ap (λ (v : List (List ℕ)). F (k + n) v) (e ∙ ap (λ (v : List (List ℕ)). l ∷ v) (sym is_ls));
+            onward = λ i. ap (λ (v : List (List ℕ)). F (i + n) v) (e ∙ ap (λ (v : List (List ℕ)). l ∷ v) (sym is_ls));
           })
       go false u ih =
           let p = passed_here at n l ls u in
-          let s = ih is_ls (sym (ap is_found p) ∙ f) in
+          let s = ih is_ls k (sym (ap line_of p) ∙ f) in
           let w = rw is_l at (end_within text at h) in
           rw p
           (record {
@@ -154,8 +157,8 @@ module _ {A : Type 0} (F : ℕ → List (List ℕ) → A)
             within = s.within;
             ahead = omega (arith, s.ahead, w.0);
             next = s.next;
-            onward = λ k. ap (λ (v : List (List ℕ)). F (k + n) v) e ∙ skip (k + n) l ls u ∙
-                ap (λ (i : ℕ). F i ls) (add_assoc k n 1) ∙ ap (λ (v : List (List ℕ)). F (k + (n + 1)) v) (sym is_ls) ∙ s.onward k;
+            onward = λ i. ap (λ (v : List (List ℕ)). F (i + n) v) e ∙ skip (i + n) l ls u ∙
+                ap (λ (j : ℕ). F j ls) (add_assoc i n 1) ∙ ap (λ (v : List (List ℕ)). F (i + (n + 1)) v) (sym is_ls) ∙ s.onward i;
           })
 
   -- each line that is passed over has a byte
@@ -185,7 +188,7 @@ module _ {A : Type 0} (F : ℕ → List (List ℕ) → A)
           rw (passed_here at n l ls u) (omega (arith, i, w.0))
 
   -- where none remains, the text is at its end
-  pub none_next : (text : List ℕ) (ls : List (List ℕ)) (at n : ℕ) → lines (drop at text) ≡ ls → (remaining_in at n ls).found ≡ false
+  pub none_next : (text : List ℕ) (ls : List (List ℕ)) (at n : ℕ) → lines (drop at text) ≡ ls → (remaining_in at n ls).line ≡ None
       → lines (drop (remaining_in at n ls).next text) ≡ []
   unfolding remaining_in
   none_next text [] at n e f = e
@@ -201,11 +204,11 @@ module _ {A : Type 0} (F : ℕ → List (List ℕ) → A)
       is_l = head-eq_of_cons-eq here
 
       go : (t : Bool) → remains l ≡ t
-          → (lines (drop (at + length l) text) ≡ ls → (remaining_in (at + length l) (n + 1) ls).found ≡ false
+          → (lines (drop (at + length l) text) ≡ ls → (remaining_in (at + length l) (n + 1) ls).line ≡ None
           → lines (drop (remaining_in (at + length l) (n + 1) ls).next text) ≡ [])
           → lines (drop (remaining_in at n (l ∷ ls)).next text) ≡ []
-      go true u ih = absurd (true≢false (sym (ap is_found (kept_here at n l ls u)) ∙ f))
+      go true u ih = absurd (some_not_none (sym (ap line_of (kept_here at n l ls u)) ∙ f))
       go false u ih =
           let p = passed_here at n l ls u in
           ap (λ (r : Remaining). lines (drop r.next text)) p ∙
-          ih (ap (λ (m : List ℕ). lines (drop (at + length m) text)) (sym is_l) ∙ tail-eq_of_cons-eq here) (sym (ap is_found p) ∙ f)
+          ih (ap (λ (m : List ℕ). lines (drop (at + length m) text)) (sym is_l) ∙ tail-eq_of_cons-eq here) (sym (ap line_of p) ∙ f)

@@ -2,8 +2,9 @@
 use Prim.Native.Nat.{ℕ, zero, suc, ◌+◌, ◌-◌, ◌≤◌, ◌<◌}
 use native.Mathlib.Omega.{arith}
 use mathlib.Core.Path.{◌≡◌, refl, sym, ap, ◌∙◌}
-use mathlib.Core.Bool.{Bool, true, false, not, ◌||◌}
+use mathlib.Core.Bool.{Bool, true, false, cond, not, ◌||◌, true≢false}
 use mathlib.Core.List.{List, [], ◌∷◌}
+use Rattle.std.specs.Prelude.{Option, Some, None}
 use lib.Dec.{ltb}
 use lib.ListN.{length, take, drop, length-drop, drop_of_length-le}
 use lib.Seq.{length-take-le}
@@ -22,12 +23,27 @@ use Rattle.survex_reader.specs.Lines.{
   left_of,
   fed,
   remains,
+  kept_in,
   kept_of,
   remaining_in,
   remaining_from,
 }
 use Rattle.survex_reader.specs.declared.lines.Kept.{Kept}
 use Rattle.survex_reader.proofs.Trim.{trim_length}
+
+pub some_same : {x y : Kept} → ◌≡◌ {A = Option Kept} (Some x) (Some y) → x ≡ y
+some_same {x} e = ap inside e
+  where
+    inside : Option Kept → Kept
+    inside (Some z) = z
+    inside None = x
+
+pub some_not_none : {x : Kept} → ◌≡◌ {A = Option Kept} (Some x) None → ⊥
+some_not_none e = true≢false (ap there e)
+  where
+    there : Option Kept → Bool
+    there (Some z) = true
+    there None = false
 
 -- a list is empty just where its length is 0
 pub some_empty : (l : List ℕ) → not (is_empty l) ≡ ltb 0 (length l)
@@ -104,11 +120,33 @@ module _ (l : List ℕ) (stop : ℕ) (e : stop ≡ 0 + length (up_to (one_of (as
       unfolding left_of
       n_is = g ∙ ap (λ (m : List ℕ). length (trim_end m)) part_trimmed
 
-      pub kept_is : (left has : Bool) → left ≡ not has || ltb from (from + n) → has ≡ fed l
-          → record { left = left; fed = has; from = from; to = from + n } ≡ kept_of l
-      unfolding kept_of remains
-      kept_is left has x y =
-          rw (x, y, from_ltb from n, n_is, ← some_empty (left_of l), from_is)
+      kept_lem : (has : Bool) → has ≡ fed l → ◌≡◌ {A = Kept} (record { fed = has; from = from; to = from + n }) (kept_in l)
+      unfolding kept_in
+      kept_lem has y = rw (y, n_is, from_is)
+
+      remains_is : (has : Bool) → has ≡ fed l → remains l ≡ not has || ltb from (from + n)
+      unfolding remains
+      remains_is has y = rw (y, from_ltb from n, n_is, ← some_empty (left_of l))
+
+      pub kept_is : (has : Bool) → has ≡ fed l → remains l ≡ true → Some (record { fed = has; from = from; to = from + n }) ≡ kept_of l
+      unfolding kept_of
+      kept_is has y r = rw r (ap (λ (k : Kept). Some k) (kept_lem has y))
+
+      -- it is fed and nothing is left; it is not fed; something is left
+      pub nothing_left : (has : Bool) → has ≡ fed l → has ≡ true → from + n ≤ from → None ≡ kept_of l
+      unfolding kept_of
+      nothing_left has y t h =
+          let r : remains l ≡ false = remains_is has y ∙ ap (λ (b : Bool). not b || ltb from (from + n)) t ∙ le-ltb from (from + n) h in rw r
+
+      pub unfed_left : (has : Bool) → has ≡ fed l → has ≡ false → Some (record { fed = has; from = from; to = from + n }) ≡ kept_of l
+      unfed_left has y t = kept_is has y (remains_is has y ∙ ap (λ (b : Bool). not b || ltb from (from + n)) t)
+
+      pub something_left : (has : Bool) → has ≡ fed l → from < from + n → Some (record { fed = has; from = from; to = from + n }) ≡ kept_of l
+      something_left has y h = kept_is has y (remains_is has y ∙ ap (λ (b : Bool). not has || b) (lt-ltb from (from + n) h) ∙ any has)
+        where
+          any : (b : Bool) → not b || true ≡ true
+          any true = refl
+          any false = refl
 
 -- half way: the lines so far were passed over
 pub record Passing (text : List ℕ) (at place passed : ℕ) : Type 0 where
@@ -120,12 +158,11 @@ unfolding remaining_from
 passing_start text at = record { few = omega arith; so_far = refl }
 
 module _ (text : List ℕ) (at place passed : ℕ) (p : Passing text at place passed) where
-  pub passing_end : length text ≤ place
-      → record { found = false; fed = false; from = place; to = place; passed = passed; next = place } ≡ remaining_from text at
+  pub passing_end : length text ≤ place → record { line = None; passed = passed; next = place } ≡ remaining_from text at
   unfolding remaining_in lines
   passing_end h = sym (p.so_far ∙ rw (drop_of_length-le text {i = place} h))
 
-  module _ (h : place < length text) (end : ℕ) (e : end ≡ place + length (first_line (drop place text))) (k : Kept)
+  module _ (h : place < length text) (end : ℕ) (e : end ≡ place + length (first_line (drop place text))) (k : Option Kept)
       (f : k ≡ kept_of (take (end - place) (drop place text))) where
     abbrev l : List ℕ
     l = first_line (drop place text)
@@ -139,26 +176,35 @@ module _ (text : List ℕ) (at place passed : ℕ) (p : Passing text at place pa
     pub line_within : (place < end) × (end ≤ length text)
     line_within = rw e (end_within text place h)
 
-    pub kept_within : (place + k.from ≤ length text) × (place + k.to ≤ length text)
-    unfolding kept_of
-    kept_within = rw kept_line (
-      omega (arith, e, left_within l, line_within.1),
-      omega (arith, e, left_within l, line_within.1),
-    )
-
-    pub passing_on : k.left ≡ false → Passing text at end (passed + 1)
+    pub passing_on : k ≡ None → Passing text at end (passed + 1)
     unfolding remaining_in kept_of
     passing_on t =
-        let r : remains l ≡ false = sym (ap (λ (x : Kept). x.left) kept_line) ∙ t in
+        let r : remains l ≡ false = passed_over (remains l) (sym kept_line ∙ t) in
         record {
           few = omega (arith, line_within.0, p.few);
           so_far = p.so_far ∙ rw (lines_here, r, remaining_in, e);
         }
+      where
+        passed_over : (b : Bool) → cond b (Some (kept_in l)) None ≡ None → b ≡ false
+        passed_over true x = absurd (some_not_none x)
+        passed_over false x = refl
 
-    pub handed_out : k.left ≡ true
-        → record { found = true; fed = k.fed; from = place + k.from; to = place + k.to; passed = passed; next = end } ≡
-        remaining_from text at
-    unfolding remaining_in kept_of
-    handed_out t =
-        let r : remains l ≡ true = sym (ap (λ (x : Kept). x.left) kept_line) ∙ t in
-        sym (p.so_far ∙ rw (lines_here, r, remaining_in, e, kept_line))
+    module _ (x : Kept) (t : k ≡ Some x) where
+      here : (b : Bool) → cond b (Some (kept_in l)) None ≡ Some x → (b ≡ true) × (x ≡ kept_in l)
+      here true y = (refl, sym (some_same y))
+      here false y = absurd (some_not_none (sym y))
+
+      kept_here : (remains l ≡ true) × (x ≡ kept_in l)
+      unfolding kept_of
+      kept_here = here (remains l) (sym kept_line ∙ t)
+
+      pub kept_within : (place + x.from ≤ length text) × (place + x.to ≤ length text)
+      unfolding kept_in
+      kept_within = rw kept_here.1 (
+        omega (arith, e, left_within l, line_within.1),
+        omega (arith, e, left_within l, line_within.1),
+      )
+
+      pub handed_out : record { line = Some (record { fed = x.fed; from = place + x.from; to = place + x.to }); passed = passed; next = end } ≡ remaining_from text at
+      unfolding remaining_in kept_in
+      handed_out = sym (p.so_far ∙ rw (lines_here, kept_here.0, remaining_in, e, kept_here.1))

@@ -1,43 +1,33 @@
--- Blanks at the end of a list: one byte at a time, from the last on.
-use Prim.Native.Nat.{ℕ, suc, ◌-◌, ◌≤◌, ◌<◌}
+-- Blanks at the end of a list.
+use Prim.Native.Nat.{ℕ, zero, suc, ◌+◌, ◌≤◌, ◌<◌}
 use native.Mathlib.Omega.{arith}
-use mathlib.Core.Path.{◌≡◌, refl, sym, ap, ◌∙◌}
+use mathlib.Core.Path.{◌≡◌, refl, ap}
 use mathlib.Core.Bool.{Bool, true, false, cond, ◌&&◌, and-false}
-use mathlib.Core.List.{List, [], ◌∷◌, ◌++◌}
+use mathlib.Core.List.{List, [], ◌∷◌}
 use lib.ListN.{length, get_or, take}
-use lib.Seq.{take-suc, length-take-le}
 use Rattle.text.specs.Forms.{is_empty}
 use Rattle.survex_reader.specs.Lines.{blank, trim_end}
 
-snoc_blank : (l : List ℕ) (x : ℕ) → blank x ≡ true → trim_end (l ++ (x ∷ [])) ≡ trim_end l
+-- all bytes are blanks
+pub trim_all : (l : List ℕ) → ((k : ℕ) → k < length l → blank (get_or l k 0) ≡ true) → trim_end l ≡ []
 unfolding trim_end is_empty
-snoc_blank [] x e = rw (e, trim_end)
-snoc_blank (y ∷ l) x e = rw (snoc_blank l x e, trim_end)
+trim_all [] f = refl
+trim_all (x ∷ l) f = rw (f 0 (omega arith), trim_all l (λ k h. f (suc k) (omega (arith, h))))
 
-empty_not : (l : List ℕ) (x : ℕ) → is_empty (l ++ (x ∷ [])) ≡ false
+has_bytes : (l : List ℕ) (n : ℕ) → length l ≡ n + 1 → is_empty l ≡ false
 unfolding is_empty
-empty_not [] x = refl
-empty_not (y ∷ l) x = refl
+has_bytes [] n e = absurd (omega (arith, e))
+has_bytes (x ∷ l) n e = refl
 
-snoc_kept : (l : List ℕ) (x : ℕ) → blank x ≡ false → trim_end (l ++ (x ∷ [])) ≡ l ++ (x ∷ [])
+-- the last byte that is no blank
+pub trimmed_at : (l : List ℕ) (i : ℕ) → i < length l → blank (get_or l i 0) ≡ false → ((k : ℕ) → i + 1 ≤ k → k < length l → blank (get_or l k 0) ≡ true)
+    → length (trim_end l) ≡ i + 1
 unfolding trim_end is_empty
-snoc_kept [] x e = rw (e, trim_end)
-snoc_kept (y ∷ l) x e = rw (snoc_kept l x e, empty_not l x, and-false (blank y), trim_end)
-
--- the loop over the last bytes
-module _ (l : List ℕ) (end : ℕ) (some : 0 < end) (within : end ≤ length l) where
-  last_taken : take end l ≡ take (end - 1) l ++ (get_or l (end - 1) 0 ∷ [])
-  last_taken =
-      let e : suc (end - 1) ≡ end = omega arith in
-      ap (λ (n : ℕ). take n l) (sym e) ∙ take-suc l (end - 1) 0 (omega arith)
-
-  pub last_blank : blank (get_or l (end - 1) 0) ≡ true → trim_end (take end l) ≡ trim_end (take (end - 1) l)
-  last_blank e = ap trim_end last_taken ∙ snoc_blank (take (end - 1) l) (get_or l (end - 1) 0) e
-
-  pub last_kept : blank (get_or l (end - 1) 0) ≡ false → length (trim_end (take end l)) ≡ end
-  last_kept e =
-      ap length (ap trim_end last_taken ∙ snoc_kept (take (end - 1) l) (get_or l (end - 1) 0) e)
-      ∙ ap length (sym last_taken) ∙ length-take-le end l within
+trimmed_at [] i h b f = absurd (omega (arith, h))
+trimmed_at (x ∷ l) zero h b f = rw (trim_all l (λ k h. f (suc k) (omega arith) (omega (arith, h))), b) refl
+trimmed_at (x ∷ l) (suc i) h b f =
+    let e : length (trim_end l) ≡ i + 1 = trimmed_at l i (omega (arith, h)) b (λ k g h. f (suc k) (omega (arith, g)) (omega (arith, h))) in
+    rw (has_bytes (trim_end l) i e, and-false (blank x)) (omega (arith, e))
 
 -- what is trimmed is the first part
 pub trim_take : (l : List ℕ) → take (length (trim_end l)) l ≡ trim_end l

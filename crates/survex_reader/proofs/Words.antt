@@ -16,7 +16,7 @@ use Rattle.text.specs.declared.field.Place.{Place}
 use Rattle.text.proofs.Scan.{run_length, run_take}
 use Rattle.survex_reader.specs.Lines.{blank, not_blank}
 use Rattle.survex_reader.specs.Legs.{starts_word, words, word_at}
-use Rattle.survex_reader.specs.Private.{Fielded}
+use Rattle.survex_reader.specs.Private.{FieldsAt}
 
 -- past the blanks stands nothing, or a byte that is none
 skipped : List ℕ → List ℕ
@@ -198,20 +198,32 @@ leb_not a b = split (dec_lt b a)
     split (no h) = rw (le-leb a b (omega (arith, h)), le-ltb b a (omega (arith, h)))
 
 -- six places, one after another, are those of the five fields, and of a sixth that must not be there
-pub fields_are : (line : List ℕ) (ok : Bool) (f t m c k s : Place) → f ≡ word_at line 0 → t ≡ word_at line f.to → m ≡ word_at line t.to
-    → c ≡ word_at line m.to → k ≡ word_at line c.to → s ≡ word_at line k.to
-    → ok ≡ ltb k.from k.to && not (ltb s.from s.to)
-    → Fielded line (record { ok = ok; from = f; to = t; tape = m; compass = c; clino = k })
-fields_are line ok f t m c k s ef et em ec ek es eo =
-    let r0 = read_none line in
-    let r1 : Read line 1 f.to = rw ef (read_more line 0 0 r0) in
-    let r2 : Read line 2 t.to = rw et (read_more line 1 f.to r1) in
-    let r3 : Read line 3 m.to = rw em (read_more line 2 t.to r2) in
-    let r4 : Read line 4 c.to = rw ec (read_more line 3 m.to r3) in
-    let r5 : Read line 5 k.to = rw ek (read_more line 4 c.to r4) in
-    record {
-      five =
-          eo ∙ rw (es, read_some line 5 k.to r5) (rw (ek, read_some line 4 c.to r4) (five_is (length (words line))));
+module _ (line : List ℕ) (f t m c k s : Place) (ef : f ≡ word_at line 0) (et : t ≡ word_at line f.to) (em : m ≡ word_at line t.to)
+    (ec : c ≡ word_at line m.to) (ek : k ≡ word_at line c.to) (es : s ≡ word_at line k.to)
+  where
+    r0 : Read line 0 0
+    r0 = read_none line
+
+    r1 : Read line 1 f.to
+    r1 = rw ef (read_more line 0 0 r0)
+
+    r2 : Read line 2 t.to
+    r2 = rw et (read_more line 1 f.to r1)
+
+    r3 : Read line 3 m.to
+    r3 = rw em (read_more line 2 t.to r2)
+
+    r4 : Read line 4 c.to
+    r4 = rw ec (read_more line 3 m.to r3)
+
+    r5 : Read line 5 k.to
+    r5 = rw ek (read_more line 4 c.to r4)
+
+    pub just_five : ltb k.from k.to && not (ltb s.from s.to) ≡ eqb (length (words line)) 5
+    just_five = rw (es, read_some line 5 k.to r5) (rw (ek, read_some line 4 c.to r4) (five_is (length (words line))))
+
+    pub fields_are : FieldsAt line (record { from = f; to = t; tape = m; compass = c; clino = k })
+    fields_are = record {
       from_place = ef;
       to_place = et ∙ ap (λ (p : Place). word_at line p.to) ef;
       from = rw ef (read_field line 0 0 r0);

@@ -1,16 +1,16 @@
 -- A leg of a Survex text (document 02, Job 12): its fields, its numbers, and the shot that it gives.
-use Rattle.std.specs.Prelude.{ℕ, suc, ◌+◌, ◌-◌, ◌*◌, ◌/◌, ◌%◌, ◌^◌, ◌≡◌, Bool, false, cond, not, ◌&&◌, ◌||◌, List, [], ◌∷◌, leb, ltb, eqb, length, get_or, drop}
+use Rattle.std.specs.Prelude.{ℕ, suc, ◌+◌, ◌-◌, ◌*◌, ◌/◌, ◌%◌, ◌^◌, ◌≡◌, Bool, false, cond, Option, Some, None, Result, Ok, Err, not, ◌&&◌, ◌||◌, List, [], ◌∷◌, leb, ltb, eqb, length, get_or, drop}
 use Rattle.text.specs.Ascii.{ascii, byte}
 use Rattle.text.specs.Scan.{one_of, up_to, before}
 use Rattle.text.specs.Fields.{all, within, digit, name, value, part_of}
-use Rattle.text.specs.declared.field.NumberRead.{NumberRead}
 use Rattle.text.specs.Forms.{field_at}
 use Rattle.noisy_shot.specs.Rounding.{turn_steps}
 use Rattle.survex_reader.specs.Lines.{blank, not_blank}
 use Rattle.text.specs.declared.field.Place.{Place}
 use Rattle.survex_reader.specs.Limits.{whole_digits, tape_decimals, compass_decimals, most_tape, compass_turn}
-use Rattle.survex_reader.specs.declared.leg.LegLine.{LegLine}
-use Rattle.survex_reader.specs.declared.leg.LegLine.TheVariants.{Leg, Wrong}
+use Rattle.job_lines.specs.declared.Shot.{Shot}
+use Rattle.survex_reader.specs.declared.leg.LegRefusal.{LegRefusal}
+use Rattle.survex_reader.specs.declared.leg.LegRefusal.TheVariants.{Form, Range}
 
 -- ---- "five fields with blanks or tabs between"
 
@@ -54,10 +54,9 @@ is_decimal most l = digits_up_to whole_digits (whole l) && (not (pointed l) || d
 unfoldable pub scaled : ℕ → List ℕ → ℕ
 scaled most l = value 0 (whole l) * 10 ^ most + value 0 (decimals l) * 10 ^ (most - length (decimals l))
 
--- ok where it is one, and what it says
-pub record Reads (most : ℕ) (l : List ℕ) (r : NumberRead) : Type 0 where
-  pub ok : r.ok ≡ is_decimal most l
-  pub value : r.value ≡ cond (is_decimal most l) (scaled most l) 0
+-- what it says, just where it is one
+abbrev pub Reads : ℕ → List ℕ → Option ℕ → Type 0
+Reads most l r = r ≡ cond (is_decimal most l) (Some (scaled most l)) None
 
 -- ---- The leg
 
@@ -98,12 +97,20 @@ read_leg v =
     (cond (leg_range v) (leg (field_at v 0) (field_at v 1) (tape_in v) (step_of (compass_in v))) (wrong 22))
     (wrong 21)
 
--- what each case of the enum says of a line
-abbrev pub leg_in : List ℕ → LegLine → Said
-leg_in line (Leg s) = leg (part_of line s.from) (part_of line s.to) s.distance s.bearing
-leg_in line (Wrong n) = wrong n
+-- the code of each refusal, and back
+abbrev pub code_of : LegRefusal → ℕ
+code_of Form = 21
+code_of Range = 22
 
--- the case of the enum for what a line says: the names of a leg by the places of the first field and of the one after it
-unfoldable pub leg_at : List ℕ → Said → LegLine
-leg_at line (leg from to d b) = Leg (record { from = word_at line 0; to = word_at line (word_at line 0).to; distance = d; bearing = b })
-leg_at line (wrong n) = Wrong n
+abbrev pub refusal_of : ℕ → LegRefusal
+refusal_of code = cond (eqb code 21) Form Range
+
+-- what the answer says of a line
+abbrev pub leg_in : List ℕ → Result Shot LegRefusal → Said
+leg_in line (Ok s) = leg (part_of line s.from) (part_of line s.to) s.distance s.bearing
+leg_in line (Err e) = wrong (code_of e)
+
+-- the answer for what a line says: the names of a leg by the places of the first field and of the one after it
+unfoldable pub leg_at : List ℕ → Said → Result Shot LegRefusal
+leg_at line (leg from to d b) = Ok (record { from = word_at line 0; to = word_at line (word_at line 0).to; distance = d; bearing = b })
+leg_at line (wrong code) = Err (refusal_of code)

@@ -1,7 +1,8 @@
 -- What a reader of a Survex text hands out, as theorems: the record below has a proof in proofs/LineTheorems.antt.
-use Rattle.std.specs.Prelude.{ℕ, zero, suc, ◌+◌, ◌-◌, ◌≤◌, ◌<◌, ◌≡◌, true, false, cond, List, [], ◌∷◌, length, get_or, take, drop}
+use Rattle.std.specs.Prelude.{ℕ, zero, suc, ◌+◌, ◌-◌, ◌≤◌, ◌<◌, ◌≡◌, Some, None, cond, List, [], ◌∷◌, length, get_or, take, drop}
 use Rattle.text.specs.Scan.{lines}
 use Rattle.survex_reader.specs.Lines.{left_of, fed, remains, remaining_from}
+use Rattle.survex_reader.specs.declared.lines.Kept.{Kept}
 use Rattle.survex_reader.specs.declared.lines.Remaining.{Remaining}
 
 -- the lines that remain
@@ -30,11 +31,12 @@ count_after (suc n) text at k = count_after n text (remaining_from text at).next
 
 -- line l is handed out: what is left of it is those bytes of the text
 pub record Hands (text l : List ℕ) (r : Remaining) : Type 0 where
-  pub found : r.found ≡ true
-  pub fed : r.fed ≡ fed l
-  pub order : r.from ≤ r.to
-  pub within : r.to ≤ length text
-  pub bytes : take (r.to - r.from) (drop r.from text) ≡ left_of l
+  pub kept : Kept
+  pub found : r.line ≡ Some kept
+  pub fed : kept.fed ≡ fed l
+  pub order : kept.from ≤ kept.to
+  pub within : kept.to ≤ length text
+  pub bytes : take (kept.to - kept.from) (drop kept.from text) ≡ left_of l
 
 pub record Theorems : Type 0 where
   -- "A reader over the lent Survex text hands out one line after another": from the start, the n-th time (from 0) the n-th of the lines that remain
@@ -43,4 +45,4 @@ pub record Theorems : Type 0 where
   -- with its number among all lines
   pub numbered : (text : List ℕ) (n : ℕ) → n < length (remaining (lines text)) → count_after n text 0 1 ≡ get_or (line_numbers 1 (lines text)) n 0
   -- and after all of them none, for ever
-  pub then_none : (text : List ℕ) (n : ℕ) → length (remaining (lines text)) ≤ n → (handed_after n text 0).found ≡ false
+  pub then_none : (text : List ℕ) (n : ℕ) → length (remaining (lines text)) ≤ n → (handed_after n text 0).line ≡ None

@@ -1,15 +1,15 @@
 // One leg of a Survex text: five fields, its numbers, and the shot that it gives (document 02, Job 12).
 ghost use Rattle.std.specs.Prelude.{◌*◌, ◌^◌, ◌≤◌, ◌<◌, ◌≡◌, ◌&&◌, not, leb, ltb};
-ghost use Rattle.text.specs.Limits.{most_digits, decimal_bound};
+ghost use Rattle.text.specs.Limits.{most_digits};
 ghost use Rattle.text.specs.Fields.{Spells};
 ghost use Rattle.survex_reader.specs.Limits.{tape_decimals, most_tape, compass_turn};
-ghost use Rattle.survex_reader.specs.Legs.{words, word_at, digits_up_to, Reads, level, step_of, read_leg, leg_in, leg_at};
-ghost use Rattle.survex_reader.specs.Private.{Fielded, DecimalsOf, joined_of, NumbersOf};
+ghost use Rattle.survex_reader.specs.Legs.{words, word_at, digits_up_to, Reads, level, step_of, read_leg, code_of, leg_in, leg_at};
+ghost use Rattle.survex_reader.specs.Private.{Fielded, FieldsAt, DecimalsOf, NumbersOf};
 
 use crate::lines::skip_blanks;
 use job_lines::Shot;
 use noisy_shot::TURN_STEPS;
-use text::field::{NumberRead, Place, both, digits_value, name_at, part};
+use text::field::{Place, digits_value, name_at, part};
 use text::line::scan;
 
 // The digits before the point.
@@ -26,10 +26,9 @@ pub const MOST_TAPE: u64 = 1000000;
 // A turn of the compass, in hundredths of a degree.
 pub const COMPASS_TURN: u64 = 36000;
 
-// The five fields of a leg; ok where there are just five.
+// The five fields of a leg.
 #[derive(Clone, Copy)]
 pub struct LegFields {
-    pub ok: bool,
     pub from: Place,
     pub to: Place,
     pub tape: Place,
@@ -37,22 +36,30 @@ pub struct LegFields {
     pub clino: Place,
 }
 
-// The numbers of a leg: ok where its names and numbers have their form; the tape in mm and the compass in hundredths of a degree.
+// The numbers of a leg: the tape in mm and the compass in hundredths of a degree.
 #[derive(Clone, Copy)]
 pub struct LegNumbers {
-    pub ok: bool,
     pub tape: u64,
     pub compass: u64,
 }
 
-// What a line of a leg says: the shot, or its refusal code.
+// Why a line is no leg: its form, or that of a name or number; a number out of range, or another clino.
 #[derive(Clone, Copy)]
-pub enum LegLine {
-    Leg(Shot),
-    Wrong(u32),
+pub enum LegRefusal {
+    Form = 21,
+    Range = 22,
 }
 
-// The field after the blanks from a place on.
+impl LegRefusal {
+    // Its code. Each error enum has its own, for the reason in codes.rt of streams.
+    pub fn code(self) -> u32
+        ensures { result ≡ code_of self }
+    {
+        self as u32
+    }
+}
+
+// The field after the blanks from a place on. A text and a place, as `skip_blanks` takes them.
 fn word_at(line: &[u8], at: usize) -> Place
     ensures { result ≡ word_at line.now at }
 {
@@ -66,13 +73,11 @@ fn word_at(line: &[u8], at: usize) -> Place
 fn is_last(last: Place, more: Place) -> bool
     ensures { result ≡ ltb last.from last.to && not (ltb more.from more.to) }
 {
-    if last.from < last.to {
-        return more.to <= more.from;
-    }
-    false
+    last.from < last.to && more.to <= more.from
 }
 
-fn fields_of(line: &[u8]) -> LegFields
+// The fields of a line, where there are just five.
+fn fields_of(line: &[u8]) -> Option<LegFields>
     ensures { Fielded line.now result }
 {
     let from = word_at(line, 0);
@@ -81,139 +86,86 @@ fn fields_of(line: &[u8]) -> LegFields
     let compass = word_at(line, tape.to);
     let clino = word_at(line, compass.to);
     let more = word_at(line, clino.to);
-    LegFields {
-        ok: is_last(clino, more),
+    if !is_last(clino, more) {
+        return None;
+    }
+    Some(LegFields {
         from,
         to,
         tape,
         compass,
         clino,
-    }
+    })
 }
 
 // The number that 1 to `most` digits spell.
-fn digits_up_to(part: &[u8], most: usize) -> NumberRead
+fn digits_up_to(part: &[u8], most: usize) -> Option<u64>
     requires { most ≤ most_digits }
     ensures { Spells (digits_up_to most part.now) part.now result }
 {
-    if part.len() < 1 {
-        return NumberRead {
-            ok: false,
-            value: 0,
-        };
+    if part.is_empty() {
+        return None;
     }
     if most < part.len() {
-        return NumberRead {
-            ok: false,
-            value: 0,
-        };
+        return None;
     }
     digits_value(part)
 }
 
-fn power_of_ten(n: usize) -> u64
-    requires { n ≤ tape_decimals }
-    ensures { result ≡ 10 ^ n }
-{
-    if n == 0 {
-        return 1;
-    }
-    if n == 1 {
-        return 10;
-    }
-    if n == 2 {
-        return 100;
-    }
-    1000
-}
-
-// The decimals after a point, at most so many, in units of the last of these; none where the point is the end.
-fn decimals_after(part: &[u8], point: usize, most: usize) -> NumberRead
+// The decimals after a point, at most so many, in units of the last of these; 0 where the point is the end.
+fn decimals_after(part: &[u8], point: usize, most: usize) -> Option<u64>
     requires { most ≤ tape_decimals }
     ensures { DecimalsOf most part.now point result }
 {
     let n = part.len();
     if n <= point {
-        return NumberRead { ok: true, value: 0 };
+        return Some(0);
     }
     let start = point + 1;
-    let digits = digits_up_to(&part[start..n], most);
-    if !digits.ok {
-        return NumberRead {
-            ok: false,
-            value: 0,
-        };
-    }
-    NumberRead {
-        ok: true,
-        value: digits.value * power_of_ten(most - (n - start)),
-    }
-}
-
-fn joined(whole: NumberRead, fraction: NumberRead, most: usize) -> NumberRead
-    requires decimals { most ≤ tape_decimals }
-    requires small { (whole.value < decimal_bound) × (fraction.value < decimal_bound * 10 ^ tape_decimals) }
-    ensures { result ≡ joined_of whole fraction most }
-{
-    if !whole.ok {
-        return NumberRead {
-            ok: false,
-            value: 0,
-        };
-    }
-    if !fraction.ok {
-        return NumberRead {
-            ok: false,
-            value: 0,
-        };
-    }
-    NumberRead {
-        ok: true,
-        value: whole.value * power_of_ten(most) + fraction.value,
-    }
+    let digits = digits_up_to(&part[start..n], most)?;
+    let zeros = most - (n - start);
+    Some(digits * 10_u64.pow(zeros as u32))
 }
 
 // A number of at most so many decimals, in units of the last of these.
-fn decimal_of(part: &[u8], most: usize) -> NumberRead
+fn decimal_of(part: &[u8], most: usize) -> Option<u64>
     requires { most ≤ tape_decimals }
     ensures { Reads most part.now result }
 {
     let point = scan(part, 0, b".");
-    let whole = digits_up_to(&part[0..point], WHOLE_DIGITS);
-    let fraction = decimals_after(part, point, most);
-    joined(whole, fraction, most)
+    let whole = digits_up_to(&part[0..point], WHOLE_DIGITS)?;
+    let fraction = decimals_after(part, point, most)?;
+    Some(whole * 10_u64.pow(most as u32) + fraction)
 }
 
-// The names and numbers of five fields.
-fn numbers_of(line: &[u8], f: LegFields) -> LegNumbers
-    requires { Fielded line.now f }
+// The numbers of five fields, where these and the names have their form.
+fn numbers_of(line: &[u8], f: LegFields) -> Option<LegNumbers>
+    requires { FieldsAt line.now f }
     ensures { NumbersOf (words line.now) result }
 {
-    let tape = decimal_of(part(line, f.tape), TAPE_DECIMALS);
-    let compass = decimal_of(part(line, f.compass), COMPASS_DECIMALS);
-    let numbers = both(tape.ok, compass.ok);
-    let others = both(name_at(line, f.to), numbers);
-    LegNumbers {
-        ok: both(name_at(line, f.from), others),
-        tape: tape.value,
-        compass: compass.value,
+    if !name_at(line, f.from) {
+        return None;
     }
+    if !name_at(line, f.to) {
+        return None;
+    }
+    let tape = decimal_of(part(line, f.tape), TAPE_DECIMALS)?;
+    let compass = decimal_of(part(line, f.compass), COMPASS_DECIMALS)?;
+    Some(LegNumbers { tape, compass })
 }
 
 // Whether a clino is the single digit 0.
 fn is_level(part: &[u8]) -> bool
     ensures { result ≡ level part.now }
 {
-    if part.len() != 1 {
-        return false;
-    }
-    part[0] == b'0'
+    part == b"0".as_slice()
 }
 
-fn is_in_range(tape: u64, compass: u64, flat: bool) -> bool
-    ensures { result ≡ leb tape most_tape && (leb compass compass_turn && flat) }
+// Two limits by `<=`: as ranges from 0, `(0..=MOST_TAPE).contains(&tape)`, they would say no more.
+fn is_in_range(tape: u64, compass: u64) -> bool
+    ensures { result ≡ leb tape most_tape && leb compass compass_turn }
 {
-    both(tape <= MOST_TAPE, both(compass <= COMPASS_TURN, flat))
+    tape <= MOST_TAPE && compass <= COMPASS_TURN
 }
 
 // The nearest of the steps of a turn, halves up; a whole turn is 0.
@@ -225,25 +177,22 @@ fn step_of(compass: u64) -> u64
 }
 
 // What the line of a leg says, once comments and the blanks at its ends are passed over.
-pub fn leg_of(line: &[u8]) -> LegLine
+pub fn leg_of(line: &[u8]) -> Result<Shot, LegRefusal>
     ensures says { leg_in line.now result ≡ read_leg (words line.now) }
     ensures exact { result ≡ leg_at line.now (read_leg (words line.now)) }
 {
-    let f = fields_of(line);
-    if !f.ok {
-        return LegLine::Wrong(21);
-    }
-    let n = numbers_of(line, f);
-    if !n.ok {
-        return LegLine::Wrong(21);
-    }
+    let f = fields_of(line).ok_or(LegRefusal::Form)?;
+    let n = numbers_of(line, f).ok_or(LegRefusal::Form)?;
     let clino = f.clino;
-    if !is_in_range(n.tape, n.compass, is_level(part(line, clino))) {
-        return LegLine::Wrong(22);
+    if !is_in_range(n.tape, n.compass) {
+        return Err(LegRefusal::Range);
+    }
+    if !is_level(part(line, clino)) {
+        return Err(LegRefusal::Range);
     }
     let from = f.from;
     let to = f.to;
-    LegLine::Leg(Shot {
+    Ok(Shot {
         from,
         to,
         distance: n.tape,

@@ -1,27 +1,25 @@
 // The lines of a Survex text that remain once comments, blanks and empty lines are passed over (document 02, Job 12).
-ghost use Rattle.std.specs.Prelude.{◌+◌, ◌≡◌, ◌||◌, not, ltb, length, drop};
+ghost use Rattle.std.specs.Prelude.{◌+◌, ◌≡◌, length, drop};
 ghost use Rattle.text.specs.Scan.{up_to};
 ghost use Rattle.survex_reader.specs.Lines.{blank, not_blank, trim_end, kept_of, remaining_from};
 
-use text::line::{is_one_of, line_end, scan};
+use text::line::{line_end, scan};
 
-// What is left of one line: whether it is handed out, whether it has its line feed, and where in the line it stands.
+// What is left of a line: whether the line has its line feed, and where it stands.
+// A flag and no Option: the place is told with or without the line feed, and `kept_in` of specs/Lines.antt reads both.
 #[derive(Clone, Copy)]
 pub struct Kept {
-    pub left: bool,
     pub fed: bool,
     pub from: usize,
     pub to: usize,
 }
 
-// The next line that remains: whether there is one, whether it has its line feed, where it stands in the text, how many lines
-// were passed over before it, and where the line after it begins.
+// The next line that remains, if there is one, by its place in the text; how many lines were passed over before it, or up to the end; and where the line
+// after it begins.
+// The lines passed over and the next place are told where none remains too: `count_after` and `place_after` of specs/LineTheorems.antt read both.
 #[derive(Clone, Copy)]
 pub struct Remaining {
-    pub found: bool,
-    pub fed: bool,
-    pub from: usize,
-    pub to: usize,
+    pub line: Option<Kept>,
     pub passed: usize,
     pub next: usize,
 }
@@ -29,63 +27,46 @@ pub struct Remaining {
 pub fn is_blank(b: u8) -> bool
     ensures { result ≡ blank b }
 {
-    is_one_of(b" \t", b)
+    b" \t".contains(&b)
 }
 
-// Where the blanks from a place on end.
+// Where the blanks from a place on end. A text and a place, as `scan` of text takes them.
+// Beside `scan` of text, which stops at a byte of a list: one function of both would take the test as a closure, and its clause be no plainer.
 pub fn skip_blanks(text: &[u8], at: usize) -> usize
     ensures { result ≡ at + length (up_to not_blank (drop at text.now)) }
 {
-    let mut end = at;
-    while end < text.len() {
-        if !is_blank(text[end]) {
-            return end;
-        }
-        end += 1;
-    }
-    end
+    let rest = &text[at.min(text.len())..];
+    at + rest
+        .iter()
+        .position(|b| !is_blank(*b))
+        .unwrap_or(rest.len())
 }
 
 // The length of a part without the blanks at its end.
 fn trimmed_length(part: &[u8]) -> usize
     ensures { result ≡ length (trim_end part.now) }
 {
-    let mut end = part.len();
-    while 0 < end {
-        if !is_blank(part[end - 1]) {
-            return end;
-        }
-        end -= 1;
+    match part.iter().rposition(|b| !is_blank(*b)) {
+        Some(last) => last + 1,
+        None => 0,
     }
-    end
 }
 
-fn is_left(fed: bool, from: usize, to: usize) -> bool
-    ensures { result ≡ not fed || ltb from to }
-{
-    if fed {
-        return from < to;
-    }
-    true
-}
-
-// What is left of a line.
-pub fn kept_of(line: &[u8]) -> Kept
+// What is left of a line, where the line is not passed over.
+pub fn kept_of(line: &[u8]) -> Option<Kept>
     ensures { result ≡ kept_of line.now }
 {
     let fed = scan(line, 0, b"\n") < line.len();
     let stop = scan(line, 0, b";\n");
     let from = skip_blanks(&line[0..stop], 0);
     let to = from + trimmed_length(&line[from..stop]);
-    Kept {
-        left: is_left(fed, from, to),
-        fed,
-        from,
-        to,
+    if fed && to <= from {
+        return None;
     }
+    Some(Kept { fed, from, to })
 }
 
-// The next line that remains, from a place of the text on.
+// The next line that remains, from a place of the text on. By place: where it stands is told, which an iterator over lines does not know.
 pub fn line_at(text: &[u8], at: usize) -> Remaining
     ensures { result ≡ remaining_from text.now at }
 {
@@ -93,13 +74,13 @@ pub fn line_at(text: &[u8], at: usize) -> Remaining
     let mut passed = 0;
     while place < text.len() {
         let end = line_end(text, place);
-        let k = kept_of(&text[place..end]);
-        if k.left {
+        if let Some(kept) = kept_of(&text[place..end]) {
             return Remaining {
-                found: true,
-                fed: k.fed,
-                from: place + k.from,
-                to: place + k.to,
+                line: Some(Kept {
+                    fed: kept.fed,
+                    from: place + kept.from,
+                    to: place + kept.to,
+                }),
                 passed,
                 next: end,
             };
@@ -108,16 +89,13 @@ pub fn line_at(text: &[u8], at: usize) -> Remaining
         place = end;
     }
     Remaining {
-        found: false,
-        fed: false,
-        from: place,
-        to: place,
+        line: None,
         passed,
         next: place,
     }
 }
 
-// A reader over the caller's Survex text: the text and a position in it (the form that document 01 names).
+// A reader over the caller's Survex text: the text and a position in it (the form that document 02, Job 12, names).
 #[derive(Clone, Copy)]
 pub struct Reader<'a> {
     pub text: &'a [u8],

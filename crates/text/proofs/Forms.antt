@@ -120,12 +120,12 @@ read_printed (f ∷ form) vs w p n = split (read_printed form) (eqb f 35) refl v
         (ih vs (rw (formed_byte f form e) at w) p (n ∙ marks_byte f form e))
 
 -- what a line of the form shows: its first field and the fields of the rest, or its first byte
-lead_some : (v : List ℕ) (o : Option (List (List ℕ))) (vs : List (List ℕ)) → lead v o ≡ some vs
+pub lead_some : (v : List ℕ) (o : Option (List (List ℕ))) (vs : List (List ℕ)) → lead v o ≡ some vs
     → (ws : List (List ℕ)) × (o ≡ some ws) × (vs ≡ v ∷ ws)
 lead_some v none vs h = absurd (none-ne-some vs h)
 lead_some v (some ws) vs h = (ws, refl, sym (some-injective (v ∷ ws) vs h))
 
-byte_some : (f : ℕ) (form line : List ℕ) (vs : List (List ℕ)) → cond (starts_with f line) (read_form form (drop 1 line)) none ≡ some vs
+pub byte_some : (f : ℕ) (form line : List ℕ) (vs : List (List ℕ)) → cond (starts_with f line) (read_form form (drop 1 line)) none ≡ some vs
     → (xs : List ℕ) × (line ≡ f ∷ xs) × (read_form form xs ≡ some vs)
 unfolding starts_with
 byte_some f form [] vs h = absurd (none-ne-some vs h)
@@ -136,7 +136,7 @@ byte_some f form (x ∷ xs) vs h = split (eqb x f) refl h
     split true e h = (xs, ap (λ (n : ℕ). n ∷ xs) (eqb-true x f e), h)
     split false e h = absurd (none-ne-some vs h)
 
-end_some : (line : List ℕ) (vs : List (List ℕ)) → read_form [] line ≡ some vs → (line ≡ []) × (vs ≡ [])
+pub end_some : (line : List ℕ) (vs : List (List ℕ)) → read_form [] line ≡ some vs → (line ≡ []) × (vs ≡ [])
 unfolding read_form is_empty
 end_some [] vs h = (refl, sym (some-injective [] vs h))
 end_some (x ∷ l) vs h = absurd (none-ne-some vs h)

@@ -1,33 +1,15 @@
--- What the answers of the field readers say.
-use mathlib.Core.Path.{◌≡◌, sym, ap, ◌∙◌}
+-- What an answer says that is there just where a test holds.
+use mathlib.Core.Path.{◌≡◌, refl, sym, ◌∙◌}
 use mathlib.Core.Bool.{Bool, true, false, cond}
-use mathlib.Core.List.{List}
-use Prim.Native.Nat.{ℕ}
-use Rattle.text.specs.Fields.{Spells, SpellThree, digit_string, value}
-use Rattle.text.specs.declared.field.NumberRead.{NumberRead}
-use Rattle.text.specs.declared.field.Three.{Three}
-use Rattle.text.proofs.Tests.{test, ◌and◌, each}
+use Rattle.std.proofs.Common.{Option, Some, None}
+use Rattle.std.proofs.lemmas.Option.{cond_some}
 
-module _ {t : Bool} {l : List ℕ} {r : NumberRead} (s : Spells t l r) where
-  pub test_true : r.ok ≡ true → t ≡ true
-  test_true h = sym s.ok ∙ h
+pub there : {A : Type 0} (t : Bool) (v : A) (r : Option A) (x : A) → r ≡ cond t (Some v) None → r ≡ Some x → (t ≡ true) × (x ≡ v)
+there t v r x s h = let p = cond_some t v x (sym s ∙ h) in (p.0, sym p.1)
 
-  pub test_false : r.ok ≡ false → t ≡ false
-  test_false h = sym s.ok ∙ h
-
-  pub spelled_value : r.ok ≡ true → r.value ≡ value 0 l
-  spelled_value h = s.value ∙ ap (λ (b : Bool). cond b (value 0 l) 0) (test_true h)
-
--- the values of three digit strings
-module _ {a b c : List ℕ} {r : Three} (s : SpellThree a b c r) (h : r.ok ≡ true) where
-  three : ((digit_string a ≡ true) × (digit_string b ≡ true)) × (digit_string c ≡ true)
-  three = each (test (digit_string a) and test (digit_string b) and test (digit_string c)) (sym s.ok ∙ h)
-
-  pub three_first : r.first ≡ value 0 a
-  three_first = s.first ∙ ap (λ (t : Bool). cond t (value 0 a) 0) three.0.0
-
-  pub three_second : r.second ≡ value 0 b
-  three_second = s.second ∙ ap (λ (t : Bool). cond t (value 0 b) 0) three.0.1
-
-  pub three_third : r.third ≡ value 0 c
-  three_third = s.third ∙ ap (λ (t : Bool). cond t (value 0 c) 0) three.1
+pub not_there : {A : Type 0} (t : Bool) (v : A) (r : Option A) → r ≡ cond t (Some v) None → r ≡ None → t ≡ false
+not_there t v r s h = go t (sym s ∙ h)
+  where
+    go : (b : Bool) → cond b (Some v) None ≡ None → b ≡ false
+    go true e = cc
+    go false e = refl

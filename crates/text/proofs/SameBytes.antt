@@ -1,14 +1,17 @@
--- Two byte strings compared from an index on, and what it says that they are the same.
-use Prim.Native.Nat.{ℕ, suc, ◌+◌, ◌≤◌, ◌<◌}
-use native.Mathlib.Omega.{arith}
+-- Two byte strings, and what it says that they are the same.
+use Prim.Native.Nat.{ℕ}
 use mathlib.Core.Path.{◌≡◌, refl, sym, ap, ap₂, ◌∙◌}
-use mathlib.Core.Bool.{Bool, true, false, ◌&&◌, and-eq-true_iff, false≢true}
+use mathlib.Core.Bool.{Bool, true, false, cond, ◌&&◌, and-eq-true_iff, false≢true}
 use mathlib.Core.List.{List, [], ◌∷◌}
+use mathlib.Core.Option.{Option, some, none}
 use lib.Dec.{eqb}
-use lib.ListN.{length, get_or, drop, drop_of_length-le}
-use borrow.Author.Tests.{eq-eqb, ne_eqb, eqb-true}
+use borrow.Author.Tests.{eq-eqb, eqb-true}
+use Rattle.std.specs.Str.{bytes_eq}
+use Rattle.std.proofs.lemmas.Slice.Eq.{bytes_eq-Decides}
 use Rattle.text.specs.Fields.{same}
-use Rattle.text.proofs.Scan.{ahead}
+use Rattle.text.specs.Forms.{marks, read_form}
+use Rattle.text.specs.Theorems.{all_plain}
+use Rattle.text.proofs.Forms.{unmarked, read_printed, printed_read}
 
 pub same_refl : (a : List ℕ) → same a a ≡ true
 unfolding same
@@ -25,34 +28,29 @@ same_bytes (x ∷ a) (y ∷ b) h =
     let t = (and-eq-true_iff (eqb x y) (same a b)).0 h in
     ap₂ (λ (n : ℕ) (l : List ℕ). n ∷ l) (eqb-true x y t.0) (same_bytes a b t.1)
 
-pub same_lengths : (a b : List ℕ) → (length a ≡ length b → ⊥) → false ≡ same a b
+-- what `==` of std says of two byte strings
+pub same_is : (a b : List ℕ) → bytes_eq a b ≡ same a b
 unfolding same
-same_lengths [] [] h = absurd (h refl)
-same_lengths [] (y ∷ b) h = refl
-same_lengths (x ∷ a) [] h = refl
-same_lengths (x ∷ a) (y ∷ b) h = go (eqb x y) (same_lengths a b (λ e. h (ap suc e)))
+same_is [] [] = refl
+same_is [] (y ∷ b) = refl
+same_is (x ∷ a) [] = refl
+same_is (x ∷ a) (y ∷ b) = ap (λ (t : Bool). eqb x y && t) (same_is a b)
+
+-- a form without fields has the one line that it is
+pub unmarked_read : (form l : List ℕ) → 0 ≡ marks form → read_form form l ≡ cond (bytes_eq l form) (some []) none
+unfolding all_plain
+unmarked_read form l e = split (bytes_eq l form) refl
   where
-    go : (t : Bool) → false ≡ same a b → false ≡ t && same a b
-    go true ih = ih
-    go false ih = refl
+    d : (bytes_eq l form ≡ true → l ≡ form) × (l ≡ form → bytes_eq l form ≡ true)
+    d = bytes_eq-Decides l form
 
--- the bytes from i on are the same as from the start
-pub record SameSoFar (a b : List ℕ) (i : ℕ) : Type 0 where
-  pub long : length a ≡ length b
-  pub rest : same a b ≡ same (drop i a) (drop i b)
+    itself : read_form form form ≡ some []
+    itself = ap (read_form form) (sym (unmarked form [] e).0) ∙ read_printed form [] (unmarked form [] e).1 refl e
 
-module _ (a b : List ℕ) (i : ℕ) (s : SameSoFar a b i) where
-  module _ (h : i < length a) where
-    one_ahead : same a b ≡ eqb (get_or a i 0) (get_or b i 0) && same (drop (i + 1) a) (drop (i + 1) b)
-    unfolding same
-    one_ahead = s.rest ∙ rw (ahead a i h, ahead b i (omega (arith, s.long)))
+    other : bytes_eq l form ≡ false → (o : Option (List (List ℕ))) → read_form form l ≡ o → o ≡ none
+    other b none r = refl
+    other b (some vs) r = absurd (false≢true (sym b ∙ d.1 (sym (printed_read form l vs r) ∙ (unmarked form vs e).0)))
 
-    pub same_on : get_or a i 0 ≡ get_or b i 0 → SameSoFar a b (i + 1)
-    same_on e = record { long = s.long; rest = one_ahead ∙ rw (eq-eqb (get_or a i 0) (get_or b i 0) e) }
-
-    pub same_off : (get_or a i 0 ≡ get_or b i 0 → ⊥) → false ≡ same a b
-    same_off e = sym (one_ahead ∙ rw (ne_eqb (get_or a i 0) (get_or b i 0) e))
-
-  pub same_end : length a ≤ i → true ≡ same a b
-  unfolding same
-  same_end h = sym (s.rest ∙ rw (drop_of_length-le a {i = i} h, drop_of_length-le b {i = i} (omega (arith, s.long))))
+    split : (b : Bool) → bytes_eq l form ≡ b → read_form form l ≡ cond b (some []) none
+    split true b = rw (d.0 b) itself
+    split false b = other b (read_form form l) refl

@@ -1,17 +1,25 @@
 -- One step of a scan over a list by its index: tests, values and runs of what lies ahead.
-use Prim.Native.Nat.{ℕ, ◌+◌, ◌-◌, ◌*◌, ◌^◌, ◌≤◌, ◌<◌}
+use Prim.Native.Nat.{ℕ, zero, suc, ◌+◌, ◌-◌, ◌*◌, ◌^◌, ◌≤◌, ◌<◌, min}
 use native.Mathlib.Omega.{arith}
 use native.Mathlib.Numerals.{add-one}
 use native.Mathlib.Nat.{pow-suc, pow-le-pow_right}
 use mathlib.Core.Path.{◌≡◌, refl, sym, ap, ◌∙◌}
-use mathlib.Core.Bool.{Bool, true, false, cond, not, ◌&&◌, ◌||◌, and-false, and-true, or-true, and-eq-true_iff}
+use mathlib.Core.Bool.{Bool, true, false, cond, not, ◌&&◌, ◌||◌, and-false, and-true, or-true, and-eq-true_iff, true≢false}
 use mathlib.Core.List.{List, [], ◌∷◌, ◌++◌}
 use lib.Dec.{leb, ltb, eqb}
-use lib.ListN.{length, get_or, take, drop, length-append, drop_of_length-le}
-use lib.Seq.{drop-cons, take-append_seam}
+use lib.ListN.{length, get_or, take, drop, length-append, length-drop, drop_of_length-le}
+use lib.Seq.{drop-cons, take-append_seam, take_all}
 use native.Mathlib.Decide.{dec_lt}
-use borrow.Author.Tests.{lt-leb, le-leb, eq-eqb, ne_eqb, lt-ltb, le-ltb}
-use Rattle.text.specs.Fields.{all, value, digit, digit_string}
+use borrow.Author.Tests.{lt-leb, le-leb, eq-eqb, ne_eqb, lt-ltb, le-ltb, eqb-true}
+use mathlib.Core.Logic.{◌⊎◌, inl, inr}
+use Rattle.std.proofs.Common.{Option, Some, None, Bor}
+use Rattle.std.specs.Slice.{IsGetRangeResult}
+use Rattle.text.specs.declared.field.Place.{Place}
+use Rattle.std.proofs.lemmas.List.Recursion.{is_position_or_len}
+use Rattle.std.specs.Char.{is_ascii_alphanumeric}
+use Rattle.std.specs.List.{list_any, list_all, position_or_len}
+use Rattle.std.specs.Option.{unwrap_or}
+use Rattle.text.specs.Fields.{all, value, digit, letter, letter_or_digit, digit_string, few_digits, part_of}
 use Rattle.text.specs.Scan.{one_of, up_to}
 
 pub ahead : (l : List ℕ) (i : ℕ) → i < length l → drop i l ≡ get_or l i 0 ∷ drop (i + 1) l
@@ -39,19 +47,11 @@ all_weaker p q f (x ∷ l) h =
     let t = (and-eq-true_iff (p x) (all p l)).0 h in
     (and-eq-true_iff (q x) (all q l)).1 (f x t.0, all_weaker p q f l t.1)
 
--- a search for one byte
-module _ (l : List ℕ) (b i : ℕ) (e : one_of l b ≡ one_of (drop i l) b) where
-  pub found_one : i < length l → get_or l i 0 ≡ b → true ≡ one_of l b
-  unfolding one_of
-  found_one h t = sym (e ∙ rw (ahead l i h, eq-eqb (get_or l i 0) b t))
-
-  pub found_not : i < length l → (get_or l i 0 ≡ b → ⊥) → one_of l b ≡ one_of (drop (i + 1) l) b
-  unfolding one_of
-  found_not h t = e ∙ rw (ahead l i h, ne_eqb (get_or l i 0) b t)
-
-  pub found_none : length l ≤ i → false ≡ one_of l b
-  unfolding one_of
-  found_none h = sym (e ∙ rw (drop_of_length-le l {i = i} h))
+-- a byte that std's test finds among others
+pub one_of_any : (l : List ℕ) (b : ℕ) → list_any (λ y. eqb y b) l ≡ one_of l b
+unfolding one_of
+one_of_any [] b = refl
+one_of_any (x ∷ l) b = ap (λ (t : Bool). eqb x b || t) (one_of_any l b)
 
 pub value_ahead : (l : List ℕ) (i n : ℕ) → i < length l → value n (drop i l) ≡ value (n * 10 + (get_or l i 0 - 48)) (drop (i + 1) l)
 unfolding value
@@ -112,30 +112,93 @@ module _ (stop : ℕ → Bool) where
       ap (λ (m : List ℕ). take (length (up_to stop l)) m) (sym (run_rest l))
       ∙ take-append_seam (up_to stop l) (drop (length (up_to stop l)) l)
 
+-- the place that std's search for a stop finds, or else the end
+module _ (test stop : ℕ → Bool) (same : (x : ℕ) → test x ≡ stop x) where
+  run_place : (l : List ℕ) → length (up_to stop l) ≡ position_or_len test l
+  unfolding up_to
+  run_place l = is_position_or_len (λ (l : List ℕ). length (up_to stop l)) test refl (λ x xs. rw (same x) (step x (stop x) (up_to stop xs))) l
+    where
+      step : (x : ℕ) (b : Bool) (m : List ℕ) → length (cond b [] (x ∷ m)) ≡ cond b 0 (1 + length m)
+      step x true m = refl
+      step x false m = omega arith
+
+  pub place_or_end : (l : List ℕ) (r : Option ℕ)
+      → r ≡ cond (ltb (position_or_len test l) (length l)) (Some (position_or_len test l)) None
+      → unwrap_or r (length l) ≡ length (up_to stop l)
+  place_or_end l r e = rw (e, ← run_place l) (go (dec_lt (length (up_to stop l)) (length l)))
+    where
+      go : Dec (length (up_to stop l) < length l) → unwrap_or (cond (ltb (length (up_to stop l)) (length l)) (Some (length (up_to stop l))) None) (length l) ≡ length (up_to stop l)
+      go (yes h) = rw (lt-ltb _ _ h)
+      go (no h) = rw (le-ltb (length (up_to stop l)) (length l) (omega (arith, h))) (omega (arith, h, run_length stop l))
+
+-- the rest of a text from a place on, which may lie beyond its end
+pub rest_from : (at : ℕ) (l : List ℕ) (n : ℕ) → n ≡ min at (length l) → take (length l - n) (drop n l) ≡ drop at l
+rest_from at l n e = go (dec_lt at (length l))
+  where
+    whole : take (length l - n) (drop n l) ≡ drop n l
+    whole = take_all (length l - n) (drop n l) (omega (arith, length-drop n l))
+
+    go : Dec (at < length l) → take (length l - n) (drop n l) ≡ drop at l
+    go (yes h) = let k : n ≡ at = omega arith in whole ∙ rw k
+    go (no h) = whole ∙ rw (drop_of_length-le l {i = n} (omega (arith, h)), drop_of_length-le l {i = at} (omega (arith, h)))
+
 -- a part that ends before it starts is empty
 pub part_none : (b : Bool) (n : ℕ) (l : List ℕ) → n ≡ 0 → [] ≡ cond b (take n l) []
 part_none true n l e = rw e
 part_none false n l e = refl
 
--- why a field is no digit string, or when its digits decide
+-- the part that std's `get` gives, or else an empty one
+pub part_got : (line : List ℕ) (p : Place) (r : Option (Bor (List ℕ))) (other : Bor (List ℕ)) → other.now ≡ [] → IsGetRangeResult line p.from p.to r
+    → (unwrap_or r other).now ≡ part_of line p
+unfolding part_of
+part_got line p (Some x) other e g = g.0.2 ∙ sym (rw (le-leb p.to (length line) g.0.1))
+part_got line p None other e g = e ∙ go g.0
+  where
+    go : (p.to < p.from) ⊎ (length line < p.to) → [] ≡ cond (leb p.to (length line)) (take (p.to - p.from) (drop p.from line)) []
+    go (inl h) = part_none (leb p.to (length line)) (p.to - p.from) (drop p.from line) (omega arith)
+    go (inr h) = rw (lt-leb p.to (length line) h)
+
+-- a length that std's `is_empty` has tested
+pub empty : (n : ℕ) → eqb n 0 ≡ true → n ≤ 0
+empty n e = omega (arith, eqb-true n 0 e)
+
+pub some : (n : ℕ) → eqb n 0 ≡ false → 0 < n
+some zero e = absurd (true≢false e)
+some (suc n) e = omega arith
+
+-- when a field is a digit string: digits, and few enough, without a leading zero
 module _ (l : List ℕ) where
-  pub digit_string_short : length l < 1 → false ≡ digit_string l
+  pub digit_string_none : eqb (length l) 0 ≡ true → false ≡ digit_string l
   unfolding digit_string
-  digit_string_short h = rw (le-ltb 0 (length l) (omega arith))
+  digit_string_none h = rw (le-ltb 0 (length l) (empty (length l) h))
 
-  pub digit_string_long : 10 < length l → false ≡ digit_string l
+  pub digit_string_zero : (length l ≡ 1 → ⊥) → get_or l 0 0 ≡ 48 → false ≡ digit_string l
   unfolding digit_string
-  digit_string_long h = rw (lt-leb (length l) 10 h, and-false (ltb 0 (length l)))
-
-  pub digit_string_zero : 1 < length l → get_or l 0 0 ≡ 48 → false ≡ digit_string l
-  unfolding digit_string
-  digit_string_zero h e = rw (ne_eqb (length l) 1 (λ t. omega (arith, t)), e)
+  digit_string_zero h e = rw (ne_eqb (length l) 1 h, e)
       (sym (and-false (ltb 0 (length l) && leb (length l) 10 && all digit l)))
 
-  pub digit_string_digits : 0 < length l → length l ≤ 10 → (1 < length l → get_or l 0 0 ≡ 48 → ⊥) → all digit l ≡ digit_string l
-  unfolding digit_string
-  digit_string_digits h k z = rw (lt-ltb 0 (length l) h, le-leb (length l) 10 k) (lead (dec_lt 1 (length l)))
+  pub digit_string_few : eqb (length l) 0 ≡ false → ((length l ≡ 1 → ⊥) → get_or l 0 0 ≡ 48 → ⊥) → few_digits l ≡ digit_string l
+  unfolding digit_string few_digits
+  digit_string_few h z = rw (lt-ltb 0 (length l) (some (length l) h)) (lead (dec_lt 1 (length l)))
     where
-      lead : Dec (1 < length l) → all digit l ≡ all digit l && (eqb (length l) 1 || not (eqb (get_or l 0 0) 48))
-      lead (yes p) = rw (ne_eqb (get_or l 0 0) 48 (z p), or-true (eqb (length l) 1), and-true)
-      lead (no p) = rw (eq-eqb (length l) 1 (omega (arith, p)), and-true)
+      lead : Dec (1 < length l) → leb (length l) 10 && all digit l ≡ leb (length l) 10 && all digit l && (eqb (length l) 1 || not (eqb (get_or l 0 0) 48))
+      lead (yes p) = rw (ne_eqb (get_or l 0 0) 48 (z (λ e. omega (arith, e))), or-true (eqb (length l) 1), and-true)
+      lead (no p) = rw (eq-eqb (length l) 1 (omega (arith, p, some (length l) h)), and-true)
+
+-- std's words for a test of all bytes, and for the letters and digits
+pub all_is : (p q : ℕ → Bool) → ((x : ℕ) → p x ≡ q x) → (l : List ℕ) → list_all p l ≡ all q l
+unfolding all
+all_is p q same [] = refl
+all_is p q same (x ∷ l) = rw (same x, all_is p q same l)
+
+pub alphanumeric : (b : ℕ) → is_ascii_alphanumeric b ≡ letter_or_digit b
+unfolding letter_or_digit letter digit
+alphanumeric b = go (leb 48 b && leb b 57) (leb 65 b && leb b 90) (leb 97 b && leb b 122)
+  where
+    go : (d u l : Bool) → (d || u) || l ≡ (u || l) || d
+    go true true l = refl
+    go true false true = refl
+    go true false false = refl
+    go false true l = refl
+    go false false true = refl
+    go false false false = refl

@@ -2,11 +2,12 @@
 use Prim.Native.Nat.{ℕ, suc, ◌+◌, ◌-◌, ◌≤◌, ◌<◌}
 use native.Mathlib.Omega.{arith}
 use mathlib.Core.Path.{◌≡◌, refl, sym, ap, ◌∙◌}
-use mathlib.Core.Bool.{Bool, true, false, cond, not, and-eq-true_iff}
+use mathlib.Core.Bool.{Bool, true, false, cond, not, and-eq-true_iff, true≢false}
 use mathlib.Core.List.{List, [], ◌∷◌, ◌++◌}
+use lib.Dec.{eqb}
 use lib.ListN.{length, get_or, take, drop, length-append, length-take, length-drop}
 use lib.Seq.{drop-drop, take-append_seam}
-use borrow.Author.Tests.{not-true}
+use borrow.Author.Tests.{not-true, eqb-true}
 use Rattle.text.specs.Fields.{all}
 use Rattle.text.specs.Scan.{one_of, up_to, line_feed, before, lines, first_line}
 use Rattle.text.specs.Theorems.{no_feed, join}
@@ -39,7 +40,7 @@ first_take l =
     ap (λ (m : List ℕ). take (length (first_line l)) m) (sym (first_rest l)) ∙ take-append_seam (first_line l)
     (drop (length (first_line l)) l)
 
-first_length : (l : List ℕ) → length (first_line l) ≤ length l
+pub first_length : (l : List ℕ) → length (first_line l) ≤ length l
 first_length l = omega (arith, simp length-append at (ap length (first_rest l)))
 
 first_some : (x : ℕ) (l : List ℕ) → 0 < length (first_line (x ∷ l))
@@ -103,6 +104,18 @@ module _ (l : List ℕ) (at : ℕ) (h : at < length l) where
       ap lines (ahead l at h)
       ∙ lines_first (get_or l at 0) (drop (at + 1) l)
       ∙ rw (← ahead l at h, drop-drop (length (first_line (drop at l))) at l)
+
+-- a text without bytes has no lines; any other is its first line and the lines of the rest
+pub no_lines : (l : List ℕ) → eqb (length l) 0 ≡ true → lines l ≡ []
+unfolding lines
+no_lines [] h = refl
+no_lines (x ∷ l) h = absurd (omega (arith, eqb-true _ 0 h))
+
+pub lines_next : (l : List ℕ) (n : ℕ) → eqb (length l) 0 ≡ false → n ≡ 0 + length (first_line l) → lines l ≡ take n l ∷ lines (drop n l)
+lines_next [] n h e = absurd (true≢false h)
+lines_next (x ∷ l) n h e =
+    let k : n ≡ length (first_line (x ∷ l)) = omega (arith, e) in
+    rw (k, first_take (x ∷ l)) (lines_first x l)
 
 -- bytes without a line feed go before the first line
 pub lines_prefix : (v m p : List ℕ) (ls : List (List ℕ)) → no_feed v ≡ true → lines m ≡ p ∷ ls → lines (v ++ m) ≡ (v ++ p) ∷ ls

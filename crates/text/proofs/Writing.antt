@@ -1,29 +1,17 @@
 -- Bytes written into a buffer: one write after another, what it leaves alone, and where it ends.
 use Prim.Native.Nat.{ℕ, suc, ◌+◌, ◌-◌, ◌/◌, ◌%◌, ◌≤◌, ◌<◌, min}
 use native.Mathlib.Omega.{arith}
-use native.Mathlib.Numerals.{add-one}
 use native.Mathlib.Nat.{add-zero}
 use native.Mathlib.Decide.{dec_lt}
 use mathlib.Core.Path.{◌≡◌, refl, sym, ap, ◌∙◌}
-use mathlib.Core.List.{List, [], ◌∷◌, ◌++◌, append_assoc}
-use lib.ListN.{length, get_or, take, drop, set, replicate, length-replicate, length-append, length-set, length-drop, take-append-drop}
-use lib.Seq.{
-  sets,
-  length-sets,
-  sets-eq,
-  set_out,
-  take-suc,
-  take_all,
-  take_at,
-  length-take-le,
-  drop-set-lt,
-  drop-cons,
-  get_or-set_same,
-}
+use mathlib.Core.List.{List, [], ◌∷◌, ◌++◌, append_assoc, append-nil}
+use lib.ListN.{length, take, drop, set, replicate, length-replicate, length-append, take-append-drop, drop_of_length-le}
+use lib.Seq.{sets, length-sets, drop-drop, take-length, sets-eq, set_out, take_all, take_at, length-take-le}
+use borrow.Rule.Slice.PartMut.{put_mid}
+use Rattle.std.proofs.lemmas.List.{drop-set}
 use Rattle.text.specs.Fields.{decimal}
-use Rattle.text.specs.Buffer.{written, position_after, Puts}
-use Rattle.text.specs.Private.{SpelledIn}
-use Rattle.text.specs.declared.buffer.Digits.{Digits}
+use Rattle.text.specs.Buffer.{written, position_after, Puts, Writes}
+use Rattle.text.specs.declared.buffer.Writer.{Writer}
 use Rattle.text.proofs.Decimal.{decimal_one, decimal_more}
 
 sets_append : (d : List ℕ) (at : ℕ) (s t : List ℕ) → sets d at (s ++ t) ≡ sets (sets d at s) (at + length s) t
@@ -107,6 +95,13 @@ pub then_puts : (d : List ℕ) (at : ℕ) (s t : List ℕ) {e f : List ℕ} {a b
 then_puts d at s t p q =
     (q.0 ∙ rw (p.0, p.1) (position_append d at s t), q.1 ∙ rw (p.0, p.1) (written_append d at s t))
 
+pub then_writes : {a b c : Writer} {s t : List ℕ} → Writes a s b → Writes b t c → Writes a (s ++ t) c
+then_writes {a} {b} {c} {s} {t} p q = record { same_buffer = q.same_buffer ∙ p.same_buffer; puts = then_puts a.out.now a.at s t p.puts q.puts }
+
+-- what a writer wrote that began at the beginning of a buffer
+pub writer_puts : {out : List ℕ} {a b : Writer} {s t : List ℕ} → (a.out.now ≡ out) × (a.at ≡ 0) → Writes a s b → s ≡ t → Puts out 0 t b.at b.out.now
+writer_puts start w e = rw (e, start.0, start.1) at w.puts
+
 -- the position after what was put is within the buffer
 pub puts_within : (d : List ℕ) (at : ℕ) (s : List ℕ) {next : ℕ} {e : List ℕ} → at ≤ length d → Puts d at s next e → next ≤ length e
 unfolding position_after
@@ -114,43 +109,59 @@ puts_within d at s h p = rw (p.0, p.1, written_length d at s) (omega arith)
 
 -- bytes put into a room of zeros: the position is within it, and where they fit, they are what stands before it
 module _ (room : ℕ) (s : List ℕ) {next : ℕ} {e : List ℕ} (p : Puts (replicate room 0) 0 s next e) where
-  pub room_within : next ≤ length e
-  room_within = puts_within (replicate room 0) 0 s (omega arith) p
+  pub room_bound : next ≤ room
+  unfolding position_after
+  room_bound = omega (arith, p.0, length-replicate {A = ℕ} room 0)
 
-  pub room_holds : length s ≤ room → (next ≡ length s) × (take (next - 0) (drop 0 e) ≡ s)
+  pub room_holds : length s ≤ room → (next ≡ length s) × (take next e ≡ s)
   room_holds h =
       let zeros : List ℕ = replicate room 0 in
       let size : length zeros ≡ room = length-replicate room 0 in
       let fit : 0 + length s ≤ length zeros = omega (arith, h, size) in
       let n : next ≡ 0 + length s = p.0 ∙ position_fits zeros 0 s fit in (
         omega (arith, n),
-        rw p.1 (ap (λ (k : ℕ). take k (written zeros 0 s)) {x = next - 0} {y = 0 + length s} (omega (arith, n)) ∙ written_take zeros 0 s fit),
+        rw p.1 (ap (λ (k : ℕ). take k (written zeros 0 s)) {x = next} {y = 0 + length s} n ∙ written_take zeros 0 s fit),
       )
 
--- the loop of `put`: one byte more, and the end
-module _ (d : List ℕ) (at : ℕ) (s : List ℕ) where
-  pub put_start : d ≡ written d at (take 0 s)
-  unfolding written
-  put_start = refl
+-- as many bytes as fit, copied into a part of the buffer
+module _ (d : List ℕ) (at : ℕ) (s : List ℕ) (start n : ℕ) (u : start ≡ min at (length d)) (e : n ≡ min (length s) (length d - start)) where
+  few_size : length (take n s) ≡ n
+  few_size = length-take-le n s (omega (arith, e))
 
-  pub put_more : (i : ℕ) → i < length s → set (written d at (take i s)) (at + i) (get_or s i 0) ≡ written d at (take (i + 1) s)
-  unfolding written
-  put_more i h =
-      let e = length-take-le i s (omega arith) in
-      sym (rw (add-one i, take-suc s i 0 h) (sets_append d at (take i s) (get_or s i 0 ∷ []) ∙ rw e))
+  pub put_next : at + n ≡ position_after d at s
+  unfolding position_after
+  put_next = omega (arith, u, e)
 
-  pub put_all : (i : ℕ) → i ≡ min (length s) (length d - at) → written d at (take i s) ≡ written d at s
-  unfolding written
-  put_all i e = split (dec_lt i (length s))
+  -- no more would fit
+  all_fit : sets d at (take n s) ≡ sets d at s
+  all_fit = split (dec_lt n (length s))
     where
-      split : Dec (i < length s) → sets d at (take i s) ≡ sets d at s
-      split (no h) = ap (λ (l : List ℕ). sets d at l) (take_all i s (omega (arith, h)))
+      split : Dec (n < length s) → sets d at (take n s) ≡ sets d at s
+      split (no h) = ap (λ (l : List ℕ). sets d at l) (take_all n s (omega (arith, h)))
       split (yes h) =
-          let l = length-take-le i s (omega arith) in
-          let out : length (sets d at (take i s)) ≤ at + length (take i s) = rw (length-sets d at (take i s), l)
-          (omega (arith, e)) in
-          sym (ap (λ (m : List ℕ). sets d at m) (sym (take-append-drop i s)) ∙ sets_append d at (take i s) (drop i s)
-          ∙ sets_out (sets d at (take i s)) (at + length (take i s)) (drop i s) out)
+          let out : length (sets d at (take n s)) ≤ at + length (take n s) = rw (length-sets d at (take n s), few_size) (omega (arith, u, e)) in
+          sym (ap (λ (m : List ℕ). sets d at m) (sym (take-append-drop n s)) ∙ sets_append d at (take n s) (drop n s)
+          ∙ sets_out (sets d at (take n s)) (at + length (take n s)) (drop n s) out)
+
+  pub put_part : (k m : ℕ) → k ≡ n → m ≡ n → put_mid start k d (take m s) ≡ written d at s
+  unfolding written
+  put_part k m ek em = rw (ek, em) (split (dec_lt (length d) at))
+    where
+      split : Dec (length d < at) → put_mid start n d (take n s) ≡ sets d at s
+      split (no h) =
+          let i : start ≡ at = omega (arith, u, h) in
+          let room : at + length (take n s) ≤ length d = omega (arith, u, e, h, few_size) in
+          rw i
+          (ap (λ (l : List ℕ). take at d ++ (take n s ++ l)) (drop-drop n at d)
+          ∙ sym (append_assoc (take at d) (take n s) (drop (at + n) d))
+          ∙ ap (λ (c : ℕ). take at d ++ take n s ++ drop (at + c) d) (sym few_size)
+          ∙ sym (sets-eq (take n s) d at room) ∙ all_fit)
+      split (yes h) =
+          let i : start ≡ length d = omega (arith, u, h) in
+          let z : n ≡ 0 = omega (arith, u, e, h) in
+          rw (i, z)
+          (ap (λ (l : List ℕ). l ++ drop 0 (drop (length d) d)) (take-length d)
+          ∙ ap (λ (l : List ℕ). d ++ l) (drop_of_length-le d {i = length d} (omega arith)) ∙ append-nil d ∙ sym (sets_out d at s (omega arith)))
 
 -- one byte
 module _ (d : List ℕ) (at x : ℕ) where
@@ -163,11 +174,6 @@ module _ (d : List ℕ) (at x : ℕ) where
   put_none h = (omega arith, sym (set_out d at x h))
 
 -- the digits are stored from the last to the first
-pub digit_stored : (l : List ℕ) (k x : ℕ) → k < length l → drop k (set l k x) ≡ x ∷ drop (k + 1) l
-digit_stored l k x h =
-    drop-cons (set l k x) k 0 (rw (length-set l k x) h)
-    ∙ rw (get_or-set_same l k x 0 h, drop-set-lt (suc k) l k x (omega arith), add-one k)
-
 module _ (n rest from : ℕ) (bytes : List ℕ) (size : length bytes ≡ 20) (most : from ≤ 20)
     (all : decimal n ≡ decimal rest ++ drop from bytes) where
   pub digit_step : 0 < from → 10 ≤ rest → decimal n ≡ decimal (rest / 10) ++ drop (from - 1)
@@ -175,17 +181,12 @@ module _ (n rest from : ℕ) (bytes : List ℕ) (size : length bytes ≡ 20) (mo
   digit_step h k =
       let e : from - 1 + 1 ≡ from = omega arith in
       all
-      ∙ rw (decimal_more rest k, append_assoc, digit_stored bytes (from - 1) (48 + rest % 10) (omega (arith, size)), e)
+      ∙ rw (decimal_more rest k, append_assoc, drop-set bytes (from - 1) (48 + rest % 10) (omega (arith, size)), e)
 
   pub digit_last : 0 < from → rest < 10 → drop (from - 1) (set bytes (from - 1) (48 + rest)) ≡ decimal n
   digit_last h k =
       let e : from - 1 + 1 ≡ from = omega arith in
-      sym (all ∙ rw (decimal_one rest k, digit_stored bytes (from - 1) (48 + rest) (omega (arith, size)), e))
+      sym (all ∙ rw (decimal_one rest k, drop-set bytes (from - 1) (48 + rest) (omega (arith, size)), e))
 
 pub length_more : (n : ℕ) → 10 ≤ n → length (decimal n) ≡ length (decimal (n / 10)) + 1
 length_more n h = ap length (decimal_more n h) ∙ length-append (decimal (n / 10)) ((48 + n % 10) ∷ [])
-
--- all of the digits, as a part of the bytes
-pub digits_whole : (n : ℕ) (d : Digits) → SpelledIn n d → take (20 - d.from) (drop d.from d.bytes) ≡ decimal n
-digits_whole n d s = take_all (20 - d.from) (drop d.from d.bytes)
-    (omega (arith, length-drop d.from d.bytes, s.size)) ∙ s.digits

@@ -1,10 +1,8 @@
 -- Names and digit strings (document 01, "A job and its listing"): their printers and their readers, over lists of bytes.
-use Rattle.std.specs.Prelude.{ℕ, zero, suc, ◌+◌, ◌-◌, ◌*◌, ◌/◌, ◌%◌, ◌≡◌, Bool, true, false, cond, not, ◌&&◌, ◌||◌, List, [], ◌∷◌, ◌++◌, leb, ltb, eqb, length, get_or, take, drop}
+use Rattle.std.specs.Prelude.{ℕ, zero, suc, ◌+◌, ◌-◌, ◌*◌, ◌/◌, ◌%◌, ◌≡◌, Bool, true, false, cond, Option, Some, None, not, ◌&&◌, ◌||◌, List, [], ◌∷◌, ◌++◌, leb, ltb, eqb, length, get_or, take, drop}
 use Rattle.text.specs.Limits.{name_length, most_digits}
 use Rattle.text.specs.Ascii.{byte}
 use Rattle.text.specs.declared.field.Place.{Place}
-use Rattle.text.specs.declared.field.NumberRead.{NumberRead}
-use Rattle.text.specs.declared.field.Three.{Three}
 
 -- the bytes of the list all pass the test
 unfoldable pub all : (ℕ → Bool) → List ℕ → Bool
@@ -57,17 +55,13 @@ decimal n = decimal_by n n
 unfoldable pub part_of : List ℕ → Place → List ℕ
 part_of line p = cond (leb p.to (length line)) (take (p.to - p.from) (drop p.from line)) []
 
--- ok as the test says, and then the number that the digits spell
-pub record Spells (test : Bool) (digits : List ℕ) (r : NumberRead) : Type 0 where
-  pub ok : r.ok ≡ test
-  pub value : r.value ≡ cond test (value 0 digits) 0
+-- the number that the digits spell, just where the test holds
+abbrev pub Spells : Bool → List ℕ → Option ℕ → Type 0
+Spells test digits r = r ≡ cond test (Some (value 0 digits)) None
 
--- three fields: ok where all are digit strings, and what each spells
-pub record SpellThree (x y z : List ℕ) (r : Three) : Type 0 where
-  pub ok : r.ok ≡ digit_string x && digit_string y && digit_string z
-  pub first : r.first ≡ cond (digit_string x) (value 0 x) 0
-  pub second : r.second ≡ cond (digit_string y) (value 0 y) 0
-  pub third : r.third ≡ cond (digit_string z) (value 0 z) 0
+-- what three fields spell, just where all are digit strings
+abbrev pub SpellThree : List ℕ → List ℕ → List ℕ → Option (ℕ × ℕ × ℕ) → Type 0
+SpellThree x y z r = r ≡ cond (digit_string x && digit_string y && digit_string z) (Some (value 0 x, value 0 y, value 0 z)) None
 
 -- two names are the same bytes
 unfoldable pub same : List ℕ → List ℕ → Bool

@@ -1,12 +1,11 @@
 -- Forms: bytes that a line has as they stand, and # for each of its fields. The printer and the reader of a form.
-use Rattle.std.specs.Prelude.{ℕ, suc, ◌+◌, Bool, true, false, cond, ◌&&◌, List, [], ◌∷◌, ◌++◌, map, leb, ltb, eqb, length, get_or, take, drop, set, replicate}
+use Rattle.std.specs.Prelude.{ℕ, suc, ◌+◌, Bool, true, false, cond, ◌&&◌, List, [], ◌∷◌, ◌++◌, map, eqb, length, get_or, drop}
 use Rattle.std.proofs.Math.Option.{Option, some, none}
-use Rattle.text.specs.Limits.{form_fields}
+use Rattle.std.specs.Prelude.{Option as StdOption, Some, None}
 use Rattle.text.specs.Ascii.{byte}
 use Rattle.text.specs.Scan.{field}
 use Rattle.text.specs.Fields.{digit_string, value, part_of}
 use Rattle.text.specs.declared.field.Place.{Place}
-use Rattle.text.specs.declared.form.Found.{Found}
 
 -- whether a byte of a form stands for a field
 abbrev pub mark : ℕ → Bool
@@ -64,43 +63,24 @@ digit_string_at fields i = digit_string (field_at fields i)
 abbrev pub three_at : List (List ℕ) → ℕ → Bool
 three_at fields i = digit_string_at fields i && digit_string_at fields (i + 1) && digit_string_at fields (i + 2)
 
--- the reader of forms with few enough fields
-unfoldable pub read_few : List ℕ → List ℕ → Option (List (List ℕ))
-read_few form line = cond (leb (marks form) form_fields) (read_form form line) none
+-- the reader of forms with just so many fields
+unfoldable pub read_exactly : ℕ → List ℕ → List ℕ → Option (List (List ℕ))
+read_exactly n form line = cond (eqb (marks form) n) (read_form form line) none
 
 -- the fields at places of a line
 abbrev pub fields_at : List ℕ → List Place → List (List ℕ)
 fields_at line places = map (part_of line) places
 
--- the fields that were found: as many places as the form has, or none
-unfoldable pub found_in : List ℕ → List ℕ → Found → Option (List (List ℕ))
-found_in form line c = cond c.ok (some (fields_at line (take (marks form) c.places))) none
+-- the fields at the places that were found, or none
+unfoldable pub found_in : List ℕ → StdOption (List Place) → Option (List (List ℕ))
+found_in line (Some places) = some (fields_at line places)
+found_in line None = none
 
 -- ---- Where the fields stand
-
--- one byte of a form: # takes the next field, any other byte is the line's next
-unfoldable pub form_step : ℕ → List ℕ → Found → Found
-form_step f line c =
-    let end = c.at + length (field (drop c.at line)) in
-    let none : Found = record { ok = false; at = c.at; count = c.count; places = c.places } in
-    cond (mark f)
-    (cond (leb form_fields c.count) none
-    (record { ok = true; at = end; count = c.count + 1; places = set c.places c.count (record { from = c.at; to = end }) }))
-    (cond (leb (length line) c.at) none
-    (record { ok = eqb (get_or line c.at 0) f; at = c.at + 1; count = c.count; places = c.places }))
-
--- a form from some byte on, up to the first that does not fit; at its end the line must be at its end
-unfoldable pub found_from : List ℕ → List ℕ → Found → Found
-found_from [] line c = cond (ltb c.at (length line)) (record { ok = false; at = c.at; count = c.count; places = c.places }) c
-found_from (f ∷ form) line c = cond (form_step f line c).ok (found_from form line (form_step f line c)) (form_step f line c)
 
 -- a place where no field was found
 abbrev pub no_place : Place
 no_place = record { from = 0; to = 0 }
-
--- how far a form fits a line: all that was found
-unfoldable pub found_of : List ℕ → List ℕ → Found
-found_of form line = found_from form line (record { ok = true; at = 0; count = 0; places = replicate form_fields no_place })
 
 -- the places of a form's fields in a line, from a place on: each from where the bytes before its # end
 unfoldable pub places_from : ℕ → List ℕ → List ℕ → List Place
@@ -108,3 +88,12 @@ places_from at [] line = []
 places_from at (f ∷ form) line =
     let end = at + length (field (drop at line)) in
     cond (mark f) (record { from = at; to = end } ∷ places_from end form line) (places_from (at + 1) form line)
+
+-- these, where there are fields
+abbrev pub where_found : Option (List (List ℕ)) → List Place → StdOption (List Place)
+where_found (some fields) places = Some places
+where_found none places = None
+
+-- the places of a line's fields, where it is of the form and has just so many
+unfoldable pub found_of : ℕ → List ℕ → List ℕ → StdOption (List Place)
+found_of n form line = where_found (read_exactly n form line) (places_from 0 form line)

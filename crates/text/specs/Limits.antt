@@ -9,10 +9,6 @@ name_length = 12
 abbrev pub most_digits : ℕ
 most_digits = 10
 
--- the fields of a form that is read
-abbrev pub form_fields : ℕ
-form_fields = 6
-
 -- numbers below this have a digit string
 abbrev pub decimal_bound : ℕ
 decimal_bound = 10 ^ most_digits

@@ -1,54 +1,73 @@
-// Bytes written into the caller's buffer from a position on, as many as fit; the position after them is returned.
-ghost use Rattle.std.specs.Prelude.{◌-◌, min, ◌≡◌, [], ◌∷◌, ◌++◌, length};
+// Bytes written into the caller's buffer, as many as fit.
+ghost use Rattle.std.specs.Prelude.{◌≡◌, [], ◌∷◌, ◌++◌, length};
 ghost use Rattle.text.specs.Fields.{decimal};
-ghost use Rattle.text.specs.Buffer.{Puts};
+ghost use Rattle.text.specs.Buffer.{Puts, Writes};
 ghost use Rattle.text.specs.Private.{SpelledIn};
 
-// How many of n bytes fit.
-fn fitting(room: usize, at: usize, n: usize) -> usize
-    ensures { result ≡ min n (room - at) }
-{
-    if room <= at {
-        return 0;
-    }
-    let left = room - at;
-    if n < left {
-        return n;
-    }
-    left
-}
+use crate::digits::Digits;
 
+// From a position on; the position after them is returned.
+// For one write at a position that is kept elsewhere, as `marks` keeps its own; for several there is `Writer`.
 pub fn put(out: &mut [u8], at: usize, bytes: &[u8]) -> usize
     ensures { Puts out.old at bytes.now result out.new }
 {
-    let n = fitting(out.len(), at, bytes.len());
-    let mut i = 0;
-    while i < n {
-        out[at + i] = bytes[i];
-        i += 1;
+    let start = at.min(out.len());
+    let n = bytes.len().min(out.len() - start);
+    out[start..start + n].copy_from_slice(&bytes[0..n]);
+    at + n
+}
+
+// The caller's buffer, and how far it is written.
+#[derive(Drop)]
+pub struct Writer<'a> {
+    pub out: &'a mut [u8],
+    pub at: usize,
+}
+
+impl<'a> Writer<'a> {
+    // At the beginning of a buffer.
+    pub fn new(out: &'a mut [u8]) -> Writer<'a>
+        ensures same_buffer { result.out.ghost_name ≡ out.entry.ghost_name }
+        ensures unwritten { (result.out.now ≡ out.old) × (result.at ≡ 0) }
+    {
+        Writer { out, at: 0 }
     }
-    at + i
-}
 
-// A field and the byte that ends it.
-pub fn put_field(out: &mut [u8], at: usize, bytes: &[u8], end: u8) -> usize
-    ensures { Puts out.old at (bytes.now ++ (end ∷ [])) result out.new }
-{
-    let next = put(out, at, bytes);
-    if out.len() <= next {
-        return next;
+    pub fn put(&mut self, bytes: &[u8])
+        ensures { Writes self.old bytes.now self.new }
+    {
+        self.at = put(self.out, self.at, bytes);
     }
-    out[next] = end;
-    next + 1
+
+    // A byte, if there is room for it. Stored: for `put` a slice of it would have to be made first.
+    pub fn put_byte(&mut self, byte: u8)
+        ensures { Writes self.old (byte ∷ []) self.new }
+    {
+        if self.at < self.out.len() {
+            self.out[self.at] = byte;
+            self.at += 1;
+        }
+    }
+
+    // A field and the byte that ends it.
+    pub fn put_field(&mut self, bytes: &[u8], end: u8)
+        ensures { Writes self.old (bytes.now ++ (end ∷ [])) self.new }
+    {
+        self.put(bytes);
+        self.put_byte(end);
+    }
+
+    // A number in decimal and the byte that ends it.
+    // No `write!`: by its contract it may give an `Err`, and says nothing of the bytes then.
+    pub fn put_decimal(&mut self, n: u64, end: u8)
+        ensures { Writes self.old (decimal n ++ (end ∷ [])) self.new }
+    {
+        self.put_field(digits_of(n).digits(), end);
+    }
 }
 
-// The digits of a number, from an index on.
-#[derive(Clone, Copy)]
-pub struct Digits {
-    pub from: usize,
-    pub bytes: [u8; 20],
-}
-
+// From the last digit to the first, until nothing is left: how many there are is not known before, so no iterator counts them, and the position is
+// where they begin. No `itoa` of the kit: the archives are built of this repository's crates and std alone, and its table takes 200 bytes of flash.
 fn digits_of(n: u64) -> Digits
     ensures { SpelledIn n result }
 {
@@ -69,16 +88,5 @@ fn digits_of(n: u64) -> Digits
 pub fn decimal_length(n: u64) -> usize
     ensures { result ≡ length (decimal n) }
 {
-    let digits = digits_of(n);
-    20 - digits.from
-}
-
-// A number in decimal and the byte that ends it.
-pub fn put_decimal(out: &mut [u8], at: usize, n: u64, end: u8) -> usize
-    ensures { Puts out.old at (decimal n ++ (end ∷ [])) result out.new }
-{
-    let digits = digits_of(n);
-    let from = digits.from;
-    let bytes = digits.bytes;
-    put_field(out, at, &bytes[from..20], end)
+    digits_of(n).digits().len()
 }

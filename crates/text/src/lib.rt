@@ -2,7 +2,9 @@
 #![tactic(auto)]
 
 pub mod buffer;
+mod digits;
 pub mod field;
 pub mod form;
 pub mod limits;
 pub mod line;
+pub mod written;

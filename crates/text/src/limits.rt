@@ -5,6 +5,3 @@ pub const NAME_LENGTH: usize = 12;
 
 // The digits of a digit string.
 pub const MOST_DIGITS: usize = 10;
-
-// The fields of a form that is read.
-pub const FORM_FIELDS: usize = 6;

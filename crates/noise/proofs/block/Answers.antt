@@ -1,19 +1,17 @@
 -- `block` is `block_of`, and leaves `block_holds`.
-use Rattle.std.proofs.Common.{arith}
-use Rattle.box_muller.specs.Steps.{fraction_bits}
+use Rattle.std.proofs.Common.{refl, ◌∙◌, arith}
+use Rattle.sample.proofs.ValuesLaws.{values_length}
+use Rattle.streams.proofs.Refused.{some_number}
 use Rattle.noise.proofs.BlockLaws.{block_refused, block_room, block_drawn}
 use Rattle.noise.proofs.block.Goals as goal
 
-pub returns-then-code-ne0 : goal.returns-then-code-ne0
-returns-then-code-ne0 c =
-    let done = block_refused fraction_bits c.args.g c.args.out.now c.block_code-code.ensures c.if-code-ne0.true in
-    record { answer = done.0; memory = done.1 }
-
-pub onward-next-requires : goal.onward-next-requires
-onward-next-requires c = block_room _ _ c.block_code-code.ensures c.if-code-ne0.false
+pub returns-in-Err : goal.returns-in-Err
+returns-in-Err g c =
+    let done = block_refused g.S.Sample.bits c.args.g (g.S.Sample.values c.args.out.now) (values_length g.met.S.Sample.each _) c.in-Err.ensures (some_number _) in
+    record { answer = c.refused.ensures ∙ done.0; memory = done.1 }
 
 pub returns : goal.returns
-returns c =
-    let done = block_drawn fraction_bits c.args.g c.args.out.now c.block_code-code.ensures c.if-code-ne0.false
-    (omega (arith, c.well_formed), c.side_by_side-streams.ensures, c.fill-after.ensures) c.onward-next.ensures in
-    record { answer = done.0; memory = done.1 }
+returns g c =
+    let done = block_drawn g.S.Sample.bits c.args.g (g.S.Sample.values c.args.out.now) (values_length g.met.S.Sample.each _) c.in_default.ensures refl
+    (omega (arith, c.well_formed), c.side_by_side-streams.ensures, c.fill-after.ensures) (rw (c.from.ensures.0, c.from.ensures.1) at (c.onward-next.ensures (block_room _ _ c.in_default.ensures refl))) in
+    record { answer = c.accepted.ensures ∙ done.0; memory = done.1 }

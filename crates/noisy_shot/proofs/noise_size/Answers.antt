@@ -10,12 +10,6 @@ product c =
     let size : c.size_of.result ≤ 2 ^ 15 = c.size_of.ensures.1 in
     mul-le-mul sigma size
 
-pub overflow_mul-result : goal.overflow_mul-result
-overflow_mul-result c = omega (arith, product c)
-
-pub overflow_add-result : goal.overflow_add-result
-overflow_add-result c = omega (arith, product c)
-
 pub returns : goal.returns
 unfolding noise_size
 returns c =

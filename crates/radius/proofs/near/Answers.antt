@@ -16,7 +16,7 @@ pub overflow_mul-slope : goal.overflow_mul-slope
 overflow_mul-slope c = record { fits = product_fits _ _ (omega arith) (omega arith) }
 
 pub overflow_sub-slope : goal.overflow_sub-slope
-overflow_sub-slope c = slope_left (cell c.args.x) c.cell_at-cell.result.0 _ _ _ (omega arith) c.cell_at-cell.ensures
+overflow_sub-slope c = slope_left (cell c.args.x) c.cell_at-cell.result.start _ _ _ (omega arith) c.cell_at-cell.ensures
 
 pub overflow_mul-result-2 : goal.overflow_mul-result-2
 overflow_mul-result-2 c = record { fits = product_fits _ _ (omega arith) (omega arith) }

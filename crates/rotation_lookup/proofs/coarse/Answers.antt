@@ -3,4 +3,4 @@ use Rattle.rotation_lookup.proofs.Halves.{coarse}
 use Rattle.rotation_lookup.proofs.coarse.Goals as goal
 
 pub returns : goal.returns
-returns c = coarse _ _ c.nth_coarse-row.ensures
+returns c = coarse _ _ c.nth_coarse-cosine.ensures

@@ -3,4 +3,4 @@ use Rattle.rotation_lookup.proofs.Halves.{fine}
 use Rattle.rotation_lookup.proofs.fine.Goals as goal
 
 pub returns : goal.returns
-returns c = fine _ _ c.nth_fine-row.ensures
+returns c = fine _ _ c.nth_fine-cosine.ensures

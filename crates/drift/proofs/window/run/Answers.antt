@@ -1,23 +1,60 @@
--- `run` is `pushed_all` on the caller's places. The loop's invariant: the pushes that are left, from here, give what all of them give.
-use Rattle.std.proofs.Common.{sym, ap, ◌∙◌, arith, get_or, pos, w16}
-use Rattle.drift.specs.Drift.{members_of, with_places, WindowAnswer}
-use Rattle.drift.proofs.Signed.{back}
-use Rattle.drift.proofs.Runs.{answer_of, one_more, at_end, all_from}
+-- `run` is `pushed_all` on the caller's places.
+use Rattle.std.proofs.Common.{sym, ap, ◌∙◌, ◌+◌, drop, get_or, pos, to_z-of_z, SFits, w16, rules}
+use Rattle.drift.specs.Drift.{WindowAnswer, accepted, with_places, checked_of, pushed_of, pushed_from}
+use Rattle.drift.proofs.Runs.{one_more, at_end, all_from, passed, is_refusal, test_failed, push_failed, run_of_unfit, rest_failed}
 use Rattle.drift.proofs.window.run.Goals as goal
 
-pub loop-i-preserved : goal.loop-i-preserved
-loop-i-preserved c =
-    let at = c.loop-i in
-    let l = c.args.samples.now in
-    let same = back w16 (get_or l at.i (pos 0)) c.sample-1.given in
-    let more = one_more (answer_of at.last at.places) l at.i (pos 0) c.loop-i-test.true in
-    (omega arith, rw (c.step-last.ensures.value, c.step-last.ensures.places_after, same) (sym more ∙ at.invariant.1))
+pub returns-in_err-last-clause-value : goal.returns-in_err-last-clause-value
+returns-in_err-last-clause-value c =
+    rw (run_of_unfit _ c.args.samples.now c.in_err-last.ensures.value) (is_refusal _ c.from_residual.ensures.0)
 
-pub returns : goal.returns
-returns c =
-    let at = c.loop-i in
-    let start = c.args in
-    let first = c.checked-last.ensures in
-    let whole = all_from (with_places start.m start.places.now) start.samples.now in
-    let last = rw (first.value, first.places_after) at (sym (at_end (answer_of at.last at.places) _ at.i c.loop-i-test.false) ∙ at.invariant.1) in
-    record { value = ap members_of (last ∙ whole); places_after = ap (λ (r : WindowAnswer). r.window.places) (last ∙ whole) }
+pub returns-in_err-last-clause-places_after : goal.returns-in_err-last-clause-places_after
+returns-in_err-last-clause-places_after c =
+    let e = c.in_err-last.ensures in
+    rw (run_of_unfit _ c.args.samples.now e.value) (e.places_after ∙ ap (λ (r : WindowAnswer). r.window.places) (test_failed _ e.value))
+
+pub loop-sample-init : goal.loop-sample-init
+loop-sample-init c =
+    let e = c.in_ok-last.ensures in
+    let w = with_places c.args.m c.args.places.now in
+    ap (λ (r : WindowAnswer). pushed_from r c.args.samples.now) (passed (checked_of w) e.value e.places_after) ∙ all_from w c.args.samples.now
+
+pub loop-sample-preserved : goal.loop-sample-preserved
+loop-sample-preserved c =
+    let at = c.loop-sample in
+    let l = c.args.samples.now in
+    let x = get_or l at.sample-index (pos 0) in
+    let fit : SFits w16 x = search rules in
+    let e = rw (to_z-of_z fit) at c.in_ok-last-2.ensures in
+    let w = with_places at.last at.places in
+    ap (λ (r : WindowAnswer). pushed_from r (drop (at.sample-index + 1) l)) (passed (pushed_of w x) e.value e.places_after)
+    ∙ sym (one_more (accepted w) l at.sample-index (pos 0) c.loop-sample-test.true)
+    ∙ at.invariant
+
+pub returns-in_err-last-2-clause-value : goal.returns-in_err-last-2-clause-value
+returns-in_err-last-2-clause-value c =
+    let at = c.loop-sample in
+    let l = c.args.samples.now in
+    let fit : SFits w16 (get_or l at.sample-index (pos 0)) = search rules in
+    let e = rw (to_z-of_z fit) at c.in_err-last-2.ensures in
+    rw (rest_failed _ l at.sample-index c.loop-sample-test.true at.invariant e.value) (is_refusal _ c.from_residual-in_err-last-2.ensures.0)
+
+pub returns-in_err-last-2-clause-places_after : goal.returns-in_err-last-2-clause-places_after
+returns-in_err-last-2-clause-places_after c =
+    let at = c.loop-sample in
+    let l = c.args.samples.now in
+    let x = get_or l at.sample-index (pos 0) in
+    let fit : SFits w16 x = search rules in
+    let e = rw (to_z-of_z fit) at c.in_err-last-2.ensures in
+    rw (rest_failed _ l at.sample-index c.loop-sample-test.true at.invariant e.value)
+    (e.places_after ∙ ap (λ (r : WindowAnswer). r.window.places) (push_failed _ x e.value))
+
+pub returns-clause-value : goal.returns-clause-value
+returns-clause-value c =
+    let at = c.loop-sample in
+    rw (sym at.invariant, at_end (accepted (with_places at.last at.places)) c.args.samples.now at.sample-index c.loop-sample-test.false)
+
+pub returns-clause-places_after : goal.returns-clause-places_after
+returns-clause-places_after c =
+    let at = c.loop-sample in
+    rw (sym at.invariant, at_end (accepted (with_places at.last at.places)) c.args.samples.now at.sample-index c.loop-sample-test.false)

@@ -16,8 +16,8 @@ returns-then-code-ne0 c =
 pub overflow_mul-place : goal.overflow_mul-place
 overflow_mul-place c = omega (arith, c.place_to_return-placed.ensures.within c.if-code-ne0.false)
 
-pub words_at-requires : goal.words_at-requires
-words_at-requires c = omega (arith, c.place_to_return-placed.ensures.within c.if-code-ne0.false)
+pub elements_at-requires : goal.elements_at-requires
+elements_at-requires c = omega (arith, c.place_to_return-placed.ensures.within c.if-code-ne0.false)
 
 pub returns : goal.returns
 unfolding returned_words
@@ -27,4 +27,4 @@ returns c =
       ← c.unpacked-g.ensures,
       ← c.place_to_return-placed.ensures.placed,
       c.if-code-ne0.false,
-    ) (record { code = refl; words_after = c.words_at.ensures })
+    ) (record { code = refl; words_after = c.elements_at.ensures })

@@ -1,10 +1,6 @@
 -- `labels_of` is `labels_of`.
-use Rattle.std.proofs.Common.{◌-◌}
 use Rattle.jabulghi_marks.proofs.Filling.{Filled}
 use Rattle.jabulghi_marks.proofs.members.labels_of.Given as goal
 
 abbrev pub invariant-loop-i : goal.invariant-loop-i
-invariant-loop-i l = Filled l.used l.lengths l.names l.labels l.i
-
-abbrev pub decreases-loop-i : goal.decreases-loop-i
-decreases-loop-i l = 16 - l.i
+invariant-loop-i l = Filled l.used l.lengths l.names l.label-items l.i

@@ -4,22 +4,19 @@ use Rattle.job.proofs.Bounds.{row_measured, row_added, row_within}
 use Rattle.job.proofs.shot.add_shot.Goals as goal
 
 pub overflow_add-result : goal.overflow_add-result
-overflow_add-result c = omega (arith, c.requires.short, c.row_length.ensures)
+overflow_add-result c = omega (arith, c.requires.short, c.length.ensures)
 
 pub returns-then-out-used : goal.returns-then-out-used
 returns-then-out-used c =
     let at = c in
-    row_measured at.args.line.now at.args.x _ _ _ _ c.part-from.ensures c.part-to.ensures
-    at.requires.room _ _ _ c.row_length.ensures (omega (arith, c.if-out-used.true))
+    row_measured at.args.line.now at.args.x _ _ _ _ c.part.ensures c.part-2.ensures
+    at.requires.room _ _ _ c.length.ensures (omega (arith, c.if-out-used.true))
 
 pub add_row-requires : goal.add_row-requires
-add_row-requires c = record { short = c.requires.short; whole = c.shot_row.ensures.length_in_bounds; room = row_within _ _ c.shot_row.ensures.puts }
-
-pub shape_of-out : goal.shape_of-out
-shape_of-out c = c.add_row.auto.out
+add_row-requires c = record { short = c.requires.short; whole = c.written.ensures.length_in_bounds; room = row_within c.written.result _ c.written.ensures.puts }
 
 pub returns : goal.returns
 returns c =
     let at = c in
-    row_added at.args.line.now at.args.x _ _ _ _ c.part-from.ensures c.part-to.ensures
-    at.requires.room c.shot_row.result _ _ _ _ c.shot_row.ensures.puts c.add_row.ensures
+    row_added at.args.line.now at.args.x _ _ _ _ c.part.ensures c.part-2.ensures
+    at.requires.room c.written.result _ _ _ _ c.written.ensures.puts c.add_row.ensures

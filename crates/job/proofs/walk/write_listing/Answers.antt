@@ -1,35 +1,29 @@
 -- `job::walk::write_listing` meets its contract.
-use Rattle.std.proofs.Common.{arith, sym, ap, ◌∙◌}
-use Rattle.job_reader.specs.declared.walk.BadLine.{BadLine}
-use Rattle.job_reader.proofs.Walking.{verdict_none}
-use Rattle.job.proofs.Going.{wrote_bad, wrote_listed, end_holds, end_adds}
+use Rattle.std.proofs.lemmas.Result.{err_from_is_err_and}
+use Rattle.job.specs.Job.{listing_of}
+use Rattle.job.proofs.Going.{missing, wrote_listed, end_holds, end_adds}
 use Rattle.job.proofs.walk.write_listing.Goals as goal
 
-pub shape_of-out-then-bad-ne0 : goal.shape_of-out-then-bad-ne0
-shape_of-out-then-bad-ne0 c = c.walk-s.auto.out ∙ c.put_header.auto.out
+pub returns-in_err-s : goal.returns-in_err-s
+unfolding listing_of
+returns-in_err-s c =
+    let p = err_from_is_err_and c.from_residual.result c.from_residual.ensures.1 in
+    rw (p.1, p.2) c.in_err-s.ensures
 
-pub returns-then-bad-ne0 : goal.returns-then-bad-ne0
-returns-then-bad-ne0 c =
-    let bad = c.verdict-bad.ensures in
-    rw (c.refused_job.ensures, bad)
-    (wrote_bad _ _ _ _ _ c.put_header.ensures.1 c.walk-s.ensures (λ h. c.if-bad-ne0.true (ap (λ (b : BadLine). b.code) bad ∙ h)))
+pub returns-in_err-count : goal.returns-in_err-count
+unfolding listing_of
+returns-in_err-count c =
+    let p = err_from_is_err_and c.from_residual-in_err-count.result c.from_residual-in_err-count.ensures.1 in
+    rw (p.1, p.2) (missing _ _ _ _ _ c.put_header.ensures.1 c.in_ok-s.ensures _ c.in_err-count.ensures.verdict)
 
-pub overflow_sub-read : goal.overflow_sub-read
-overflow_sub-read c = omega (arith, (verdict_none c.walk-s.result.read (sym (ap (λ (b : BadLine). b.code) c.verdict-bad.ensures) ∙ c.if-bad-ne0.false)).1)
-
-pub add_row-length-requires : goal.add_row-length-requires
-add_row-length-requires c =
-    let none = verdict_none c.walk-s.result.read (sym (ap (λ (b : BadLine). b.code) c.verdict-bad.ensures) ∙ c.if-bad-ne0.false) in
-    let g = c.walk-s.ensures.yes none.0 in
-    end_adds _ _ _ _ _ c.put_header.ensures.1 g _ c.end_row.ensures.puts c.end_row.ensures.length_in_bounds
-
-pub shape_of-out : goal.shape_of-out
-shape_of-out c = c.add_row-length.auto.out ∙ c.walk-s.auto.out ∙ c.put_header.auto.out
+pub add_row-requires : goal.add_row-requires
+add_row-requires c =
+    end_adds _ _ _ _ _ c.put_header.ensures.1 c.in_ok-s.ensures _ c.in_ok-count.ensures.count c.end_row.result c.end_row.ensures.puts c.end_row.ensures.length_in_bounds
 
 pub returns : goal.returns
+unfolding listing_of
 returns c =
-    let none = verdict_none c.walk-s.result.read (sym (ap (λ (b : BadLine). b.code) c.verdict-bad.ensures) ∙ c.if-bad-ne0.false) in
-    let g = c.walk-s.ensures.yes none.0 in
-    let k = end_holds _ _ _ _ _ c.put_header.ensures.1 g _ c.end_row.ensures.puts in
-    let a = c.add_row-length.ensures in
-    wrote_listed _ _ _ _ _ c.put_header.ensures.1 g _ _ none.1 (rw (← k.0) a.0) (rw (← k.1) a.1)
+    let count = c.in_ok-count.ensures.count in
+    let k = end_holds _ _ _ _ _ c.put_header.ensures.1 c.in_ok-s.ensures _ count c.end_row.result c.end_row.ensures.puts in
+    let a = c.add_row.ensures in
+    wrote_listed _ _ _ _ _ c.put_header.ensures.1 c.in_ok-s.ensures _ count _ _ (rw (← k.0) a.0) (rw (← k.1) a.1)

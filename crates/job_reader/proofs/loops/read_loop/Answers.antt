@@ -1,21 +1,24 @@
 -- `read_loop` meets its contract.
 use Rattle.std.proofs.Common.{refl}
-use Rattle.job_reader.proofs.Going.{at_start}
+use Rattle.std.proofs.lemmas.Result.{err_from_is_err_and}
+use Rattle.job_reader.specs.Loop.{answer_of}
 use Rattle.job_reader.proofs.Ending.{loop_long, loop_ended}
 use Rattle.job_reader.proofs.loops.read_loop.Goals as goal
 
 pub returns-then-text-gt-MOST_BYTES : goal.returns-then-text-gt-MOST_BYTES
+unfolding answer_of
 returns-then-text-gt-MOST_BYTES c =
     let (long, kept) = loop_long c.args.text.now c.args.shots.now c.if-text-gt-MOST_BYTES.true in
-    rw (long, kept) (record { answer = c.refused_loop.ensures; memory = refl })
+    rw (long, kept) (record { answer = refl; memory = refl })
 
-pub walk-last-requires : goal.walk-last-requires
-walk-last-requires c = at_start _ _ _ c.first_state-first.ensures
-
-pub shape_of-shots : goal.shape_of-shots
-shape_of-shots c = c.walk-last.ensures.size
+pub returns-in_err-walk : goal.returns-in_err-walk
+unfolding answer_of
+returns-in_err-walk c =
+    let p = err_from_is_err_and c.from_residual.result c.from_residual.ensures.1 in
+    let done = loop_ended c.args.text.now _ _ _ c.if-text-gt-MOST_BYTES.false c.in_err-walk.ensures in
+    rw (p.1, p.2) (record { answer = done.0; memory = done.1 })
 
 pub returns : goal.returns
 returns c =
-    let done = loop_ended c.args.text.now _ _ c.if-text-gt-MOST_BYTES.false _ c.walk-last.ensures _ c.ended.ensures in
+    let done = loop_ended c.args.text.now _ _ _ c.if-text-gt-MOST_BYTES.false c.in_ok-walk.ensures in
     record { answer = done.0; memory = done.1 }

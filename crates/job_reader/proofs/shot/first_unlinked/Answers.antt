@@ -1,16 +1,22 @@
 -- `job_reader::shot::first_unlinked` meets its contract.
-use Rattle.std.proofs.Common.{eq-eqb, ne_eqb}
+use Rattle.std.proofs.Common.{◌≡◌, ℕ, refl, ◌∙◌}
+use Rattle.std.specs.Prelude.{Option, Some, None}
+use Rattle.std.specs.Option.{option_or}
 use Rattle.job_reader.specs.Private.{first_unlinked}
 use Rattle.job_reader.proofs.shot.first_unlinked.Goals as goal
 
-pub returns-then-unlinked-ne0 : goal.returns-then-unlinked-ne0
+linked : (u : Option ℕ) (k : ℕ) → u ≡ first_unlinked u k 0
 unfolding first_unlinked
-returns-then-unlinked-ne0 c = rw (ne_eqb _ 0 c.if-unlinked-ne0.true)
+linked (Some n) k = refl
+linked None k = refl
 
-pub returns-then-link-ne0 : goal.returns-then-link-ne0
+not_linked : (u : Option ℕ) (k : ℕ) → option_or u (Some k) ≡ first_unlinked u k 23
 unfolding first_unlinked
-returns-then-link-ne0 c = rw (eq-eqb _ 0 c.if-unlinked-ne0.false, ne_eqb _ 0 c.if-link-ne0.true)
+not_linked (Some n) k = refl
+not_linked None k = refl
+
+pub returns-then-linked : goal.returns-then-linked
+returns-then-linked c = rw c.if-linked.true (linked _ _)
 
 pub returns : goal.returns
-unfolding first_unlinked
-returns c = rw (eq-eqb _ 0 c.if-unlinked-ne0.false, eq-eqb _ 0 c.if-link-ne0.false)
+returns c = rw c.if-linked.false (c.or.ensures ∙ not_linked _ _)

@@ -1,10 +1,11 @@
 -- `job_reader::walk::on_seeds` meets its contract.
-use Rattle.job_reader.proofs.Accepted.{seeds_seeded}
 use Rattle.job_reader.specs.Setting.{setting_on}
+use Rattle.job_reader.proofs.Refused.{seeds_8}
 use Rattle.job_reader.proofs.walk.on_seeds.Goals as goal
+
+pub returns-then-p-ne1 : goal.returns-then-p-ne1
+returns-then-p-ne1 c = seeds_8 _ _ _ _ _ _ _ c.if-p-ne1.true
 
 pub returns : goal.returns
 unfolding setting_on
-returns c =
-    let (k, accepted) = c.requires in
-    rw (c.seeds_answer-answer.ensures, seeds_seeded k _ accepted)
+returns c = rw (c.if-p-ne1.false) (c.in_ok-generator.ensures.0, rw c.in_ok-generator.ensures.1)

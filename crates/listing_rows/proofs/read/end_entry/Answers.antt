@@ -1,14 +1,18 @@
 -- `end_entry` meets its contract.
-use borrow.Author.Tests.{not-true, not-false}
-use Rattle.text.proofs.Readings.{test_true, test_false, spelled_value}
-use Rattle.listing_rows.proofs.Reading.{end_at}
+use Rattle.listing_rows.specs.Rows.{end_form}
+use Rattle.listing_rows.proofs.Reading.{end_not, end_uncounted, end_counted}
 use Rattle.listing_rows.proofs.read.end_entry.Goals as goal
 
-pub returns-then-not-count : goal.returns-then-not-count
-returns-then-not-count c = rw (end_at, test_false c.digit_string_at-count.ensures (not-true _ c.if-not-count.true))
+pub returns-in_err-places : goal.returns-in_err-places
+unfolding end_form
+returns-in_err-places c = rw c.from_residual.ensures (end_not _ _ c.read_form.ensures.fields c.in_err-places.was)
+
+pub returns-in_err-count : goal.returns-in_err-count
+unfolding end_form
+returns-in_err-count c =
+    rw c.from_residual-in_err-count.ensures
+    (end_uncounted _ _ c.read_form.ensures.fields _ c.in_ok-places.was _ c.digit_string_at.ensures c.in_err-count.was)
 
 pub returns : goal.returns
-returns c =
-    let count = c.digit_string_at-count.ensures in
-    let t = not-false _ c.if-not-count.false in
-    rw (end_at, test_true count t, spelled_value count t)
+unfolding end_form
+returns c = end_counted _ _ c.read_form.ensures.fields _ c.in_ok-places.was _ c.digit_string_at.ensures _ c.in_ok-count.was

@@ -1,10 +1,16 @@
 -- `place_to_return` is `place_to_return`: the causes of its record, its name and its place in their order.
-use Rattle.marks.specs.Marks.{place_to_return}
-use Rattle.marks.proofs.Placing.{both, return_inside}
+use Rattle.std.proofs.Common.{◌≡◌, ap, ◌∙◌, length, rules}
+use Rattle.marks.specs.Codes.{or_places}
+use Rattle.marks.specs.Marks.{has_name, place_to_return}
+use Rattle.marks.proofs.Searches.{found_first}
+use Rattle.marks.proofs.Placing.{both, placed_is, return_inside}
 use Rattle.marks.proofs.call.place_to_return.Goals as goal
 
 pub returns : goal.returns
 unfolding place_to_return
 returns c =
-    let (placed, within) = both (return_inside _ _ _) (rw (← c.place_of-place.ensures, ← c.idle_code-busy.ensures, ← c.name_code-malformed.ensures) c.with_cause.ensures) in
+    let size : length c.args.labels ≡ 16 = search rules in
+    let first = ap or_places c.place_of-found.ensures ∙ found_first (has_name c.args.name.now) c.args.labels size in
+    let code_is = rw (first, c.check_idle.ensures) at c.tested.ensures in
+    let (placed, within) = both (return_inside _ _ _) (c.of.ensures ∙ placed_is code_is first) in
     record { placed = placed; within = within }

@@ -1,12 +1,7 @@
--- `save_place` is `save_place`.
-use Rattle.std.proofs.Common.{lt-ltb, le-ltb}
-use Rattle.marks.specs.Marks.{save_place}
+-- `save_place` is `save_place`, and a place of the set.
+use Rattle.std.proofs.Common.{rules}
+use Rattle.marks.proofs.Tested.{held_or_free}
 use Rattle.marks.proofs.place.save_place.Goals as goal
 
-pub returns-then-held-lt-PLACES : goal.returns-then-held-lt-PLACES
-unfolding save_place
-returns-then-held-lt-PLACES c = rw (← c.place_of-held.ensures, lt-ltb _ 16 c.if-held-lt-PLACES.true)
-
-pub returns : goal.returns
-unfolding save_place
-returns c = rw (← c.place_of-held.ensures, le-ltb _ 16 c.if-held-lt-PLACES.false) c.free_place.ensures
+pub returns-clause-place : goal.returns-clause-place
+returns-clause-place c = held_or_free _ c.told-labels _ c.place_of.result c.or_else.result c.place_of.ensures c.or_else.ensures (λ h. search rules)

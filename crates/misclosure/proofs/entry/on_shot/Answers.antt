@@ -1,25 +1,15 @@
--- `misclosure::entry::on_shot` meets its contract: the first of its three causes, or the shot.
-use Rattle.text.specs.Fields.{part_of}
-use Rattle.misclosure.proofs.Lines.{takes_refused, shot_limited, takes_shot}
+-- `on_shot` meets its contract: the first of its three causes, or the shot.
+use Rattle.std.proofs.lemmas.Result.{err_from_is_err_and}
+use Rattle.misclosure.proofs.Lines.{same_code, shot_limited}
 use Rattle.misclosure.proofs.entry.on_shot.Goals as goal
 
-pub returns-then-code-ne0 : goal.returns-then-code-ne0
-returns-then-code-ne0 c =
-    let a = c.args in
-    takes_refused (part_of a.previous.now a.s.station) a.line.now a.s a.x a.s c.first_of-code.ensures c.first_of.ensures
-    c.limit_code-limit.ensures c.order_code-order.ensures c.station_code-link.ensures c.part.ensures c.part-2.ensures c.if-code-ne0.true
+pub returns-in_err-check_shot : goal.returns-in_err-check_shot
+returns-in_err-check_shot c =
+    let p = err_from_is_err_and c.from_residual.result c.from_residual.ensures.1 in
+    rw (p.1, p.2) (record { code = same_code c.args.line.now c.args.s c.args.x c.part.ensures c.in_err-check_shot.ensures; next = tt })
 
-pub moved-next-requires : goal.moved-next-requires
-moved-next-requires c =
-    let a = c.args in record {
-      small = c.requires;
-      limited = shot_limited (part_of a.previous.now a.s.station) a.line.now a.s a.x a.s c.first_of-code.ensures c.first_of.ensures
-          c.limit_code-limit.ensures c.order_code-order.ensures c.station_code-link.ensures c.part.ensures c.part-2.ensures c.if-code-ne0.false;
-    }
+pub moved-requires : goal.moved-requires
+moved-requires c = shot_limited c.args.line.now c.args.s c.args.x c.part.ensures c.in_ok-check_shot.ensures
 
 pub returns : goal.returns
-returns c =
-    let a = c.args in
-    takes_shot (part_of a.previous.now a.s.station) a.line.now a.s a.x _ c.first_of-code.ensures c.first_of.ensures
-    c.limit_code-limit.ensures c.order_code-order.ensures c.station_code-link.ensures c.part.ensures c.part-2.ensures c.if-code-ne0.false
-    c.moved-next.ensures
+returns c = record { code = same_code c.args.line.now c.args.s c.args.x c.part.ensures c.in_ok-check_shot.ensures; next = c.moved.ensures }

@@ -1,12 +1,16 @@
--- `misclosure::entry::take_line` meets its contract.
-use Rattle.misclosure.proofs.Lines.{takes_neither}
+-- `take_line` meets its contract.
+use Rattle.std.proofs.Common.{sym}
+use Rattle.std.proofs.lemmas.Result.{err_from_is_err_and}
+use Rattle.misclosure.proofs.Lines.{any_end, neither_6}
 use Rattle.misclosure.proofs.entry.take_line.Goals as goal
 
-pub returns-in-Shot : goal.returns-in-Shot
-returns-in-Shot c = rw (← c.in-Shot.ensures) c.on_shot.ensures
+pub returns-in_err-check_end-in-End : goal.returns-in_err-check_end-in-End
+returns-in_err-check_end-in-End c =
+    let p = err_from_is_err_and c.from_residual.result c.from_residual.ensures.1 in
+    rw (p.1, p.2, ← c.read_entry.ensures, c.in-Some.is, c.in-End.is) (record { code = any_end _ _ _ c.in_err-check_end-in-End.ensures; next = tt })
 
-pub returns-in-End : goal.returns-in-End
-returns-in-End c = rw (← c.in-End.ensures) c.on_end.ensures
+pub returns-in_ok-check_end-in-End : goal.returns-in_ok-check_end-in-End
+returns-in_ok-check_end-in-End c = rw (← c.read_entry.ensures, c.in-Some.is, c.in-End.is) (record { code = any_end _ _ _ c.in_ok-check_end-in-End.ensures; next = tt })
 
-pub returns-in-NoEntry : goal.returns-in-NoEntry
-returns-in-NoEntry c = rw (← c.in-NoEntry.ensures) (takes_neither _ _ c.args.s c.args.s)
+pub returns-in_default : goal.returns-in_default
+returns-in_default c = rw (← c.read_entry.ensures, c.in_default.is) (record { code = sym (neither_6 c.args.s.line c.args.s.station.now); next = tt })

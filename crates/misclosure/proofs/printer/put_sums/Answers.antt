@@ -1,22 +1,13 @@
--- `put_sums` writes `sum_rows_lem`, field by field.
-use Rattle.std.proofs.Common.{[], ◌∷◌, ◌++◌, to_z-of_z}
-use Rattle.text.specs.Ascii.{ascii}
-use Rattle.text.proofs.Writing.{then_puts}
-use Rattle.misclosure.specs.Output.{signed_decimal}
+-- `put_sums` writes `sum_rows`, field by field.
+use Rattle.std.proofs.Common.{rules, to_z-of_z}
+use Rattle.text.proofs.Writing.{then_writes, writer_puts}
 use Rattle.misclosure.proofs.Printed.{sum_parts}
 use Rattle.misclosure.proofs.printer.put_sums.Goals as goal
 
 pub returns : goal.returns
 returns c =
-    let start = c in
-    let out = start.args.out.now in
-    let east = start.args.east in
-    let north = start.args.north in
-    let first = c.put_field-a.ensures in
-    let east-row = rw (to_z-of_z start.ranges.east) at c.put_signed-b.ensures in
-    let north-row = rw (to_z-of_z start.ranges.north) at c.put_signed.ensures in
-    let second = then_puts out 0 (ascii "EAST" ++ (32 ∷ [])) (signed_decimal east ++ (10 ∷ [])) first east-row in
-    let third = then_puts out 0 ((ascii "EAST" ++ (32 ∷ [])) ++ (signed_decimal east ++ (10 ∷ []))) (ascii "NORTH" ++ (32 ∷ [])) second
-    c.put_field-c.ensures in
-    rw (← sum_parts east north)
-    (then_puts out 0 ((ascii "EAST" ++ (32 ∷ [])) ++ (signed_decimal east ++ (10 ∷ [])) ++ (ascii "NORTH" ++ (32 ∷ []))) (signed_decimal north ++ (10 ∷ [])) third north-row)
+    let east = rw (to_z-of_z c.ranges.east) at c.put_signed.ensures in
+    let north = rw (to_z-of_z c.ranges.north) at c.put_signed-2.ensures in
+    let all = then_writes (then_writes (then_writes c.put_field.ensures east) c.put_field-2.ensures) north in
+    let puts = writer_puts c.new-writer.ensures.unwritten all (sum_parts c.args.east c.args.north) in
+    (puts.0, search (rules, puts.1))

@@ -24,7 +24,7 @@ bounds-fine-i c = omega (arith, c.loop-i-test.true, c.loop-i.invariant.looked.ro
 pub loop-i-preserved : goal.loop-i-preserved
 loop-i-preserved c =
     one_looked c.loop-i.invariant c.loop-i-test.true
-    (record { cell = c.cell_of-cell.ensures; rotated = c.rotations_of-rotations.ensures })
+    (record { cell = c.of-cell.ensures; rotated = c.of-rotations.ensures })
 
 pub shape_of-places : goal.shape_of-places
 shape_of-places c = c.loop-i.invariant.kept.places_kept
@@ -43,6 +43,3 @@ shape_of-fine c = c.loop-i.invariant.kept.fine_kept
 
 pub returns : goal.returns
 returns c = all_looked c.loop-i.invariant.looked c.loop-i-test.false
-
-pub loop-i-smaller : goal.loop-i-smaller
-loop-i-smaller c = omega arith

@@ -24,6 +24,3 @@ shape_of-r c = c.loop-i.invariant.kept
 
 pub returns : goal.returns
 returns c = all_done c.loop-i.invariant c.loop-i-test.false
-
-pub loop-i-smaller : goal.loop-i-smaller
-loop-i-smaller c = omega arith

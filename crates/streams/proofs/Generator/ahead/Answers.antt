@@ -1,6 +1,6 @@
 -- `Generator::ahead`: the three matrices give n draws of each stream.
 use Rattle.std.proofs.Common.{arith}
-use Rattle.streams.specs.Streams.{onward, count_code, if_accepted}
+use Rattle.streams.specs.Streams.{onward}
 use Rattle.streams.proofs.Skip.{stream_ahead}
 use Rattle.streams.proofs.Generator.ahead.Goals as goal
 
@@ -11,11 +11,6 @@ returns c =
     let n = start.args.n in
     let a-ahead = stream_ahead n g.a (omega (arith, start.well_formed)) in
     let b-ahead = stream_ahead n g.b (omega (arith, start.well_formed)) in
-    rw (
-      c.onward.ensures,
-      c.powers-third.ensures,
-      c.powers-second.ensures,
-      c.powers-first.ensures,
-      c.step_matrices-matrices.ensures,
-    )
-    (λ i. if_accepted (count_code g n) (onward g (a-ahead i) (b-ahead i) n) g)
+    let steps = c.step_matrices-steps.ensures in
+    rw (c.onward.ensures (omega (arith, c.requires)), c.powers-3.ensures, c.powers-2.ensures, c.powers.ensures, steps.s0, steps.s1, steps.s2)
+    (λ i. onward g (a-ahead i) (b-ahead i) n)

@@ -1,18 +1,16 @@
 -- `Generator::seed` is `seed_of`: each return rewrites with the record's refusal code.
-use Rattle.std.proofs.Common.{ap, ne_eqb}
-use Rattle.streams.specs.declared.Generator.{Generator}
 use Rattle.streams.specs.Streams.{seed_of}
+use Rattle.streams.proofs.Refused.{number_not_0}
 use Rattle.streams.proofs.Generator.seed.Goals as goal
 
-pub returns-then-code-eq0 : goal.returns-then-code-eq0
+pub returns-in-Ok : goal.returns-in-Ok
 unfolding seed_of
-returns-then-code-eq0 c =
-    let code_is = rw c.fresh_record-g.ensures at c.record_code-code.ensures in
-    rw (c.fresh_record-g.ensures, ← code_is, c.if-code-eq0.true)
+returns-in-Ok c =
+    let code_is = rw c.fresh_record-g.ensures at c.in-Ok.ensures in
+    rw (c.accepted.ensures, c.fresh_record-g.ensures, ← code_is)
 
-pub returns : goal.returns
+pub returns-in-Err : goal.returns-in-Err
 unfolding seed_of
-returns c =
-    let code_is = rw c.fresh_record-g.ensures at c.record_code-code.ensures in
-    rw (← code_is, ne_eqb _ _ c.if-code-eq0.false)
-    (ap (λ (next : Generator). record { code = c.record_code-code.result; next = next }) c.fresh_record-zeros.ensures)
+returns-in-Err c =
+    let code_is = rw c.fresh_record-g.ensures at c.in-Err.ensures in
+    rw (c.refused.ensures, c.fresh_record.ensures, ← code_is, number_not_0 _)

@@ -1,12 +1,12 @@
--- `ask` is `ask_of`: each return rewrites with its code.
-use Rattle.std.proofs.Common.{ne_eqb}
+-- `ask` is `ask_of`: it notes the pairs where its test is passed.
 use Rattle.streams.specs.Streams.{ask_of}
+use Rattle.streams.proofs.Refused.{number_not_0}
 use Rattle.streams.proofs.requests.ask.Goals as goal
 
-pub returns-then-code-ne0 : goal.returns-then-code-ne0
+pub returns-in-Ok : goal.returns-in-Ok
 unfolding ask_of
-returns-then-code-ne0 c = rw (← c.ask_code-code.ensures, ne_eqb _ _ c.if-code-ne0.true)
+returns-in-Ok c = rw (c.accepted.ensures, c.with_note.ensures, ← c.in-Ok.ensures)
 
-pub returns : goal.returns
+pub returns-in-Err : goal.returns-in-Err
 unfolding ask_of
-returns c = rw (c.with_note-next.ensures, ← c.ask_code-code.ensures, c.if-code-ne0.false)
+returns-in-Err c = rw (c.refused.ensures, ← c.in-Err.ensures, number_not_0 _)

@@ -1,12 +1,12 @@
--- `give_up` is `give_up_of`: each return rewrites with its code.
-use Rattle.std.proofs.Common.{ne_eqb}
+-- `give_up` is `give_up_of`: it clears the note where its test is passed.
 use Rattle.streams.specs.Streams.{give_up_of}
+use Rattle.streams.proofs.Refused.{number_not_0}
 use Rattle.streams.proofs.requests.give_up.Goals as goal
 
-pub returns-then-code-ne0 : goal.returns-then-code-ne0
+pub returns-in-Ok : goal.returns-in-Ok
 unfolding give_up_of
-returns-then-code-ne0 c = rw (← c.give_up_code-code.ensures, ne_eqb _ _ c.if-code-ne0.true)
+returns-in-Ok c = rw (c.accepted.ensures, c.without_note.ensures, ← c.in-Ok.ensures)
 
-pub returns : goal.returns
+pub returns-in-Err : goal.returns-in-Err
 unfolding give_up_of
-returns c = rw (c.with_note-next.ensures, ← c.give_up_code-code.ensures, c.if-code-ne0.false)
+returns-in-Err c = rw (c.refused.ensures, ← c.in-Err.ensures, number_not_0 _)

@@ -1,17 +1,15 @@
 -- `survex::walk::convert` meets its contract.
-use Rattle.std.proofs.Common.{arith}
-use borrow.Author.Tests.{not-true, not-false}
+use Rattle.std.proofs.lemmas.Result.{err_from_is_err_and}
 use Rattle.survex.proofs.Walks.{refused_converts}
 use Rattle.survex.proofs.walk.convert.Goals as goal
 
-pub returns-then-not-data : goal.returns-then-not-data
-returns-then-not-data c = refused_converts _ _ _ _ _ _ (c.data_line-data.ensures.no (not-true _ c.if-not-data.true))
-
-pub overflow_add-data : goal.overflow_add-data
-overflow_add-data c = let s = (c.data_line-data.ensures.yes (not-false _ c.if-not-data.false)).1 in omega (arith, s.place, s.few)
+pub returns-in_err-first : goal.returns-in_err-first
+returns-in_err-first c =
+    let p = err_from_is_err_and c.from_residual.result c.from_residual.ensures.1 in
+    rw (p.1, p.2) (refused_converts _ _ _ _ _ _ c.in_err-first.ensures)
 
 pub walk-requires : goal.walk-requires
-walk-requires c = (c.data_line-data.ensures.yes (not-false _ c.if-not-data.false)).1
+walk-requires c = c.in_ok-first.ensures.1
 
 pub returns : goal.returns
-returns c = rw (c.data_line-data.ensures.yes (not-false _ c.if-not-data.false)).0 c.walk.ensures
+returns c = rw c.in_ok-first.ensures.0 c.walk.ensures

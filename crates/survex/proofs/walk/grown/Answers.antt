@@ -1,16 +1,27 @@
 -- `survex::walk::grown` meets its contract.
-use Rattle.std.proofs.Common.{arith}
-use Rattle.survex.proofs.Measures.{grown_over, grown_past, grown_fits}
+use Rattle.std.proofs.Common.{◌+◌, arith, sym}
+use Rattle.survex.specs.Private.{grown_of}
+use Rattle.survex.proofs.Measures.{measured_fits, measured_over}
 use Rattle.survex.proofs.walk.grown.Goals as goal
 
-pub returns-then-m-ne0 : goal.returns-then-m-ne0
-returns-then-m-ne0 c = grown_over _ _ _ c.if-m-ne0.true
+pub returns-in_err-used : goal.returns-in_err-used
+unfolding grown_of
+returns-in_err-used c = rw (c.from_residual.ensures, c.in_err-used.was)
 
-pub returns-then-room-m : goal.returns-then-room-m
-returns-then-room-m c = let a = c.args in grown_past a.room a.m a.n (omega (arith, c.if-room-m.true))
+pub returns-in_err-left : goal.returns-in_err-left
+unfolding grown_of
+returns-in_err-left c =
+    rw (c.from_residual-in_err-left.ensures, c.in_ok-used.was)
+    (sym (measured_over c.args.room (c.in_ok-used.used + c.args.n) (omega (arith, c.in_err-left.ensures))))
 
-pub returns-then-room-m-2 : goal.returns-then-room-m-2
-returns-then-room-m-2 c = let a = c.args in grown_past a.room a.m a.n (omega (arith, c.if-room-m-2.true, c.if-room-m.false))
+pub returns-in_err-checked_sub : goal.returns-in_err-checked_sub
+unfolding grown_of
+returns-in_err-checked_sub c =
+    rw (c.from_residual-in_err-checked_sub.ensures, c.in_ok-used.was)
+    (sym (measured_over c.args.room (c.in_ok-used.used + c.args.n) (omega (arith, c.in_ok-left.ensures, c.in_err-checked_sub.ensures))))
 
 pub returns : goal.returns
-returns c = let a = c.args in grown_fits a.room a.m a.n c.if-m-ne0.false (omega (arith, c.if-room-m-2.false, c.if-room-m.false))
+unfolding grown_of
+returns c =
+    rw c.in_ok-used.was
+    (sym (measured_fits c.args.room (c.in_ok-used.used + c.args.n) (omega (arith, c.in_ok-left.ensures, c.in_ok-checked_sub.ensures))))

@@ -1,8 +1,9 @@
 -- `survex::walk::is_data` meets its contract.
+use Rattle.std.proofs.Common.{◌∙◌}
 use Rattle.survex.specs.Survex.{data_form}
-use Rattle.survex.proofs.Walks.{data_found}
+use Rattle.survex.proofs.Walks.{data_same}
 use Rattle.survex.proofs.walk.is_data.Goals as goal
 
 pub returns : goal.returns
 unfolding data_form
-returns c = data_found _ _ c.read_form-form.ensures.fields
+returns c = c.eq.ensures ∙ data_same _ _ c.as_slice.ensures

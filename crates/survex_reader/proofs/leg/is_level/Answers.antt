@@ -1,9 +1,7 @@
 -- `survex_reader::leg::is_level` meets its contract.
-use Rattle.survex_reader.proofs.Legs.{level_not, level_byte}
+use Rattle.std.proofs.Common.{◌∙◌}
+use Rattle.survex_reader.proofs.Legs.{level_same}
 use Rattle.survex_reader.proofs.leg.is_level.Goals as goal
 
-pub returns-then-part-ne1 : goal.returns-then-part-ne1
-returns-then-part-ne1 c = level_not c.args.part.now c.if-part-ne1.true
-
 pub returns : goal.returns
-returns c = level_byte _ c.if-part-ne1.false
+returns c = c.eq.ensures ∙ level_same _ _ c.as_slice.ensures

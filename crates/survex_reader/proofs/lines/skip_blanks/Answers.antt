@@ -1,32 +1,14 @@
 -- `survex_reader::lines::skip_blanks` meets its contract.
-use Rattle.std.proofs.Common.{arith, sym, ap, ◌∙◌, not, length}
-use Rattle.text.proofs.Scan.{run_ahead, run_stop, run_end}
+use Rattle.std.proofs.Common.{rules, ℕ, refl, ap, ◌∙◌, ◌+◌}
+use Rattle.std.proofs.lemmas.Iterator.{YieldsList-from_slice}
+use Rattle.std.proofs.lemmas.Iterator.Search.{position_from_yields_List}
+use borrow.Author.Tests.{tests}
+use Rattle.text.proofs.Scan.{place_or_end, rest_from}
 use Rattle.survex_reader.specs.Lines.{not_blank}
 use Rattle.survex_reader.proofs.lines.skip_blanks.Goals as goal
 
-pub returns-then-not-is_blank : goal.returns-then-not-is_blank
-returns-then-not-is_blank c =
-    omega (
-      arith,
-      c.loop-end.invariant,
-      ap length
-          (run_stop not_blank c.args.text.now c.loop-end.end c.loop-end-test.true
-          (ap not (sym c.is_blank.ensures ∙ c.if-not-is_blank.true))),
-    )
-
-pub loop-end-preserved : goal.loop-end-preserved
-loop-end-preserved c =
-    omega (
-      arith,
-      c.loop-end.invariant,
-      ap length
-          (run_ahead not_blank c.args.text.now c.loop-end.end c.loop-end-test.true
-          (ap not (sym c.is_blank.ensures ∙ c.if-not-is_blank.false))),
-    )
-
 pub returns : goal.returns
-returns c = omega (
-  arith,
-  c.loop-end.invariant,
-  ap length (run_end not_blank c.args.text.now c.loop-end.end c.loop-end-test.false),
-)
+returns c =
+    let found = position_from_yields_List not_blank _ _ c.position.result c.position.ensures.ran (YieldsList-from_slice _ c.iter.ensures.rest) (λ x b q k. search (rules, tests)) in
+    let e = c.unwrap_or.ensures ∙ place_or_end not_blank not_blank (λ b. refl) _ _ found in
+    ap (λ (n : ℕ). c.args.at + n) (e ∙ rw (rest_from _ _ _ c.min.ensures))

@@ -32,6 +32,5 @@ returns c =
     record {
       digits = digit_last _ at.loop-rest.rest at.loop-rest.from at.loop-rest.bytes at.loop-rest.invariant.1 at.loop-rest.invariant.0
           at.loop-rest.invariant.3 (omega arith) (omega arith);
-      most = omega arith;
       size = length-set at.loop-rest.bytes _ _ ∙ at.loop-rest.invariant.1;
     }

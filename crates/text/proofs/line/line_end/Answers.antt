@@ -5,5 +5,5 @@ use Rattle.text.proofs.line.line_end.Goals as goal
 pub returns-then-end-text : goal.returns-then-end-text
 returns-then-end-text c = end_fed _ _ _ c.scan-end.ensures c.if-end-text.true
 
-pub returns : goal.returns
-returns c = end_last _ _ _ c.scan-end.ensures c.if-end-text.false
+pub returns-else-end-text : goal.returns-else-end-text
+returns-else-end-text c = end_last _ _ _ c.scan-end.ensures c.if-end-text.false
