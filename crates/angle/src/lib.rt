@@ -1,7 +1,7 @@
 // The sine and the cosine of v at 2^30 (document 01, 'Angle and sample').
 #![tactic(auto)]
 
-ghost use Rattle.std.specs.Prelude.{◌≡◌, ℕ, ◌+◌, ◌/◌, ◌%◌, ◌^◌, nat_eq, pos, neg_ℤ, if◌then◌else◌};
+ghost use Rattle.std.specs.Prelude.{◌≡◌, ◌<◌, ℕ, ◌+◌, ◌/◌, ◌%◌, ◌^◌, nat_eq, pos, neg_ℤ, if◌then◌else◌};
 ghost use Rattle.exact.specs.Pair.{turn};
 ghost use Rattle.angle.specs.Steps.{sine_at, cosine_at, signed_of};
 ghost use Rattle.angle.specs.Rotations.{Rotated};
@@ -77,7 +77,8 @@ const MINUS_COS_SIN: Quarter = Quarter(3);
 impl Quarter {
     // The quarters of document 01, in its order. A q above 3 counts as 3.
     fn of(q: u32) -> Quarter
-        ensures { result.0 ≡ values_of q }
+        ensures values { result.0 ≡ values_of q }
+        ensures few { result.0 < 4 }
     {
         match q {
             0 => SIN_COS,

@@ -1,15 +1,14 @@
 -- One turn of each loop, and its end.
 use mathlib.Core.Path.{◌≡◌, refl, ap, ap₂, ◌∙◌}
-use mathlib.Core.List.{List, [], ◌∷◌, ◌++◌, map, map-append, append-nil}
-use Prim.Native.Nat.{ℕ, zero, suc, ◌+◌, ◌*◌, ◌/◌, ◌%◌, ◌^◌, ◌≤◌, ◌<◌}
-use native.Mathlib.Nat.{not-suc-le-zero, one-mul, pow-suc, mod-eq_of_lt}
+use mathlib.Core.List.{List, [], ◌∷◌, ◌++◌, map, append-nil}
+use Prim.Native.Nat.{ℕ, zero, suc, ◌+◌, ◌*◌, ◌/◌, ◌%◌, ◌≤◌, ◌<◌}
+use native.Mathlib.Nat.{not-suc-le-zero}
 use native.Mathlib.Numerals.{add-one}
 use native.Mathlib.Omega.{arith}
 use lib.ListN.{length, take, drop, get_or, set, drop_of_length-le}
-use lib.Seq.{drop-cons, take_all, take-suc-set, drop-set-lt, append_snoc}
-use lib.Pow.{pow-lt}
+use lib.Seq.{drop-cons, take_all, take-suc-set, append_snoc}
 use lib.Bits.{bit_xor, xor_zero_r}
-use Rattle.bit_matrix.specs.Matrices.{repeat, applied, units}
+use Rattle.bit_matrix.specs.Matrices.{repeat, applied}
 use Rattle.bit_matrix.proofs.Additive.{xor_assoc}
 use Rattle.bit_matrix.proofs.Theorems.{repeat_add, squared_repeat}
 

@@ -12,6 +12,19 @@ pub struct Matrix {
     pub columns: [u32; 32],
 }
 
+// The exclusive-or of the columns at the digits of x that are 1.
+pub fn apply(columns: &[u32], x: u32) -> u32
+    ensures { result ≡ applied columns.now x }
+{
+    let mut sum = 0;
+    let mut rest = x;
+    for column in columns.iter() {
+        sum ^= *column * (rest % 2);
+        rest /= 2;
+    }
+    sum
+}
+
 impl Matrix {
     // The identity, whose columns are the unit words 1, 2, 4 .. 2^31.
     pub fn identity() -> Matrix
@@ -27,17 +40,11 @@ impl Matrix {
         }
     }
 
-    // The exclusive-or of the columns at the digits of x that are 1.
+    // The matrix at a word.
     pub fn applied(&self, x: u32) -> u32
         ensures { result ≡ applied self.now.columns x }
     {
-        let mut sum = 0;
-        let mut rest = x;
-        for column in self.columns.iter() {
-            sum ^= *column * (rest % 2);
-            rest /= 2;
-        }
-        sum
+        apply(&self.columns, x)
     }
 
     // The matrix applied to each of the words.

@@ -1,24 +1,45 @@
-// What the programs have in common: standard input is read whole, standard output is written, and what fails is said.
+// What the programs have in common: standard input is read until it ends or a buffer is full, standard output is written, and what fails is said.
 #![tactic(auto)]
 
 mod failure;
 
-ghost use Rattle.std.specs.Prelude.{◌≤◌, length, IfOk};
+ghost use Rattle.std.specs.Prelude.{◌≡◌, ◌≤◌, length, MatchResult};
 
-use failure::tell;
+pub use failure::tell;
 use std::io;
 use std::io::Read;
 
-// Reads until the buffer is full or the input ends, and returns how many bytes were read.
-pub fn read_all<R: Read>(from: &mut R, buf: &mut [u8]) -> io::Result<usize>
-    ensures { IfOk result (λ n. n ≤ length buf.new) }
+// A read that failed: its error, and how many bytes were read before it.
+#[derive(Drop)]
+pub struct Stopped {
+    pub error: io::Error,
+    pub length: usize,
+}
+
+impl From<Stopped> for io::Error {
+    ghost from_gives = { λ stopped error. error ≡ stopped.error };
+
+    fn from(stopped: Stopped) -> io::Error {
+        stopped.error
+    }
+}
+
+// Reads until the buffer is full, the input ends or a read fails, and returns how many bytes were read.
+pub fn read_all<R: Read>(from: &mut R, buf: &mut [u8]) -> Result<usize, Stopped>
+    ensures { MatchResult result (λ n. n ≤ length buf.new) (λ stopped. stopped.length ≤ length buf.new) }
 {
     let mut done = 0;
     // No `read_exact`: input may end before the buffer is full, and then what was read counts.
     while done < buf.len() {
-        match from.read(&mut buf[done..])? {
-            0 => return Ok(done),
-            n => done += n,
+        match from.read(&mut buf[done..]) {
+            Ok(0) => return Ok(done),
+            Ok(n) => done += n,
+            Err(error) => {
+                return Err(Stopped {
+                    error,
+                    length: done,
+                });
+            }
         }
     }
     Ok(done)
@@ -43,7 +64,10 @@ where
 {
     let read = match read_all(input, text) {
         Ok(read) => read,
-        Err(error) => return tell(rt, name, "reading standard input", error),
+        Err(stopped) => {
+            let what = format_args!("{name}: reading standard input");
+            return tell(rt, what, stopped.error);
+        }
     };
     if read == text.len() {
         if let Some(why) = too_long {
@@ -53,6 +77,6 @@ where
     let printed = print(&text[..read], out);
     match rt.write_all(&out[..printed.min(out.len())]) {
         Ok(()) => Ok(()),
-        Err(error) => tell(rt, name, "writing standard output", error),
+        Err(error) => tell(rt, format_args!("{name}: writing standard output"), error),
     }
 }

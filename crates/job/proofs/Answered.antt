@@ -184,11 +184,11 @@ judged_told b (listed bytes) j = tt
 
 pub job_told : (text : List ℕ) → Told (job_of text)
 unfolding job_of
-job_told text = go (ltb most_bytes (length text))
+job_told text = go _ (ltb most_bytes (length text))
   where
-    go : (b : Bool) → Told (cond b (refused 5 0) (listing_of text))
-    go true = omega arith
-    go false = judged_told (first_bad 1 (lines text)) (listing_of text) (judged_text text)
+    go : (line : ℕ) (b : Bool) → Told (cond b (refused 5 line) (listing_of text))
+    go line true = omega arith
+    go line false = judged_told (first_bad 1 (lines text)) (listing_of text) (judged_text text)
 
 -- an answer of 0 has the listing in the buffer
 pub printed_listed : (o : Outcome) (out : List ℕ) → Told o → (answer_of o (length out)).code ≡ 0

@@ -9,7 +9,7 @@ use mathlib.Core.Logic.{◌↔◌}
 use lib.Dec.{eqb, leb, ltb}
 use lib.ListN.{length, length-append}
 use lib.IntN.{ℤ}
-use borrow.Author.Tests.{eqb-true, eqb-false, leb-true, leb-false, lt-leb, lt-ltb, ltb-false, not-false}
+use borrow.Author.Tests.{eqb-true, eqb-false, leb-true, leb-false, lt-leb, ltb-false, not-false}
 use Rattle.text.specs.Ascii.{byte}
 use Rattle.text.specs.Fields.{decimal}
 use Rattle.text.specs.Forms.{print_form}
@@ -32,7 +32,7 @@ use Rattle.job_reader.proofs.Refused.{seed_apart}
 use Rattle.job_reader.proofs.Accepted.{accepted_line}
 use Rattle.job.proofs.Bounds.{end_short, steps}
 use Rattle.job.proofs.Going.{outcome_yes, outcome_no}
-use Rattle.job.proofs.Answered.{job_short}
+use Rattle.job.proofs.Answered.{job_long, job_short}
 use Rattle.job.proofs.Pairs.{drawn_pairs}
 use Rattle.job.proofs.Jobs.{
   onto_refused,
@@ -95,11 +95,11 @@ listing_short text bytes e =
 
 short_job_lem : (text bytes : List ℕ) → job_of text ≡ listed bytes → listing_of text ≡ listed bytes
 unfolding job_of
-short_job_lem text bytes e = go (ltb most_bytes (length text)) e
+short_job_lem text bytes e = go _ (ltb most_bytes (length text)) e
   where
-    go : (b : Bool) → cond b (refused 5 0) (listing_of text) ≡ listed bytes → listing_of text ≡ listed bytes
-    go true e = absurd (refused_not_listed 5 0 bytes e)
-    go false e = e
+    go : (line : ℕ) (b : Bool) → cond b (refused 5 line) (listing_of text) ≡ listed bytes → listing_of text ≡ listed bytes
+    go line true e = absurd (refused_not_listed 5 line bytes e)
+    go line false e = e
 
 longest : (text bytes : List ℕ) → job_of text ≡ listed bytes → length bytes ≤ longest_listing
 longest text bytes e = listing_short text bytes (short_job_lem text bytes e)
@@ -151,11 +151,11 @@ module _ (m : ℕ) (own : m % 5 ≡ 0) (low : 0 < m) (high : m ≤ 10) where
 -- so that no job has the code 10
 job_apart : (text : List ℕ) → Apart 10 refl (omega arith) (omega arith) (job_of text)
 unfolding job_of
-job_apart text = go (ltb most_bytes (length text))
+job_apart text = go _ (ltb most_bytes (length text))
   where
-    go : (b : Bool) → Apart 10 refl (omega arith) (omega arith) (cond b (refused 5 0) (listing_of text))
-    go true = λ e. omega (arith, e)
-    go false = listing_apart 10 refl (omega arith) (omega arith) text
+    go : (line : ℕ) (b : Bool) → Apart 10 refl (omega arith) (omega arith) (cond b (refused 5 line) (listing_of text))
+    go line true = λ e. omega (arith, e)
+    go line false = listing_apart 10 refl (omega arith) (omega arith) text
 
 -- the code of an answer: 10 just where there is a listing, longer than the room; else that of the outcome
 module _ (room : ℕ) where
@@ -184,11 +184,11 @@ module _ (room : ℕ) where
 
   just_5 : (text : List ℕ) → ((answer_of (job_of text) room).code ≡ 5) ↔ (60000 < length text)
   unfolding job_of answer_of
-  just_5 text = by (ltb most_bytes (length text)) refl
+  just_5 text = by _ (ltb most_bytes (length text)) refl
     where
-      by : (t : Bool) → ltb most_bytes (length text) ≡ t → ((answer_of (cond t (refused 5 0) (listing_of text)) room).code ≡ 5) ↔ (60000 < length text)
-      by true t = (λ e. leb-true (suc most_bytes) (length text) t, λ h. refl)
-      by false t = (
+      by : (line : ℕ) (t : Bool) → ltb most_bytes (length text) ≡ t → ((answer_of (cond t (refused 5 line) (listing_of text)) room).code ≡ 5) ↔ (60000 < length text)
+      by line true t = (λ e. leb-true (suc most_bytes) (length text) t, λ h. refl)
+      by line false t = (
         λ e. absurd (answer_not_5 (listing_of text) (listing_apart 5 refl (omega arith) (omega arith) text) e),
         λ h. absurd (omega (arith, h, ltb-false most_bytes (length text) t)),
       )
@@ -201,8 +201,8 @@ module _ (room : ℕ) where
   told_10 text e = let (bytes, is, long) = (just_10 text).0 e in rw (is, lt-leb (length bytes) room long)
 
   told_5 : (text : List ℕ) → (answer_of (job_of text) room).code ≡ 5 → answer_of (job_of text) room ≡ record { code = 5; line = 0; length = 0 }
-  unfolding job_of answer_of
-  told_5 text e = rw (lt-ltb most_bytes (length text) ((just_5 text).0 e))
+  unfolding answer_of
+  told_5 text e = rw (job_long text ((just_5 text).0 e))
 
 never_too_long : (text : List ℕ) → (answer_of (job_of text) listing_room).code ≡ 10 → ⊥
 never_too_long text e =

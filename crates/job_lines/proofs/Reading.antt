@@ -7,7 +7,7 @@ use Rattle.std.proofs.Common.{Option, Some, None}
 use Rattle.text.specs.Fields.{name, digit_string, value, Spells, SpellThree}
 use Rattle.text.specs.Forms.{fields_at}
 use Rattle.text.specs.declared.field.Place.{Place}
-use Rattle.text.proofs.Readings.{there, not_there}
+use Rattle.text.proofs.Readings.{there, not_there, all_there}
 use Rattle.text.proofs.FoundFields.{part_at, field_place}
 use Rattle.job_lines.specs.Forms.{seeds, sigma, shot, no_form, seeds_of, sigma_of, shot_of}
 
@@ -42,19 +42,19 @@ module _ (line : List ℕ) (places : List Place) where
   shot_at = rw (field_place line places 0, field_place line places 1, field_place line places 2, field_place line places 3)
 
   -- what the answers of the field readers make of a line
-  module _ (a : Option (ℕ × ℕ × ℕ)) (s : SpellThree (p 0) (p 1) (p 2) a) where
-    pub seeds_first : a ≡ None → no_form ≡ seeds_of (fields_at line places)
-    seeds_first e = rw (seeds_at, not_there _ _ a s e)
+  pub seeds_first : three 0 1 2 ≡ false → no_form ≡ seeds_of (fields_at line places)
+  seeds_first e = rw (seeds_at, e)
 
-    module _ (b : Option (ℕ × ℕ × ℕ)) (t : SpellThree (p 3) (p 4) (p 5) b) where
-      pub seeds_second : (x : ℕ × ℕ × ℕ) → a ≡ Some x → b ≡ None → no_form ≡ seeds_of (fields_at line places)
-      seeds_second x e f = rw (seeds_at, (there _ _ a x s e).0, not_there _ _ b t f)
+  pub seeds_second : three 0 1 2 ≡ true → three 3 4 5 ≡ false → no_form ≡ seeds_of (fields_at line places)
+  seeds_second e f = rw (seeds_at, e, f)
 
-      pub seeds_both : (x y : ℕ × ℕ × ℕ) → a ≡ Some x → b ≡ Some y → seeds x.0 x.1 x.2 y.0 y.1 y.2 ≡ seeds_of (fields_at line places)
-      seeds_both x y e f =
-          let (m, u) = there _ _ a x s e in
-          let (n, v) = there _ _ b y t f in
-          rw (seeds_at, m, n, u, v)
+  module _ (a : Option ℕ × Option ℕ × Option ℕ) (s : SpellThree (p 0) (p 1) (p 2) a) (b : Option ℕ × Option ℕ × Option ℕ) (t : SpellThree (p 3) (p 4) (p 5) b) where
+    pub seeds_both : (x y : ℕ × ℕ × ℕ) → a.0 ≡ Some x.0 → a.1 ≡ Some x.1 → a.2 ≡ Some x.2 → b.0 ≡ Some y.0 → b.1 ≡ Some y.1 → b.2 ≡ Some y.2
+        → seeds x.0 x.1 x.2 y.0 y.1 y.2 ≡ seeds_of (fields_at line places)
+    seeds_both x y e f g h i j =
+        let (m, x0, x1, x2) = all_there _ _ _ a s _ _ _ e f g in
+        let (n, y0, y1, y2) = all_there _ _ _ b t _ _ _ h i j in
+        rw (seeds_at, m, n, x0, x1, x2, y0, y1, y2)
 
   module _ (d : Option ℕ) (s : Spells (digit_string (p 0)) (p 0) d) where
     pub sigma_first : d ≡ None → no_form ≡ sigma_of (fields_at line places)

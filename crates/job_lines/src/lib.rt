@@ -48,8 +48,10 @@ pub enum Line {
 fn seeds_line(line: &[u8], places: [Place; 6]) -> Option<Line>
     ensures { said line.now result ≡ seeds_of (fields_at line.now places) }
 {
-    let a = three_at(line, places[0], places[1], places[2])?;
-    let b = three_at(line, places[3], places[4], places[5])?;
+    let first = three_at(line, places[0], places[1], places[2]);
+    let a = (first.0?, first.1?, first.2?);
+    let second = three_at(line, places[3], places[4], places[5]);
+    let b = (second.0?, second.1?, second.2?);
     Some(Line::Seeds(Seeds { a, b }))
 }
 
@@ -90,12 +92,14 @@ pub fn read_line(line: &[u8]) -> Option<Line>
     ensures says { said line.now result ≡ read_line line.now }
     ensures exact { result ≡ line_in line.now (read_line line.now) }
 {
-    if let Some(places) = read_form(b"(shot # # # #)\n", line) {
-        return shot_line(line, places);
+    if let Ok(shot) = read_form(b"(shot # # # #)\n", line) {
+        return shot_line(line, shot.places);
     }
-    if let Some(places) = read_form(b"(seeds (a # # #) (b # # #))\n", line) {
-        return seeds_line(line, places);
+    if let Ok(seeds) = read_form(b"(seeds (a # # #) (b # # #))\n", line) {
+        return seeds_line(line, seeds.places);
     }
-    let places = read_form(b"(sigma # #)\n", line)?;
-    sigma_line(line, places)
+    let Ok(sigma) = read_form(b"(sigma # #)\n", line) else {
+        return None;
+    };
+    sigma_line(line, sigma.places)
 }

@@ -1,12 +1,14 @@
 -- What a line of a job leaves for those after it (document 01, "A job and its listing").
-use Rattle.std.specs.Prelude.{ℕ, ◌+◌, ◌≡◌, ◌≤◌, List, Some, Result, MatchResult}
+use Rattle.std.specs.Prelude.{ℕ, ◌+◌, ◌≡◌, ◌≤◌, List, Option, Some, Result, MatchResult}
 use Rattle.streams.specs.Streams.{seed_of}
-use Rattle.job_lines.specs.Forms.{Form, seeds, sigma, shot, no_form, read_line, line_says, line_in}
+use Rattle.job_lines.specs.Forms.{Form, seeds, sigma, shot, no_form, read_line, line_says, said, line_in}
+use Rattle.job_lines.specs.declared.Line.{Line}
 use Rattle.job_reader.specs.Limits.{most_sigma}
 use Rattle.job_reader.specs.Refusals.{refusal, number_of}
 use Rattle.job_reader.specs.declared.walk.Setting.{Setting}
 use Rattle.job_reader.specs.declared.walk.Progress.{Progress}
 use Rattle.job_reader.specs.declared.walk.Step.{Step}
+use Rattle.job_reader.specs.declared.walk.Refused.{Refused}
 use Rattle.job_reader.specs.declared.refusals.BadLine.{BadLine}
 
 -- before line 1 there is no record and no sigma; no accepted job prints with these
@@ -34,6 +36,11 @@ pub record Refuses (k : ℕ) (x : Form) (bad : BadLine) : Type 0 where
   pub cause : refusal k x ≡ number_of bad.cause
   pub line : bad.line ≡ k
 
+-- what a line says, or nothing where it is of no form
+pub record Says (line : List ℕ) (says : Option Line) : Type 0 where
+  pub form : said line says ≡ read_line line
+  pub exact : says ≡ line_in line (read_line line)
+
 -- a line is accepted: what it says, and the progress after it
 pub record Accepts (line : List ℕ) (p : Progress) (step : Step) : Type 0 where
   pub accepted : refusal p.line (read_line line) ≡ 0
@@ -42,8 +49,9 @@ pub record Accepts (line : List ℕ) (p : Progress) (step : Step) : Type 0 where
   pub next : step.next ≡ progress_on (read_line line) p
 
 -- one line more
-abbrev pub ReadsOn : List ℕ → Progress → Result Step BadLine → Type 0
-ReadsOn line p r = MatchResult r (λ step. Accepts line p step) (λ bad. Refuses p.line (read_line line) bad)
+abbrev pub ReadsOn : List ℕ → Progress → Result Step Refused → Type 0
+ReadsOn line p r =
+    MatchResult r (λ step. Accepts line p step) (λ refused. Refuses p.line (read_line line) refused.bad × Says line refused.says)
 
 -- sigmas within their range
 pub record Steady (distance bearing : ℕ) : Type 0 where

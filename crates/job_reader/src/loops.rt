@@ -44,7 +44,7 @@ fn ended(s: State) -> Result<Loop, BadLine>
     })
 }
 
-// The state after the last line, or the first that is refused.
+// The loop that the lines say, its shots kept as far as there is room; or the line that is refused.
 fn walk(text: &[u8], shots: &mut [LoopShot]) -> Result<Loop, BadLine>
     ensures { Ended (lines text.now) shots.old shots.new result }
 {

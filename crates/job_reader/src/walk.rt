@@ -35,6 +35,21 @@ pub struct Step {
     pub next: Progress,
 }
 
+// A refused line: what it says, where it is of a form, and why it is refused. The progress stays the caller's.
+#[derive(Clone, Copy)]
+pub struct Refused {
+    pub says: Option<Line>,
+    pub bad: BadLine,
+}
+
+impl From<Refused> for BadLine {
+    ghost from_gives = { λ refused bad. bad ≡ refused.bad };
+
+    fn from(refused: Refused) -> BadLine {
+        refused.bad
+    }
+}
+
 // Before line 1.
 pub fn first_setting() -> Setting
     ensures { result ≡ start }
@@ -120,23 +135,29 @@ pub fn first_progress() -> Progress
     Progress { line: 1, setting }
 }
 
+// The next line is refused.
+fn refuse(says: Option<Line>, cause: Cause, p: Progress) -> Refused
+    ensures { result ≡ record { says = says; bad = record { cause = cause; line = p.line } } }
+{
+    let line = p.line;
+    Refused {
+        says,
+        bad: BadLine { cause, line },
+    }
+}
+
 // One line: whether it is accepted in its place, what it says, and what it sets.
-pub fn read_on(line: &[u8], p: Progress) -> Result<Step, BadLine>
+pub fn read_on(line: &[u8], p: Progress) -> Result<Step, Refused>
     ensures { ReadsOn line.now p result }
 {
-    let number = p.line;
-    let says = read_line(line).ok_or(BadLine {
-        cause: Cause::NoForm,
-        line: number,
-    })?;
-    let setting = setting_after(says, p).map_err(|cause| BadLine {
-        cause,
-        line: number,
-    })?;
+    let Some(says) = read_line(line) else {
+        return Err(refuse(None, Cause::NoForm, p));
+    };
+    let setting = setting_after(says, p).map_err(|cause| refuse(Some(says), cause, p))?;
     Ok(Step {
         says,
         next: Progress {
-            line: number + 1,
+            line: p.line + 1,
             setting,
         },
     })

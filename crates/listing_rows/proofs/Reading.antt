@@ -6,12 +6,13 @@ use mathlib.Core.Bool.{Bool, true, false, cond, ◌&&◌}
 use mathlib.Core.List.{List, [], ◌∷◌}
 use mathlib.Core.Option.{some, none}
 use lib.ListN.{get_or}
-use Rattle.std.proofs.Common.{Option, Some, None}
+use Rattle.std.proofs.Common.{Option, Some, None, Result, Ok}
 use Rattle.text.specs.Fields.{name, digit_string, value, Spells, SpellThree}
-use Rattle.text.specs.Forms.{read_form, read_exactly, or_else, marks, fields_at, found_in, no_place}
+use Rattle.text.specs.Forms.{read_form, or_else, marks, fields_at, found_of, no_place}
 use Rattle.text.specs.declared.field.Place.{Place}
+use Rattle.text.specs.declared.form.Found.{Found}
 use Rattle.text.proofs.FoundFields.{part_at, field_place, found, missed}
-use Rattle.text.proofs.Readings.{there, not_there}
+use Rattle.text.proofs.Readings.{there, not_there, all_there}
 use Rattle.listing_rows.specs.Private.{of_two, RowAt}
 use Rattle.listing_rows.specs.Rows.{header, header_of, row_form, end_form}
 use Rattle.listing_rows.specs.Entries.{high_at, leg, last, neither, leg_of, end_of, read_entry}
@@ -97,12 +98,14 @@ module _ (line : List ℕ) (places : List Place) where
     pub leg_nowhere : false ≡ name (p 1) → neither ≡ leg_of 3 (fields_at line places)
     leg_nowhere e = rw (leg_at_lem, ← m, ← e)
 
-    module _ (n : true ≡ name (p 1)) (r : Option (ℕ × ℕ × ℕ)) (s : SpellThree (p 2) (p 3) (p 4) r) where
-      pub leg_unmeasured : r ≡ None → neither ≡ leg_of 3 (fields_at line places)
-      leg_unmeasured e = rw (leg_at_lem, ← m, ← n, not_there _ _ r s e)
+    module _ (n : true ≡ name (p 1)) where
+      pub leg_unmeasured : digit_string (p 2) && digit_string (p 3) && digit_string (p 4) ≡ false → neither ≡ leg_of 3 (fields_at line places)
+      leg_unmeasured e = rw (leg_at_lem, ← m, ← n, e)
 
-      pub leg_whole : (x : ℕ × ℕ × ℕ) → r ≡ Some x → leg (p 0) (p 1) x.0 x.1 x.2 ≡ leg_of 3 (fields_at line places)
-      leg_whole x e = let (t, u) = there _ _ r x s e in rw (leg_at_lem, ← m, ← n, t, u)
+      pub leg_whole : (r : Option ℕ × Option ℕ × Option ℕ) → SpellThree (p 2) (p 3) (p 4) r → (low high step : ℕ) → r.0 ≡ Some low → r.1 ≡ Some high → r.2 ≡ Some step
+          → leg (p 0) (p 1) low high step ≡ leg_of 3 (fields_at line places)
+      leg_whole r s low high step e f g =
+          let (t, u, v, w) = all_there _ _ _ r s low high step e f g in rw (leg_at_lem, ← m, ← n, t, u, v, w)
 
   -- the count of the last row, by its place
   end_at : end_of (fields_at line places) ≡ cond (digit_string (p 0)) (last (value 0 (p 0))) neither
@@ -110,36 +113,40 @@ module _ (line : List ℕ) (places : List Place) where
   end_at = rw (field_place line places 0)
 
 -- the last row, or a line that is none
-module _ (line : List ℕ) (r : Option (List Place)) (e : read_exactly 1 end_form line ≡ found_in line r) where
-  pub end_not : r ≡ None → neither ≡ or_else (read_form end_form line) end_of neither
+module _ (line : List ℕ) (r : Result (Found 1) (Found 1)) (e : r ≡ found_of 1 end_form line) where
+  pub end_not : ((c : Found 1) → r ≡ Ok c → ⊥) → neither ≡ or_else (read_form end_form line) end_of neither
   end_not k = rw (missed end_form line 1 r e (sym end_marks) k)
 
-  module _ (places : List Place) (k : r ≡ Some places) (d : Option ℕ) (s : Spells (digit_string (part_at line places 0)) (part_at line places 0) d) where
-    end_here : or_else (read_form end_form line) end_of neither ≡ end_of (fields_at line places)
-    end_here = rw (found end_form line 1 r e (sym end_marks) places k)
+  module _ (c : Found 1) (k : r ≡ Ok c) (d : Option ℕ) (s : Spells (digit_string (part_at line c.places 0)) (part_at line c.places 0) d) where
+    end_here : or_else (read_form end_form line) end_of neither ≡ end_of (fields_at line c.places)
+    end_here = rw (found end_form line 1 r e (sym end_marks) c k)
 
     pub end_uncounted : d ≡ None → neither ≡ or_else (read_form end_form line) end_of neither
-    end_uncounted f = rw (end_here, end_at line places, not_there _ _ d s f)
+    end_uncounted f = rw (end_here, end_at line c.places, not_there _ _ d s f)
 
     pub end_counted : (n : ℕ) → d ≡ Some n → last n ≡ or_else (read_form end_form line) end_of neither
-    end_counted n f = let (t, u) = there _ _ d n s f in rw (end_here, end_at line places, t, u)
+    end_counted n f = let (t, u) = there _ _ d n s f in rw (end_here, end_at line c.places, t, u)
 
 -- where the fields of a row stand, by what the reader of forms found
-pub row_of_two : (line : List ℕ) (r : Option (List Place)) → read_exactly 5 (row_form true) line ≡ found_in line r → RowAt true line r
-unfolding high_at
-row_of_two line None e = missed (row_form true) line 5 None e (sym (row_marks true)) refl
-row_of_two line (Some places) e = (fields_at line places, found (row_form true) line 5 (Some places) e (sym (row_marks true)) places refl, refl)
-
-module _ (line : List ℕ) (r : Option (List Place)) (e : read_exactly 4 (row_form false) line ≡ found_in line r) where
-  pub row_of_none : r ≡ None → RowAt false line None
+module _ (line : List ℕ) (r : Result (Found 5) (Found 5)) (e : r ≡ found_of 5 (row_form true) line) where
+  pub not_of_two : ((c : Found 5) → r ≡ Ok c → ⊥) → RowAt true line None
   unfolding high_at
-  row_of_none k = missed (row_form false) line 4 r e (sym (row_marks false)) k
+  not_of_two k = missed (row_form true) line 5 r e (sym (row_marks true)) k
 
-  pub row_of_one : (places : List Place) → r ≡ Some places
-      → RowAt false line (Some (get_or places 0 no_place ∷ get_or places 1 no_place ∷ get_or places 2 no_place ∷ get_or places 2 no_place ∷ get_or places 3 no_place ∷ []))
+  pub row_of_two : (c : Found 5) → r ≡ Ok c → RowAt true line (Some c.places)
   unfolding high_at
-  row_of_one places k = (
-    fields_at line places,
-    found (row_form false) line 4 r e (sym (row_marks false)) places k,
-    sym (rw (field_place line places 0, field_place line places 1, field_place line places 2, field_place line places 3)),
+  row_of_two c k = (fields_at line c.places, found (row_form true) line 5 r e (sym (row_marks true)) c k, refl)
+
+module _ (line : List ℕ) (r : Result (Found 4) (Found 4)) (e : r ≡ found_of 4 (row_form false) line) where
+  pub not_of_one : ((c : Found 4) → r ≡ Ok c → ⊥) → RowAt false line None
+  unfolding high_at
+  not_of_one k = missed (row_form false) line 4 r e (sym (row_marks false)) k
+
+  pub row_of_one : (c : Found 4) → r ≡ Ok c
+      → RowAt false line (Some (get_or c.places 0 no_place ∷ get_or c.places 1 no_place ∷ get_or c.places 2 no_place ∷ get_or c.places 2 no_place ∷ get_or c.places 3 no_place ∷ []))
+  unfolding high_at
+  row_of_one c k = (
+    fields_at line c.places,
+    found (row_form false) line 4 r e (sym (row_marks false)) c k,
+    sym (rw (field_place line c.places 0, field_place line c.places 1, field_place line c.places 2, field_place line c.places 3)),
   )

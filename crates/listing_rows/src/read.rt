@@ -51,10 +51,18 @@ fn row_places(line: &[u8], kind: Kind) -> Option<[Place; 5]>
 {
     match kind {
         Kind::OneDistance => {
-            let places: [Place; 4] = read_form(b"# # # #\n", line)?;
+            let Ok(row) = read_form::<4>(b"# # # #\n", line) else {
+                return None;
+            };
+            let places = row.places;
             Some([places[0], places[1], places[2], places[2], places[3]])
         }
-        Kind::TwoReadings => read_form(b"# # # # #\n", line),
+        Kind::TwoReadings => {
+            let Ok(row) = read_form(b"# # # # #\n", line) else {
+                return None;
+            };
+            Some(row.places)
+        }
     }
 }
 
@@ -70,13 +78,13 @@ fn shot_entry(line: &[u8], places: [Place; 5]) -> Option<Entry>
     if !name_at(line, to) {
         return None;
     }
-    let n = three_at(line, places[2], places[3], places[4])?;
+    let n = three_at(line, places[2], places[3], places[4]);
     Some(Entry::Shot(Span {
         from,
         to,
-        low: n.0,
-        high: n.1,
-        step: n.2,
+        low: n.0?,
+        high: n.1?,
+        step: n.2?,
     }))
 }
 
@@ -84,7 +92,10 @@ fn shot_entry(line: &[u8], places: [Place; 5]) -> Option<Entry>
 fn end_entry(line: &[u8]) -> Option<Entry>
     ensures { tells line.now result ≡ or_else (read_form end_form line.now) end_of neither }
 {
-    let places: [Place; 1] = read_form(b"END #\n", line)?;
+    let Ok(row) = read_form::<1>(b"END #\n", line) else {
+        return None;
+    };
+    let places = row.places;
     let count = digit_string_at(line, places[0])?;
     Some(Entry::End(count))
 }

@@ -7,8 +7,8 @@ use Rattle.streams.specs.Streams.Call.{numbers, a_pair, a_skip, a_Block, a_look,
 use Rattle.box_muller.specs.Steps.{fraction_bits}
 use Rattle.noise.specs.Noise.{pair_of, block_of, look_of, take_of}
 
--- The refusal code and the record that a call returns. Neither depends on the width of the samples: block and block18 are both `a_Block`, and so for pairs,
--- looks and takes (`either_width`).
+-- The refusal code and the record that a call returns. Neither depends on the width of the samples: blocks of 16 and of 18 bits are both `a_Block`, and so
+-- for pairs, looks and takes (`either_width`).
 unfoldable pub returned : Call → Generator → RecordAnswer
 returned numbers g = record { code = (uniforms_of g).code; next = (uniforms_of g).next }
 returned a_pair g = record { code = (pair_of fraction_bits g).code; next = (pair_of fraction_bits g).next }

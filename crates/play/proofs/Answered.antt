@@ -33,7 +33,7 @@ near_are : (l : List Shot) → Within l → Near (map loop.kept_shot l)
 unfolding Within Near
 near_are [] h i other more = absurd (omega arith)
 near_are (x ∷ l) h zero other more = h.0
-near_are (x ∷ l) h (suc i) other more = near_are l h.1 i other (le_of_suc-le-suc more)
+near_are (x ∷ l) h (suc i) other more = near_are l h.2 i other (le_of_suc-le-suc more)
 
 -- ---- A loop that is refused
 

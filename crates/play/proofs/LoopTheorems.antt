@@ -169,12 +169,12 @@ module _ (r : LoopAnswer) where
 
 unfoldable pub Within : List Shot → Type 0
 Within [] = Unit {0}
-Within (x ∷ l) = (x.distance ≤ most_distance) × Within l
+Within (x ∷ l) = (x.distance ≤ most_distance) × (x.step < 65536) × Within l
 
 shots_within : (ys : List Form) → Shots ys → Within (loop.shots_in ys)
 unfolding Shots Within loop.shots_in
 shots_within [] h = tt
-shots_within (shot from to d b ∷ ys) h = (h.2, shots_within ys h.4)
+shots_within (shot from to d b ∷ ys) h = (h.2, omega (arith, h.3), shots_within ys h.4)
 shots_within (seeds a0 a1 a2 b0 b1 b2 ∷ ys) h = absurd h
 shots_within (sigma d b ∷ ys) h = absurd h
 shots_within (no_form ∷ ys) h = absurd h

@@ -1,8 +1,12 @@
 // The two widths of a sample: 16 bits, 11 of them fraction bits (document 01, 'Angle and sample'), and 18 bits, 13 of them (document 02, Job 8), in 32.
 ghost use Rattle.std.specs.Prelude.{◌≡◌, ℕ, ℤ, List, map, nat_abs, ◌+◌, ◌*◌, ◌/◌, ◌^◌, ◌≤◌};
+ghost use Rattle.std.specs.Int.{Width, w16, w32, int_wrap};
 ghost use Rattle.std.proofs.Common.{refl, sym};
 ghost use Rattle.std.proofs.Math.Facts.{leb_yes};
 ghost use Rattle.std.proofs.lemmas.List.{map-id};
+ghost use Rattle.std.proofs.lemmas.Int.{int_wrap_fits};
+ghost use Rattle.std.proofs.Math.Nat.{lt_of_le_of_lt};
+ghost use Rattle.signs.proofs.Sizes.{size_fits};
 ghost use Rattle.exact.specs.Fraction.{Fraction};
 ghost use Rattle.box_muller.specs.Steps.{fraction_bits, fraction_bits18, size};
 ghost use Rattle.box_muller.specs.Sample.{nine_sixteenths, three_quarters};
@@ -19,7 +23,7 @@ pub trait Sample: Copy {
     // Its fraction bits.
     ghost bits: { ℕ };
 
-    // How near it is to its member of the exact pair, in its units, and a second limit, which is not above the first.
+    // How near it is to its member of the exact pair, in its units, and a second limit.
     ghost limit: { Fraction };
 
     ghost closer: { Fraction };
@@ -37,13 +41,20 @@ pub trait Sample: Copy {
     // The most samples of a short block, which is drawn in short chunks: 0 where their stack is not to be had.
     const SHORT_BLOCK: usize;
 
-    // The sample of so many units; of a number beyond the largest sample, some sample. By a remainder: `try_from` would test each sample of a block.
+    // The bits that it is stored in.
+    ghost width: { Width };
+
+    // The sample of so many units; of a number that the width does not hold, what two's complement keeps of it, as `as` does.
+    // By a remainder: `try_from` would test each sample of a block.
     fn of_units(units: i64) -> Self
-        ensures { nat_abs units ≤ largest bits → value result ≡ units };
+        ensures { value result ≡ int_wrap width units };
 
     ghost each: { (l : List Self) → values l ≡ map value l };
 
     ghost few_bits: { bits ≤ 13 };
+
+    // It keeps every sample as it is.
+    ghost holds: { (n : ℤ) → nat_abs n ≤ largest bits → int_wrap width n ≡ n };
 
     ghost small_scale: { SCALE ≤ 4 };
 
@@ -71,6 +82,8 @@ impl Sample for i16 {
 
     const SHORT_BLOCK: usize = 2 * SHORT;
 
+    ghost width = { w16 };
+
     fn of_units(units: i64) -> i16 {
         ((units.cast_unsigned() % (1 << 16)) as u16).cast_signed()
     }
@@ -78,6 +91,8 @@ impl Sample for i16 {
     ghost each = { λ l. sym (map-id l) };
 
     ghost few_bits = { leb_yes tt };
+
+    ghost holds = { λ n small. int_wrap_fits w16 n (size_fits w16 n (lt_of_le_of_lt small (leb_yes tt))) };
 
     ghost small_scale = { leb_yes tt };
 
@@ -105,6 +120,8 @@ impl Sample for i32 {
 
     const SHORT_BLOCK: usize = 0;
 
+    ghost width = { w32 };
+
     fn of_units(units: i64) -> i32 {
         ((units.cast_unsigned() % (1 << 32)) as u32).cast_signed()
     }
@@ -112,6 +129,8 @@ impl Sample for i32 {
     ghost each = { λ l. sym (map-id l) };
 
     ghost few_bits = { leb_yes tt };
+
+    ghost holds = { λ n small. int_wrap_fits w32 n (size_fits w32 n (lt_of_le_of_lt small (leb_yes tt))) };
 
     ghost small_scale = { leb_yes tt };
 

@@ -9,7 +9,7 @@ use lib.Dec.{leb, eqb}
 use borrow.Author.Tests.{leb-true, leb-false, eqb-true, eqb-false}
 use Rattle.streams.specs.declared.Generator.{Generator}
 use Rattle.streams.specs.Streams.{record_code, open_code, none_open_code, asked_code, taken_code, length_code, count_code, first_cause}
-use Rattle.streams.specs.Streams.{most_asked, most_count, Call, note_code, own_code, room_code, code_of}
+use Rattle.streams.specs.Streams.{most_asked, most_count, Call, note_code, own_code, room_code, code_of, if_accepted}
 
 -- One cause alone.
 pub lone_cause : (code : ℕ) → first_cause (code ∷ []) ≡ code
@@ -97,6 +97,10 @@ count_room g n = by_test (leb (g.count + n) most_count) refl
     by_test : (t : Bool) → leb (g.count + n) most_count ≡ t → (count_code g n ≡ 0) ↔ (g.count + n ≤ most_count)
     by_test true e = (λ h. leb-true _ _ e, λ h. rw (count_code, e))
     by_test false e = (λ h. absurd (omega (arith, rw (count_code, e) at h)), λ h. absurd (omega (arith, leb-false (g.count + n) most_count e)))
+
+-- where it has room for them, the record n pairs on is that
+pub with_room : (g next : Generator) (n : ℕ) {r : Generator} → r ≡ if_accepted (count_code g n) next g → g.count + n ≤ most_count → r ≡ next
+with_room g next n is room = is ∙ rw ((count_room g n).1 room)
 
 pub count_full : (g : Generator) (n : ℕ) → (count_code g n ≡ 13) ↔ (most_count < g.count + n)
 unfolding count_code

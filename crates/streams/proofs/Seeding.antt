@@ -7,8 +7,8 @@ use native.Mathlib.Omega.{arith}
 use lib.Dec.{eqb}
 use Rattle.streams.specs.declared.Stream.{Stream}
 use Rattle.streams.specs.declared.RecordAnswer.{RecordAnswer}
-use Rattle.streams.specs.Streams.{fit, record_code, seed_of}
-use Rattle.streams.specs.Theorems.{seeded_record, AtLeast, Seeds, Theorems}
+use Rattle.streams.specs.Streams.{step, advance, fit, record_code, seed_of}
+use Rattle.streams.specs.Theorems.{Drawn, seeded_record, AtLeast, Seeds, Theorems}
 use Rattle.streams.proofs.Theorems.{fit_minima}
 
 -- whether a stream is fit, by its registers
@@ -59,5 +59,10 @@ module _ (a0 a1 a2 b0 b1 b2 : ℕ) where
       by_tests (fit (record { s0 = a0; s1 = a1; s2 = a2 })) (fit (record { s0 = b0; s1 = b1; s2 = b2 })) (fit_at_least a0 a1 a2 _ refl)
       (fit_at_least b0 b1 b2 _ refl)
 
+-- Each register's step is the document's line, by computation.
+draw : (u : Stream) → Drawn u (advance u)
+unfolding advance step
+draw u = record { s0_becomes = refl; s1_becomes = refl; s2_becomes = refl }
+
 pub theorems : Theorems
-theorems = record { seeding = seeding }
+theorems = record { draw = draw; seeding = seeding }

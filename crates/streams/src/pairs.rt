@@ -1,6 +1,6 @@
 // A record from six numbers, and the two numbers of a pair.
-ghost use Rattle.std.specs.Prelude.{◌≡◌, ◌+◌, ◌≤◌};
-ghost use Rattle.streams.specs.Streams.{fresh, onward, most_count, seed_of, uniforms_of};
+ghost use Rattle.std.specs.Prelude.{◌≡◌};
+ghost use Rattle.streams.specs.Streams.{fresh, onward, count_code, if_accepted, seed_of, uniforms_of};
 
 use crate::{Both, Generator, RecordAnswer, Stream, Uniforms};
 
@@ -48,14 +48,17 @@ impl Generator {
         }
     }
 
-    // The same record n pairs on, its streams as they then are. Public for crate `noise` alone.
+    // The same record n pairs on, its streams as they then are; the record itself where the count has no room for n. Public for crate `noise` alone.
     pub fn onward(self, streams: Both, n: u64) -> Generator
-        ensures { self.count + n ≤ most_count → result ≡ onward self streams.a streams.b n }
+        ensures { result ≡ if_accepted (count_code self n) (onward self streams.a streams.b n) self }
     {
+        let Some(count) = self.count.checked_add(n) else {
+            return self;
+        };
         Generator {
             a: streams.a,
             b: streams.b,
-            count: self.count.wrapping_add(n),
+            count,
             ..self
         }
     }

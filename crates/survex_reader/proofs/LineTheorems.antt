@@ -10,6 +10,7 @@ use Rattle.text.specs.Scan.{lines}
 use Rattle.survex_reader.specs.declared.lines.Kept.{Kept}
 use Rattle.survex_reader.specs.Lines.{remains, remaining_from}
 use Rattle.survex_reader.specs.LineTheorems.{remaining, line_numbers, place_after, handed_after, count_after, Hands, Theorems}
+use Rattle.survex_reader.proofs.Places.{left_lem}
 use Rattle.survex_reader.proofs.Onward.{none_found, some_found, none_next}
 
 remaining_skip : (k : ℕ) (l : List ℕ) (ls : List (List ℕ)) → remains l ≡ false → remaining (l ∷ ls) ≡ remaining ls
@@ -111,6 +112,7 @@ none_on (suc n) text at h = go (remaining_from text at).line refl (none_on n tex
 
 pub theorems : Theorems
 theorems = record {
+  left = left_lem;
   one_after_another = λ text n h. hands_on n text 0 h;
   numbered = λ text n h. counts_on n text 0 1 h;
   then_none = λ text n h. none_on n text 0 h;

@@ -13,7 +13,7 @@ use Rattle.text.specs.Ascii.{ascii}
 use Rattle.text.specs.Scan.{one_of, up_to, lines, first_line}
 use Rattle.text.proofs.Scan.{run_take}
 use Rattle.text.proofs.Split.{lines_from, end_within, part_line}
-use Rattle.survex_reader.specs.Lines.{uncommented, blanks_before, trim_start, trim_end, left_of, fed, remains, kept_in, in_text, remaining_in}
+use Rattle.survex_reader.specs.Lines.{uncommented, blanks_before, trim_start, trim_end, left_of, fed, remains, kept_of, in_text, remaining_in}
 use Rattle.survex_reader.specs.declared.lines.Kept.{Kept}
 use Rattle.survex_reader.specs.declared.lines.Remaining.{Remaining}
 use Rattle.survex_reader.proofs.Trim.{trim_take, trim_length}
@@ -77,7 +77,7 @@ module _ {A : Type 0} (F : ℕ → List (List ℕ) → A)
   -- the definition at a line that remains, and at one that does not
   module _ (at n : ℕ) (l : List ℕ) (ls : List (List ℕ)) where
     kept_here : remains l ≡ true
-        → remaining_in at n (l ∷ ls) ≡ record { line = Some (in_text at (kept_in l)); passed = n; next = at + length l }
+        → remaining_in at n (l ∷ ls) ≡ record { line = Some (in_text at (kept_of l)); passed = n; next = at + length l }
     unfolding remaining_in
     kept_here e = rw (e, remaining_in)
 
@@ -106,7 +106,7 @@ module _ {A : Type 0} (F : ℕ → List (List ℕ) → A)
 
   pub some_found : (text : List ℕ) (ls : List (List ℕ)) (at n : ℕ) → lines (drop at text) ≡ ls → (k : Kept) → (remaining_in at n ls).line ≡ Some k
       → HandedOut F text at n k (remaining_in at n ls)
-  unfolding remaining_in kept_in
+  unfolding remaining_in kept_of
   some_found text [] at n e k f = absurd (some_not_none (sym f))
   some_found text (l ∷ ls) at n e k f = go (remains l) refl (some_found text ls (at + length l) (n + 1))
     where
@@ -129,7 +129,7 @@ module _ {A : Type 0} (F : ℕ → List (List ℕ) → A)
       go true u ih =
           let w = rw is_l at (end_within text at h) in
           let v = left_within l in
-          let q : k ≡ in_text at (kept_in l) = sym (some_same (sym (ap line_of (kept_here at n l ls u)) ∙ f)) in
+          let q : k ≡ in_text at (kept_of l) = sym (some_same (sym (ap line_of (kept_here at n l ls u)) ∙ f)) in
           rw (q, kept_here at n l ls u)
           (record {
             line = l;

@@ -2,7 +2,7 @@
 use Prim.Native.Nat.{ℕ, zero, suc, ◌+◌, ◌-◌, ◌≤◌, ◌<◌}
 use native.Mathlib.Omega.{arith}
 use mathlib.Core.Path.{◌≡◌, refl, sym, ap, ◌∙◌}
-use mathlib.Core.Bool.{Bool, true, false, cond, not, ◌||◌, true≢false}
+use mathlib.Core.Bool.{Bool, true, false, not, true≢false}
 use mathlib.Core.List.{List, [], ◌∷◌}
 use Rattle.std.specs.Prelude.{Option, Some, None}
 use lib.Dec.{ltb}
@@ -23,8 +23,8 @@ use Rattle.survex_reader.specs.Lines.{
   left_of,
   fed,
   remains,
-  kept_in,
   kept_of,
+  is_left,
   remaining_in,
   remaining_from,
 }
@@ -120,33 +120,14 @@ module _ (l : List ℕ) (stop : ℕ) (e : stop ≡ 0 + length (up_to (one_of (as
       unfolding left_of
       n_is = g ∙ ap (λ (m : List ℕ). length (trim_end m)) part_trimmed
 
-      kept_lem : (has : Bool) → has ≡ fed l → ◌≡◌ {A = Kept} (record { fed = has; from = from; to = from + n }) (kept_in l)
-      unfolding kept_in
-      kept_lem has y = rw (y, n_is, from_is)
-
-      remains_is : (has : Bool) → has ≡ fed l → remains l ≡ not has || ltb from (from + n)
-      unfolding remains
-      remains_is has y = rw (y, from_ltb from n, n_is, ← some_empty (left_of l))
-
-      pub kept_is : (has : Bool) → has ≡ fed l → remains l ≡ true → Some (record { fed = has; from = from; to = from + n }) ≡ kept_of l
+      pub kept_is : (has : Bool) → has ≡ fed l → ◌≡◌ {A = Kept} (record { fed = has; from = from; to = from + n }) (kept_of l)
       unfolding kept_of
-      kept_is has y r = rw r (ap (λ (k : Kept). Some k) (kept_lem has y))
+      kept_is has y = rw (y, n_is, from_is)
 
-      -- it is fed and nothing is left; it is not fed; something is left
-      pub nothing_left : (has : Bool) → has ≡ fed l → has ≡ true → from + n ≤ from → None ≡ kept_of l
-      unfolding kept_of
-      nothing_left has y t h =
-          let r : remains l ≡ false = remains_is has y ∙ ap (λ (b : Bool). not b || ltb from (from + n)) t ∙ le-ltb from (from + n) h in rw r
-
-      pub unfed_left : (has : Bool) → has ≡ fed l → has ≡ false → Some (record { fed = has; from = from; to = from + n }) ≡ kept_of l
-      unfed_left has y t = kept_is has y (remains_is has y ∙ ap (λ (b : Bool). not b || ltb from (from + n)) t)
-
-      pub something_left : (has : Bool) → has ≡ fed l → from < from + n → Some (record { fed = has; from = from; to = from + n }) ≡ kept_of l
-      something_left has y h = kept_is has y (remains_is has y ∙ ap (λ (b : Bool). not has || b) (lt-ltb from (from + n) h) ∙ any has)
-        where
-          any : (b : Bool) → not b || true ≡ true
-          any true = refl
-          any false = refl
+-- a line remains just where its place says so
+pub left_lem : (l : List ℕ) → is_left (kept_of l) ≡ remains l
+unfolding kept_of remains
+left_lem l = rw (from_ltb (blanks_before (uncommented l)) (length (left_of l)), some_empty (left_of l))
 
 -- half way: the lines so far were passed over
 pub record Passing (text : List ℕ) (at place passed : ℕ) : Type 0 where
@@ -162,7 +143,7 @@ module _ (text : List ℕ) (at place passed : ℕ) (p : Passing text at place pa
   unfolding remaining_in lines
   passing_end h = sym (p.so_far ∙ rw (drop_of_length-le text {i = place} h))
 
-  module _ (h : place < length text) (end : ℕ) (e : end ≡ place + length (first_line (drop place text))) (k : Option Kept)
+  module _ (h : place < length text) (end : ℕ) (e : end ≡ place + length (first_line (drop place text))) (k : Kept)
       (f : k ≡ kept_of (take (end - place) (drop place text))) where
     abbrev l : List ℕ
     l = first_line (drop place text)
@@ -170,41 +151,29 @@ module _ (text : List ℕ) (at place passed : ℕ) (p : Passing text at place pa
     kept_line : k ≡ kept_of l
     kept_line = f ∙ ap kept_of (ap (λ (n : ℕ). take (n - place) (drop place text)) e ∙ part_line text place h)
 
+    left_line : (b : Bool) → is_left k ≡ b → remains l ≡ b
+    left_line b t = sym (left_lem l) ∙ ap is_left (sym kept_line) ∙ t
+
     lines_here : lines (drop place text) ≡ l ∷ lines (drop end text)
     lines_here = lines_from text place h ∙ ap (λ (n : ℕ). l ∷ lines (drop n text)) (sym e)
 
     pub line_within : (place < end) × (end ≤ length text)
     line_within = rw e (end_within text place h)
 
-    pub passing_on : k ≡ None → Passing text at end (passed + 1)
+    pub passing_on : is_left k ≡ false → Passing text at end (passed + 1)
+    unfolding remaining_in
+    passing_on t = record {
+      few = omega (arith, line_within.0, p.few);
+      so_far = p.so_far ∙ rw (lines_here, left_line false t, remaining_in, e);
+    }
+
+    pub kept_within : (place + k.from ≤ length text) × (place + k.to ≤ length text)
+    unfolding kept_of
+    kept_within = rw kept_line (
+      omega (arith, e, left_within l, line_within.1),
+      omega (arith, e, left_within l, line_within.1),
+    )
+
+    pub handed_out : is_left k ≡ true → record { line = Some (record { fed = k.fed; from = place + k.from; to = place + k.to }); passed = passed; next = end } ≡ remaining_from text at
     unfolding remaining_in kept_of
-    passing_on t =
-        let r : remains l ≡ false = passed_over (remains l) (sym kept_line ∙ t) in
-        record {
-          few = omega (arith, line_within.0, p.few);
-          so_far = p.so_far ∙ rw (lines_here, r, remaining_in, e);
-        }
-      where
-        passed_over : (b : Bool) → cond b (Some (kept_in l)) None ≡ None → b ≡ false
-        passed_over true x = absurd (some_not_none x)
-        passed_over false x = refl
-
-    module _ (x : Kept) (t : k ≡ Some x) where
-      here : (b : Bool) → cond b (Some (kept_in l)) None ≡ Some x → (b ≡ true) × (x ≡ kept_in l)
-      here true y = (refl, sym (some_same y))
-      here false y = absurd (some_not_none (sym y))
-
-      kept_here : (remains l ≡ true) × (x ≡ kept_in l)
-      unfolding kept_of
-      kept_here = here (remains l) (sym kept_line ∙ t)
-
-      pub kept_within : (place + x.from ≤ length text) × (place + x.to ≤ length text)
-      unfolding kept_in
-      kept_within = rw kept_here.1 (
-        omega (arith, e, left_within l, line_within.1),
-        omega (arith, e, left_within l, line_within.1),
-      )
-
-      pub handed_out : record { line = Some (record { fed = x.fed; from = place + x.from; to = place + x.to }); passed = passed; next = end } ≡ remaining_from text at
-      unfolding remaining_in kept_in
-      handed_out = sym (p.so_far ∙ rw (lines_here, kept_here.0, remaining_in, e, kept_here.1))
+    handed_out t = sym (p.so_far ∙ rw (lines_here, left_line true t, remaining_in, e, kept_line))

@@ -1,7 +1,7 @@
 -- What a reader of a Survex text hands out, as theorems: the record below has a proof in proofs/LineTheorems.antt.
 use Rattle.std.specs.Prelude.{ℕ, zero, suc, ◌+◌, ◌-◌, ◌≤◌, ◌<◌, ◌≡◌, Some, None, cond, List, [], ◌∷◌, length, get_or, take, drop}
 use Rattle.text.specs.Scan.{lines}
-use Rattle.survex_reader.specs.Lines.{left_of, fed, remains, remaining_from}
+use Rattle.survex_reader.specs.Lines.{left_of, fed, remains, kept_of, is_left, remaining_from}
 use Rattle.survex_reader.specs.declared.lines.Kept.{Kept}
 use Rattle.survex_reader.specs.declared.lines.Remaining.{Remaining}
 
@@ -39,6 +39,8 @@ pub record Hands (text l : List ℕ) (r : Remaining) : Type 0 where
   pub bytes : take (kept.to - kept.from) (drop kept.from text) ≡ left_of l
 
 pub record Theorems : Type 0 where
+  -- a line remains just where what is left of it says so
+  pub left : (l : List ℕ) → is_left (kept_of l) ≡ remains l
   -- "A reader over the lent Survex text hands out one line after another": from the start, the n-th time (from 0) the n-th of the lines that remain
   pub one_after_another : (text : List ℕ) (n : ℕ) → n < length (remaining (lines text))
       → Hands text (get_or (remaining (lines text)) n []) (handed_after n text 0)

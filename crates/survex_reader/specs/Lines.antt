@@ -1,5 +1,5 @@
 -- The lines of a Survex text (document 02, Job 12): what a reader passes over, and the lines that remain.
-use Rattle.std.specs.Prelude.{ℕ, ◌+◌, Bool, cond, not, ◌&&◌, ◌||◌, Option, Some, None, List, [], ◌∷◌, ltb, length, drop}
+use Rattle.std.specs.Prelude.{ℕ, ◌+◌, Bool, cond, not, ◌&&◌, ◌||◌, Some, None, List, [], ◌∷◌, ltb, length, drop}
 use Rattle.text.specs.Ascii.{ascii}
 use Rattle.text.specs.Scan.{one_of, up_to, line_feed, lines}
 use Rattle.text.specs.Forms.{is_empty}
@@ -43,14 +43,14 @@ unfoldable pub remains : List ℕ → Bool
 remains l = not (fed l) || not (is_empty (left_of l))
 
 -- where what is left of a line stands in it
-unfoldable pub kept_in : List ℕ → Kept
-kept_in l =
+unfoldable pub kept_of : List ℕ → Kept
+kept_of l =
     let from = blanks_before (uncommented l) in
     record { fed = fed l; from = from; to = from + length (left_of l) }
 
--- just where the line remains
-unfoldable pub kept_of : List ℕ → Option Kept
-kept_of l = cond (remains l) (Some (kept_in l)) None
+-- whether the line remains, by where that stands
+abbrev pub is_left : Kept → Bool
+is_left k = not k.fed || ltb k.from k.to
 
 -- where it stands in the text, of a line that begins at a place
 abbrev pub in_text : ℕ → Kept → Kept
@@ -62,7 +62,7 @@ unfoldable pub remaining_in : ℕ → ℕ → List (List ℕ) → Remaining
 remaining_in at passed [] = record { line = None; passed = passed; next = at }
 remaining_in at passed (l ∷ ls) =
     cond (remains l)
-    (record { line = Some (in_text at (kept_in l)); passed = passed; next = at + length l })
+    (record { line = Some (in_text at (kept_of l)); passed = passed; next = at + length l })
     (remaining_in (at + length l) (passed + 1) ls)
 
 -- the next one from a place of the text on

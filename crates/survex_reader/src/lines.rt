@@ -1,17 +1,26 @@
 // The lines of a Survex text that remain once comments, blanks and empty lines are passed over (document 02, Job 12).
 ghost use Rattle.std.specs.Prelude.{◌+◌, ◌≡◌, length, drop};
 ghost use Rattle.text.specs.Scan.{up_to};
-ghost use Rattle.survex_reader.specs.Lines.{blank, not_blank, trim_end, kept_of, remaining_from};
+ghost use Rattle.survex_reader.specs.Lines.{blank, not_blank, trim_end, kept_of, is_left, remaining_from};
 
 use text::line::{line_end, scan};
 
 // What is left of a line: whether the line has its line feed, and where it stands.
-// A flag and no Option: the place is told with or without the line feed, and `kept_in` of specs/Lines.antt reads both.
+// A flag and no Option: the place is told with or without the line feed, and `kept_of` of specs/Lines.antt reads both.
 #[derive(Clone, Copy)]
 pub struct Kept {
     pub fed: bool,
     pub from: usize,
     pub to: usize,
+}
+
+impl Kept {
+    // Whether the line remains: it lacks its line feed, or something is left of it.
+    pub fn is_left(self) -> bool
+        ensures { result ≡ is_left self }
+    {
+        !self.fed || self.from < self.to
+    }
 }
 
 // The next line that remains, if there is one, by its place in the text; how many lines were passed over before it, or up to the end; and where the line
@@ -52,18 +61,15 @@ fn trimmed_length(part: &[u8]) -> usize
     }
 }
 
-// What is left of a line, where the line is not passed over.
-pub fn kept_of(line: &[u8]) -> Option<Kept>
+// What is left of a line, of one that is passed over too.
+pub fn kept_of(line: &[u8]) -> Kept
     ensures { result ≡ kept_of line.now }
 {
     let fed = scan(line, 0, b"\n") < line.len();
     let stop = scan(line, 0, b";\n");
     let from = skip_blanks(&line[0..stop], 0);
     let to = from + trimmed_length(&line[from..stop]);
-    if fed && to <= from {
-        return None;
-    }
-    Some(Kept { fed, from, to })
+    Kept { fed, from, to }
 }
 
 // The next line that remains, from a place of the text on. By place: where it stands is told, which an iterator over lines does not know.
@@ -74,7 +80,8 @@ pub fn line_at(text: &[u8], at: usize) -> Remaining
     let mut passed = 0;
     while place < text.len() {
         let end = line_end(text, place);
-        if let Some(kept) = kept_of(&text[place..end]) {
+        let kept = kept_of(&text[place..end]);
+        if kept.is_left() {
             return Remaining {
                 line: Some(Kept {
                     fed: kept.fed,

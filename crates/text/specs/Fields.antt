@@ -59,9 +59,9 @@ part_of line p = cond (leb p.to (length line)) (take (p.to - p.from) (drop p.fro
 abbrev pub Spells : Bool → List ℕ → Option ℕ → Type 0
 Spells test digits r = r ≡ cond test (Some (value 0 digits)) None
 
--- what three fields spell, just where all are digit strings
-abbrev pub SpellThree : List ℕ → List ℕ → List ℕ → Option (ℕ × ℕ × ℕ) → Type 0
-SpellThree x y z r = r ≡ cond (digit_string x && digit_string y && digit_string z) (Some (value 0 x, value 0 y, value 0 z)) None
+-- what three fields spell, each just where it is a digit string
+abbrev pub SpellThree : List ℕ → List ℕ → List ℕ → Option ℕ × Option ℕ × Option ℕ → Type 0
+SpellThree x y z r = Spells (digit_string x) x r.0 × Spells (digit_string y) y r.1 × Spells (digit_string z) z r.2
 
 -- two names are the same bytes
 unfoldable pub same : List ℕ → List ℕ → Bool

@@ -1,11 +1,11 @@
 -- Forms: bytes that a line has as they stand, and # for each of its fields. The printer and the reader of a form.
-use Rattle.std.specs.Prelude.{ℕ, suc, ◌+◌, Bool, true, false, cond, ◌&&◌, List, [], ◌∷◌, ◌++◌, map, eqb, length, get_or, drop}
+use Rattle.std.specs.Prelude.{ℕ, suc, ◌+◌, Bool, true, false, cond, ◌&&◌, List, [], ◌∷◌, ◌++◌, map, leb, ltb, eqb, length, get_or, take, drop, set, replicate, Result, Ok, Err}
 use Rattle.std.proofs.Math.Option.{Option, some, none}
-use Rattle.std.specs.Prelude.{Option as StdOption, Some, None}
 use Rattle.text.specs.Ascii.{byte}
 use Rattle.text.specs.Scan.{field}
 use Rattle.text.specs.Fields.{digit_string, value, part_of}
 use Rattle.text.specs.declared.field.Place.{Place}
+use Rattle.text.specs.declared.form.Found.{Found}
 
 -- whether a byte of a form stands for a field
 abbrev pub mark : ℕ → Bool
@@ -63,24 +63,47 @@ digit_string_at fields i = digit_string (field_at fields i)
 abbrev pub three_at : List (List ℕ) → ℕ → Bool
 three_at fields i = digit_string_at fields i && digit_string_at fields (i + 1) && digit_string_at fields (i + 2)
 
--- the reader of forms with just so many fields
-unfoldable pub read_exactly : ℕ → List ℕ → List ℕ → Option (List (List ℕ))
-read_exactly n form line = cond (eqb (marks form) n) (read_form form line) none
+-- the reader of forms with few enough fields
+unfoldable pub read_few : ℕ → List ℕ → List ℕ → Option (List (List ℕ))
+read_few n form line = cond (leb (marks form) n) (read_form form line) none
 
 -- the fields at places of a line
 abbrev pub fields_at : List ℕ → List Place → List (List ℕ)
 fields_at line places = map (part_of line) places
 
--- the fields at the places that were found, or none
-unfoldable pub found_in : List ℕ → StdOption (List Place) → Option (List (List ℕ))
-found_in line (Some places) = some (fields_at line places)
-found_in line None = none
+-- the fields that were found: as many places as the form has, or none
+unfoldable pub found_in : {n : ℕ} → List ℕ → List ℕ → Result (Found n) (Found n) → Option (List (List ℕ))
+found_in form line (Ok c) = some (fields_at line (take (marks form) c.places))
+found_in form line (Err c) = none
 
 -- ---- Where the fields stand
+
+-- One byte of a form: # takes the next field, any other byte is the line's next
+unfoldable pub form_step : {n : ℕ} → ℕ → List ℕ → Found n → Result (Found n) (Found n)
+form_step {n} f line c =
+    let end = c.at + length (field (drop c.at line)) in
+    let next : Found n = record { at = c.at + 1; count = c.count; places = c.places } in
+    cond (mark f)
+    (cond (leb n c.count) (Err c) (Ok (record { at = end; count = c.count + 1; places = set c.places c.count (record { from = c.at; to = end }) })))
+    (cond (leb (length line) c.at) (Err c) (cond (eqb (get_or line c.at 0) f) (Ok next) (Err next)))
+
+-- what follows a step that fits
+abbrev pub then : {n : ℕ} → Result (Found n) (Found n) → (Found n → Result (Found n) (Found n)) → Result (Found n) (Found n)
+then (Ok c) f = f c
+then (Err c) f = Err c
+
+-- a form from some byte on, up to the first that does not fit; at its end the line must be at its end
+unfoldable pub found_from : {n : ℕ} → List ℕ → List ℕ → Found n → Result (Found n) (Found n)
+found_from [] line c = cond (ltb c.at (length line)) (Err c) (Ok c)
+found_from (f ∷ form) line c = then (form_step f line c) (λ next. found_from form line next)
 
 -- a place where no field was found
 abbrev pub no_place : Place
 no_place = record { from = 0; to = 0 }
+
+-- how far a form fits a line: all that was found
+unfoldable pub found_of : (n : ℕ) → List ℕ → List ℕ → Result (Found n) (Found n)
+found_of n form line = found_from form line (record { at = 0; count = 0; places = replicate n no_place })
 
 -- the places of a form's fields in a line, from a place on: each from where the bytes before its # end
 unfoldable pub places_from : ℕ → List ℕ → List ℕ → List Place
@@ -88,12 +111,3 @@ places_from at [] line = []
 places_from at (f ∷ form) line =
     let end = at + length (field (drop at line)) in
     cond (mark f) (record { from = at; to = end } ∷ places_from end form line) (places_from (at + 1) form line)
-
--- these, where there are fields
-abbrev pub where_found : Option (List (List ℕ)) → List Place → StdOption (List Place)
-where_found (some fields) places = Some places
-where_found none places = None
-
--- the places of a line's fields, where it is of the form and has just so many
-unfoldable pub found_of : ℕ → List ℕ → List ℕ → StdOption (List Place)
-found_of n form line = where_found (read_exactly n form line) (places_from 0 form line)

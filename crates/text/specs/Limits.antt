@@ -1,4 +1,4 @@
--- The limits of fields and forms.
+-- The limits of fields.
 use Rattle.std.specs.Prelude.{ℕ, ◌^◌}
 
 -- "Names are 1 to 12 letters or digits"

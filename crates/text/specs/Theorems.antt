@@ -1,13 +1,12 @@
 -- What the definitions of text say, as theorems: the record below has a proof in proofs/Theorems.antt.
-use Rattle.std.specs.Prelude.{ℕ, ◌<◌, ◌≡◌, Bool, true, false, cond, not, ◌&&◌, List, [], ◌∷◌, ◌++◌, length, get_or}
+use Rattle.std.specs.Prelude.{ℕ, ◌-◌, ◌<◌, ◌≤◌, ◌≡◌, Bool, true, false, cond, not, ◌&&◌, List, [], ◌∷◌, ◌++◌, length, get_or, take, replicate, Ok}
 use Rattle.std.proofs.Math.Option.{some}
-use Rattle.std.specs.Prelude.{Some}
 use Rattle.text.specs.Limits.{decimal_bound}
 use Rattle.text.specs.Ascii.{byte}
 use Rattle.text.specs.Scan.{separator, line_feed, lines}
 use Rattle.text.specs.Fields.{all, digit_string, value, decimal}
-use Rattle.text.specs.Forms.{mark, marks, print_form, read_form, fields_at, found_of, places_from}
-use Rattle.text.specs.declared.field.Place.{Place}
+use Rattle.text.specs.Forms.{mark, marks, print_form, read_form, read_few, fields_at, no_place, found_in, found_of, places_from}
+use Rattle.text.specs.declared.form.Found.{Found}
 
 -- a field that holds no separator
 unfoldable pub plain : List ℕ → Bool
@@ -45,10 +44,16 @@ pub record Theorems : Type 0 where
       → read_form form (print_form form vs) ≡ some vs
   pub printed_read : (form line : List ℕ) (vs : List (List ℕ)) → read_form form line ≡ some vs → print_form form vs ≡ line
   -- where a form fits a line, the places that are found are those of the form's fields, and hold what is read
-  pub places : (n : ℕ) (form line : List ℕ) (places : List Place) → found_of n form line ≡ Some places → places ≡ places_from 0 form line
+  pub places : (n : ℕ) (form line : List ℕ) (c : Found n) → found_of n form line ≡ Ok c → take (marks form) c.places ≡ places_from 0 form line
+  pub all_places : (n : ℕ) (form line : List ℕ) (c : Found n) → marks form ≡ n → found_of n form line ≡ Ok c → c.places ≡ places_from 0 form line
   pub places_hold : (form line : List ℕ) (vs : List (List ℕ)) → read_form form line ≡ some vs → fields_at line (places_from 0 form line) ≡ vs
-  -- a form of just so many fields has them wherever it is read, a place for each
-  pub found : (n : ℕ) (form line : List ℕ) (vs : List (List ℕ)) → marks form ≡ n → read_form form line ≡ some vs → found_of n form line ≡ Some (places_from 0 form line)
+  -- a form of few enough fields has them wherever it is read, a place for each, and the line is read to its end
+  pub found : (n : ℕ) (form line : List ℕ) (vs : List (List ℕ)) → marks form ≤ n → read_form form line ≡ some vs
+      → found_of n form line ≡ Ok (record { at = length line; count = marks form; places = places_from 0 form line ++ replicate (n - marks form) no_place })
+  pub found_all : (n : ℕ) (form line : List ℕ) (vs : List (List ℕ)) → marks form ≡ n → read_form form line ≡ some vs
+      → found_of n form line ≡ Ok (record { at = length line; count = n; places = places_from 0 form line })
+  -- and no other form has them: what is found is what the reader of forms reads
+  pub fields : (n : ℕ) (form line : List ℕ) → read_few n form line ≡ found_in form line (found_of n form line)
   pub count : (form line : List ℕ) → length (places_from 0 form line) ≡ marks form
   -- a line ends with the first line feed, or with the text; the lines are the text
   pub line_first : (l rest : List ℕ) → no_feed l ≡ true → lines (l ++ byte "\n" ∷ rest) ≡ (l ++ (byte "\n" ∷ [])) ∷ lines rest

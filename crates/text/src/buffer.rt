@@ -4,7 +4,7 @@ ghost use Rattle.text.specs.Fields.{decimal};
 ghost use Rattle.text.specs.Buffer.{Puts, Writes};
 ghost use Rattle.text.specs.Private.{SpelledIn};
 
-use crate::digits::Digits;
+pub use crate::digits::Digits;
 
 // From a position on; the position after them is returned.
 // For one write at a position that is kept elsewhere, as `marks` keeps its own; for several there is `Writer`.

@@ -89,12 +89,18 @@ pub fn digit_string_at(line: &[u8], place: Place) -> Option<u64>
     digit_string_of(part(line, place))
 }
 
-// The digit strings at three places.
-pub fn three_at(line: &[u8], first: Place, second: Place, third: Place) -> Option<(u64, u64, u64)>
+// The digit strings at three places, each told by its own test.
+pub fn three_at(
+    line: &[u8],
+    first: Place,
+    second: Place,
+    third: Place,
+) -> (Option<u64>, Option<u64>, Option<u64>)
     ensures { SpellThree (part_of line.now first) (part_of line.now second) (part_of line.now third) result }
 {
-    let x = digit_string_at(line, first)?;
-    let y = digit_string_at(line, second)?;
-    let z = digit_string_at(line, third)?;
-    Some((x, y, z))
+    (
+        digit_string_at(line, first),
+        digit_string_at(line, second),
+        digit_string_at(line, third),
+    )
 }

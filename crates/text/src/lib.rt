@@ -2,7 +2,7 @@
 #![tactic(auto)]
 
 pub mod buffer;
-mod digits;
+pub mod digits;
 pub mod field;
 pub mod form;
 pub mod limits;

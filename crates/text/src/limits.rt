@@ -1,4 +1,4 @@
-// The limits of fields and forms.
+// The limits of fields.
 
 // The letters and digits of a name.
 pub const NAME_LENGTH: usize = 12;

@@ -10,4 +10,4 @@ returns c =
     let sine_fits : SFits w64 sine.result = record { sfits = sine.type_inv } in
     let cosine_fits : SFits w64 cosine.result = record { sfits = cosine.type_inv } in
     turned _ c.args.sin c.args.cos (rw c.exchanged-exchanged.ensures at c.either.ensures) (to_z-of_z sine_fits ∙ rw c.sine_negative.ensures at sine.ensures)
-    (rw c.exchanged-exchanged.ensures at c.either-2.ensures) (to_z-of_z cosine_fits ∙ rw c.cosine_negative.ensures at cosine.ensures) c.args.q c.of-quarter.ensures
+    (rw c.exchanged-exchanged.ensures at c.either-2.ensures) (to_z-of_z cosine_fits ∙ rw c.cosine_negative.ensures at cosine.ensures) c.args.q c.of-quarter.ensures.values

@@ -1,13 +1,15 @@
 -- `job::listed` meets its contract.
-use Rattle.std.proofs.Common.{refl}
+use Rattle.std.proofs.Common.{refl, length, lt-ltb}
 use Rattle.std.proofs.lemmas.Result.{err_from_is_err_and}
-use Rattle.job.specs.Job.{answer_of, buffer_after}
-use Rattle.job.proofs.Answered.{job_long, job_short, not_both, answered_refused, answered_listed}
+use Rattle.job_reader.specs.Limits.{most_bytes}
+use Rattle.job.specs.Job.{job_of, answer_of, buffer_after}
+use Rattle.job.proofs.Answered.{job_short, not_both, answered_refused, answered_listed}
 use Rattle.job.proofs.listed.Goals as goal
 
 pub returns-then-text-gt-MOST_BYTES : goal.returns-then-text-gt-MOST_BYTES
-unfolding answer_of buffer_after
-returns-then-text-gt-MOST_BYTES c = rw (job_long c.args.text.now c.if-text-gt-MOST_BYTES.true) (record { answer = refl; buffer = refl })
+unfolding job_of answer_of buffer_after
+returns-then-text-gt-MOST_BYTES c =
+    rw (lt-ltb most_bytes (length c.args.text.now) c.if-text-gt-MOST_BYTES.true) (record { answer = refl; buffer = refl })
 
 pub returns-in_err-decide : goal.returns-in_err-decide
 returns-in_err-decide c =

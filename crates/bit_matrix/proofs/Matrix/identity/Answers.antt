@@ -1,6 +1,6 @@
 -- `identity`: each call of the closure gave the unit word of its digit.
 use Rattle.std.proofs.lemmas.List.FromFn.{fill_by_all}
-use Rattle.std.proofs.Common.{refl, ◌^◌}
+use Rattle.std.proofs.Common.{◌^◌}
 use Rattle.bit_matrix.specs.Matrices.{units}
 use Rattle.bit_matrix.proofs.Matrix.identity.Goals as goal
 

@@ -11,8 +11,10 @@ returns-in-Ok c =
     let out = c.args.out.now in
     let o = job_of c.args.text.now in
     let told = c.in-Ok.ensures in
-    let puts = printed_listed o out (job_told c.args.text.now) (sym (ap (λ (r : JobAnswer). r.code) told.answer)) in
-    rw (ap (λ (r : JobAnswer). r.length) told.answer, told.buffer) (record { puts = puts; within = puts_within out 0 (output_of o (length out)) (omega arith) puts })
+    let listing = printed_listed o out (job_told c.args.text.now) (sym (ap (λ (r : JobAnswer). r.code) told.answer)) in
+    let end = ap (λ (r : JobAnswer). r.length) told.answer ∙ listing.0 in
+    let new = told.buffer ∙ listing.1 in
+    record { puts = (end, new); within = puts_within out 0 (output_of o (length out)) (omega arith) (end, new) }
 
 pub returns-in-Err : goal.returns-in-Err
 returns-in-Err c =

@@ -11,7 +11,7 @@ loop-line-init c = rw (c.into_iter-line-iterator.ensures.into_iter_gives, c.line
 pub returns-in_err-read : goal.returns-in_err-read
 returns-in_err-read c =
     let p = err_from_is_err_and c.from_residual.result c.from_residual.ensures.1 in
-    rw (p.1, p.2) (sym (reading_off _ _ _ _ _ c.loop-line.invariant c.in-Some.ensures.steps _ c.in_err-read.ensures))
+    rw (p.1, p.2) (sym (reading_off _ _ _ _ _ c.loop-line.invariant c.in-Some.ensures.steps _ c.in_err-read.ensures.0))
 
 pub loop-line-preserved : goal.loop-line-preserved
 loop-line-preserved c =

@@ -10,7 +10,7 @@ use Rattle.job_reader.proofs.shot.take_line.Goals as goal
 pub returns-in_err-step : goal.returns-in_err-step
 returns-in_err-step c =
     let p = err_from_is_err_and c.from_residual.result c.from_residual.ensures.1 in
-    rw (p.1, p.2) (c.in_err-step.ensures, refl)
+    rw (p.1, p.2) (c.in_err-step.ensures.0, refl)
 
 pub on_shot-requires : goal.on_shot-requires
 on_shot-requires c =

@@ -42,8 +42,8 @@ loop-i-preserved g c =
     let each = g.met.S.Sample.each in
     let z = get_or c.args.z.now c.loop-i.i 0 in
     let F-is = radius_taken c.requires.0 c.loop-i-test.true c.root-f.ensures in
-    let first = first_read m.bits z (first_is m.bits z c.pair_of-pair.ensures.0 F-is) c.of_units-first.ensures in
-    let second = second_read m.bits z (second_is m.bits z c.pair_of-pair.ensures.1 F-is) c.of_units-second.ensures in
+    let first = first_read m.bits m.width g.met.S.Sample.holds z (first_is m.bits z c.pair_of-pair.ensures.0 F-is) c.of_units-first.ensures in
+    let second = second_read m.bits m.width g.met.S.Sample.holds z (second_is m.bits z c.pair_of-pair.ensures.1 F-is) c.of_units-second.ensures in
     rw (values_set each (set c.loop-i.out (2 * c.loop-i.i) c.of_units-first.result) (2 * c.loop-i.i + 1) c.of_units-second.result, values_set each c.loop-i.out (2 * c.loop-i.i) c.of_units-first.result)
     (one_sampled c.loop-i.invariant (values_length each _ ∙ c.requires.1) c.loop-i-test.true first second)
 

@@ -2,6 +2,7 @@
 use Rattle.std.proofs.Common.{sym, arith}
 use Rattle.streams.specs.Streams.{uniforms_of}
 use Rattle.streams.proofs.Refused.{number_not_0}
+use Rattle.streams.proofs.Causes.{with_room}
 use Rattle.streams.proofs.Theorems.{pairs_accepted}
 use Rattle.streams.proofs.Generator.uniforms.Goals as goal
 
@@ -16,7 +17,7 @@ returns c =
     rw (
       c.word-low.ensures,
       c.word-high.ensures,
-      c.onward-next.ensures (omega (arith, room)),
+      with_room _ _ _ c.onward-next.ensures (omega (arith, room)),
       c.advanced-b.ensures,
       c.advanced-a.ensures,
       ← c.in_default.ensures,

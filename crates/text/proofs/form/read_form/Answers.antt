@@ -1,11 +1,10 @@
 -- `text::form::read_form` meets its contract.
 use Rattle.std.proofs.Common.{eq-eqb, ne_eqb}
-use Rattle.std.proofs.lemmas.List.{length-replicate}
-use Rattle.text.proofs.Steps.{fit_start, fit_full, fit_mark, fit_end, fit_unlike, fit_byte, fit_left, fit_fewer, fit_whole}
+use Rattle.text.proofs.Steps.{fit_start, fit_full, fit_mark, fit_end, fit_unlike, fit_byte, fit_left, fit_whole}
 use Rattle.text.proofs.form.read_form.Goals as goal
 
 pub loop-f-init : goal.loop-f-init
-loop-f-init g c = fit_start _ _ _ _ (length-replicate g.row.N _)
+loop-f-init g c = fit_start g.row.N _ _
 
 pub loop-f-preserved-then-f-eq35 : goal.loop-f-preserved-then-f-eq35
 loop-f-preserved-then-f-eq35 g c =
@@ -27,8 +26,5 @@ returns-then-line-at-2 g c = let a = fit_unlike _ _ _ _ _ _ _ c.loop-f.invariant
 pub returns-then-at-line : goal.returns-then-at-line
 returns-then-at-line g c = let a = fit_left _ _ _ _ _ _ _ c.loop-f.invariant c.loop-f-test.false c.if-at-line.true in record { fields = a.fields; exact = a.exact }
 
-pub returns-then-count-2 : goal.returns-then-count-2
-returns-then-count-2 g c = let a = fit_fewer _ _ _ _ _ _ _ c.loop-f.invariant c.loop-f-test.false c.if-count-2.true in record { fields = a.fields; exact = a.exact }
-
 pub returns : goal.returns
-returns g c = let a = fit_whole _ _ _ _ _ _ _ c.loop-f.invariant c.loop-f-test.false c.if-at-line.false c.if-count-2.false in record { fields = a.fields; exact = a.exact }
+returns g c = let a = fit_whole _ _ _ _ _ _ _ c.loop-f.invariant c.loop-f-test.false c.if-at-line.false in record { fields = a.fields; exact = a.exact }
