@@ -17,8 +17,8 @@
  * All arithmetic is on whole numbers: no call uses floating point or raises a floating-point flag.
  *
  * State and threads. The library has no data that is written. Calls on different records, windows and marks may run at once in several threads; on the
- * same one, one after another. A record has 40 bytes, a window 8,224 and a set of marks 960. All calls together are 66 KB of code and tables on x86-64, and
- * 61 to 66 KB on the processors without a system.
+ * same one, one after another. A record has 40 bytes, a window 8,224 and a set of marks 960. All calls together are 63 KB of code and tables on x86-64, and
+ * 60 to 66 KB on the processors without a system.
  *
  * What it needs at most of a C library and of the compiler's own library (libgcc or compiler-rt):
  *   on x86_64, x86_64-v3, aarch64, riscv64: memcpy, memset
