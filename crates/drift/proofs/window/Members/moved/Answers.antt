@@ -1,5 +1,5 @@
 -- `moved` is `moved_of` on the caller's places; that the window is fit gives the place and the ranges of the sums.
-use Rattle.std.proofs.Common.{◌≡◌, refl, ℕ, arith, ℤ, pos, get_or, to_z-of_z, SFits, w16, w64, rules}
+use Rattle.std.proofs.Common.{◌≡◌, ◌∙◌, ap, refl, ℕ, arith, ℤ, pos, get_or, to_z-of_z, SFits, w16, w64, rules}
 use Rattle.signs.proofs.Sizes.{size_fits}
 use Rattle.drift.specs.declared.sums.Sums.{Sums}
 use Rattle.drift.specs.Drift.{Window, members_of, with_places, moved_of, leaving_of, held_after, place_after, sums_of}
@@ -46,4 +46,4 @@ returns-clause-value c =
     let x = to_z-of_z start.ranges.sample in
     let after = rw (to_z-of_z (size_fits w64 m.sum (omega (arith, f.sum_small))), to_z-of_z (size_fits w64 m.squares (omega (arith, f.squares_small))), to_z-of_z left, x) at sums.ensures in
     rw (to_z-of_z s, to_z-of_z q)
-    (at_once (with_places m a.places.now) a.sample (rw (to_z-of_z was) at leaving.ensures) after c.held_after.ensures c.place_after.ensures)
+    (at_once (with_places m a.places.now) a.sample (leaving.ensures ∙ ap (λ (y : ℤ). leaving_of m.held m.size y) (to_z-of_z was)) after c.held_after.ensures c.place_after.ensures)
